@@ -1,0 +1,49 @@
+-- Refusals: what `then`, `unless` and `written` come to.
+--   then-taken, then-refused         the first of two refusals
+--   then-zero                        both are 0
+--   unless-held, unless-failed       one test
+--   unless-zero                      the number is not 0, so the test held
+--   written-taken, written-refused   a lent buffer
+-- Assumes nothing.
+use mathlib.Core.Path.{_≡_, refl, ap}
+use mathlib.Core.Bool.{Bool, true, false}
+use mathlib.Core.List.{List}
+use Prim.Native.Nat.{ℕ, zero, suc}
+use native.Mathlib.Omega.{arith}
+use Rattle.scheme.specs.Scheme.{_then_, unless, written}
+
+pub then-taken : {a : ℕ} → a ≡ 0 → (b : ℕ) → (a then b) ≡ b
+unfolding _then_
+then-taken e b = ap (λ (n : ℕ). n then b) e
+
+pub then-refused : {a : ℕ} → (a ≡ 0 → ⊥) → (b : ℕ) → (a then b) ≡ a
+unfolding _then_
+then-refused {a = zero} h b = absurd (h refl)
+then-refused {a = suc a} h b = refl
+
+pub then-zero : (a b : ℕ) → (a then b) ≡ 0 → (a ≡ 0) × (b ≡ 0)
+unfolding _then_
+then-zero zero b e = (refl, e)
+then-zero (suc a) b e = absurd (omega arith)
+
+pub unless-held : {b : Bool} → b ≡ true → (n : ℕ) → unless b n ≡ 0
+unfolding unless
+unless-held e n = ap (λ (b : Bool). unless b n) e
+
+pub unless-failed : {b : Bool} → b ≡ false → (n : ℕ) → unless b n ≡ n
+unfolding unless
+unless-failed e n = ap (λ (b : Bool). unless b n) e
+
+pub unless-zero : (b : Bool) (n : ℕ) → unless b (suc n) ≡ 0 → b ≡ true
+unfolding unless
+unless-zero true n e = refl
+unless-zero false n e = absurd (omega arith)
+
+pub written-taken : {a : ℕ} → a ≡ 0 → (new old : List ℕ) → written a new old ≡ new
+unfolding written
+written-taken e new old = ap (λ (n : ℕ). written n new old) e
+
+pub written-refused : {a : ℕ} → (a ≡ 0 → ⊥) → (new old : List ℕ) → written a new old ≡ old
+unfolding written
+written-refused {a = zero} h new old = absurd (h refl)
+written-refused {a = suc a} h new old = refl

@@ -1,0 +1,64 @@
+-- The sums of an arithmetic are those of its field.
+--   el-same                     elements with the same residue are the same
+--   sum-el, sum-small           a sum
+--   sum-same, sum-append        the same terms; one list behind another
+--   coefficient-el              a coefficient
+--   row-value-el, row-value-small    a row times its columns
+-- Assumes nothing.
+use mathlib.Core.Path.{_≡_, refl, sym, ap, ap₂, _∙_}
+use mathlib.Core.Logic.{inl, inr}
+use mathlib.Core.List.{List, [], _∷_}
+use Prim.Native.Nat.{ℕ, _+_, _≤_, _<_}
+use native.Mathlib.Omega.{arith}
+use Rattle.algebra.specs.Field.{Field}
+use Rattle.algebra.specs.Sums.{In, sum as field-sum}
+use Rattle.algebra.specs.Cauchy.{value}
+use Rattle.algebra.proofs.Field.{mul-cancel, mul-inv}
+use Rattle.algebra.proofs.Sums.{sum-same as field-sum-same}
+use Rattle.scheme.specs.Scheme.{span, Arithmetic, sum, row-value}
+use Rattle.scheme.specs.Laws.{Laws}
+use Rattle.scheme.proofs.Lists.{span-in}
+
+pub sum-same : (A : Arithmetic) (l : List ℕ) (f g : ℕ → ℕ) → ((k : ℕ) → In k l → f k ≡ g k) → sum A l f ≡ sum A l g
+unfolding sum
+sum-same A [] f g h = refl
+sum-same A (k ∷ l) f g h = ap₂ (A .add) (h k (inl refl)) (sum-same A l f g (λ i m. h i (inr m)))
+
+module _ (A : Arithmetic) (n m : ℕ) (L : Laws A n m) where
+  open Laws L using (K, el, val, row, col)
+  open Field K using (F, 𝟘, add as _⊕_, mul as _⊗_, inv)
+
+  infixl 65 _⊕_
+  infixl 70 _⊗_
+  pub el-same : {a b : ℕ} → a < A .size → b < A .size → el a ≡ el b → a ≡ b
+  el-same {a} {b} h l e = sym (L .val-el a h) ∙ ap val e ∙ L .val-el b l
+
+  pub zero-small : 0 < A .size
+  zero-small = omega (arith, L .add-small 0 0)
+
+  pub sum-el : (l : List ℕ) (f : ℕ → ℕ) → el (sum A l f) ≡ field-sum K l (λ k. el (f k))
+  unfolding sum
+  sum-el [] f = L .el-zero
+  sum-el (k ∷ l) f = L .el-add (f k) (sum A l f) ∙ ap (λ s. el (f k) ⊕ s) (sum-el l f)
+
+  pub sum-small : (l : List ℕ) (f : ℕ → ℕ) → sum A l f < A .size
+  unfolding sum
+  sum-small [] f = zero-small
+  sum-small (k ∷ l) f = L .add-small (f k) (sum A l f)
+
+  pub coefficient-el : (k j : ℕ) → (1 ≤ k) × (k ≤ n) → (1 ≤ j) × (j ≤ m) → el (A .coefficient k j) ≡ inv (row k ⊕ col j)
+  coefficient-el k j h l =
+      mul-cancel K (row k ⊕ col j) (L .meet k j h l) (L .coefficient-right k j h l ∙ sym (mul-inv K (row k ⊕ col j) (L .meet k j h l)))
+
+  pub row-value-el : (u k : ℕ) (f : ℕ → ℕ) → (1 ≤ k) × (k ≤ n) → u ≤ m
+      → el (row-value A u k f) ≡ value K row col (span u 1) k (λ j. el (f j))
+  unfolding row-value
+  row-value-el u k f h l =
+      sum-el (span u 1) (λ j. A .multiply (A .coefficient k j) (f j))
+      ∙ field-sum-same K (span u 1) _ _ (λ j i.
+      let s = span-in u 1 j i in
+      L .el-multiply (A .coefficient k j) (f j) ∙ ap (λ c. c ⊗ el (f j)) (coefficient-el k j h (s .0, omega (arith, s .1))))
+
+  pub row-value-small : (u k : ℕ) (f : ℕ → ℕ) → row-value A u k f < A .size
+  unfolding row-value
+  row-value-small u k f = sum-small (span u 1) (λ j. A .multiply (A .coefficient k j) (f j))

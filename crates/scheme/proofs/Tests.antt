@@ -1,0 +1,25 @@
+-- Boolean tests and the facts that they stand for.
+--   both, joined              the two halves of a true `&&`
+--   is-true, is-false         a test by what it would say
+-- Assumes nothing.
+use mathlib.Core.Path.{_≡_, refl, sym, ap₂, subst}
+use mathlib.Core.Bool.{Bool, true, false, _&&_}
+use lib.Dec.{T}
+
+pub holds : {b : Bool} → b ≡ true → T b
+holds e = subst T (sym e) tt
+
+pub is-true : (b : Bool) → T b → b ≡ true
+is-true true t = refl
+is-true false t = absurd t
+
+pub is-false : (b : Bool) → (b ≡ true → ⊥) → b ≡ false
+is-false true h = absurd (h refl)
+is-false false h = refl
+
+pub both : (a b : Bool) → (a && b) ≡ true → (a ≡ true) × (b ≡ true)
+both true b e = (refl, e)
+both false b e = absurd (holds e)
+
+pub joined : {a b : Bool} → a ≡ true → b ≡ true → (a && b) ≡ true
+joined {a} {b} e f = ap₂ (λ (x y : Bool). x && y) e f

@@ -1,0 +1,6 @@
+-- Read Scheme, then Promise: the definitions of document 01 and the promise of demand 3. Laws and Delta serve its proof.
+pub mod Scheme
+pub mod Promise
+pub mod Good
+pub mod Laws
+pub mod Delta

@@ -1,0 +1,59 @@
+-- Demand 3 as a type whose proof is owed: the bytes that the server and at most T colluders see say nothing of the figures beyond the total.
+--   Table, admissible, list-good   tables of figures; random lists
+--   Shown, shown                   what a random list and a table show
+--   Alike                          tables that agree for each colluder and have the same survivors' total
+--   Matching                       one matching of all random lists, under which partners show the same
+--   Nothing-told                   demand 3 for one plan; Demand-3: for every plan, modulo 65521
+-- Assumes nothing: these are definitions.
+use mathlib.Core.Path.{_≡_}
+use mathlib.Core.Bool.{Bool, true, _&&_}
+use mathlib.Core.List.{List, map}
+use Prim.Native.Nat.{ℕ, _^_, _≤_, _<_}
+use lib.Dec.{eqb}
+use lib.ListN.{length}
+use Rattle.scheme.specs.Scheme.{span, Arithmetic, sixteen, elements, Plan, plan-good, places, in-set, ones, usable, users-in, list-length, key, first-message, reply, total-at}
+
+-- a row of figures for each user
+abbrev pub Table : Type 0
+Table = (k : ℕ) → List ℕ
+
+unfoldable pub admissible : Arithmetic → Plan → Table → Type 0
+admissible A p x = (k : ℕ) → 1 ≤ k → k ≤ p .users → (length (x k) ≡ places p) × (elements A (x k) ≡ true)
+
+unfoldable pub list-good : Arithmetic → Plan → (list : List ℕ) → Bool
+list-good A p xs = eqb (length xs) (list-length p) && elements A xs
+
+pub record Shown : Type 0 where
+  pub firsts : List (List ℕ)
+  pub replies : List (List ℕ)
+  pub keys : List (List ℕ)
+
+-- the first messages of all users, in the set or not; the replies to the set of all users in it; the whole keys of the colluders
+unfoldable pub shown : Arithmetic → Plan → (set colluders : ℕ) → (list : List ℕ) → Table → Shown
+shown A p v c xs x =
+    record {
+      firsts = map (λ k. first-message A p (key A p xs k) (x k)) (span (p .users) 1);
+      replies = map (λ k. reply p (key A p xs k) k v) (users-in p v);
+      keys = map (key A p xs) (users-in p c);
+    }
+
+pub record Alike (A : Arithmetic) (p : Plan) (v c : ℕ) (x y : Table) : Type 0 where
+  pub own : (k : ℕ) → 1 ≤ k → k ≤ p .users → in-set c k ≡ true → x k ≡ y k
+  pub totals : (i : ℕ) → i < places p → total-at A p x v i ≡ total-at A p y v i
+
+-- each list has exactly one partner, and with the first table it shows what its partner shows with the second
+pub record Matching (A : Arithmetic) (p : Plan) (v c : ℕ) (x y : Table) : Type 0 where
+  pub partner : List ℕ → List ℕ
+  pub back : List ℕ → List ℕ
+  pub stays : (xs : List ℕ) → list-good A p xs ≡ true → (list-good A p (partner xs) ≡ true) × (list-good A p (back xs) ≡ true)
+  pub one-to-one : (xs : List ℕ) → list-good A p xs ≡ true → (back (partner xs) ≡ xs) × (partner (back xs) ≡ xs)
+  pub same : (xs : List ℕ) → list-good A p xs ≡ true → shown A p v c xs x ≡ shown A p v c (partner xs) y
+
+unfoldable pub Nothing-told : Arithmetic → Plan → Type 0
+Nothing-told A p =
+    (v c : ℕ) (x y : Table) → usable p v ≡ true → c < 2 ^ p .users → ones (p .users) c ≤ p .collusion →
+    admissible A p x → admissible A p y → Alike A p v c x y → Matching A p v c x y
+
+-- THE THIRD DEMAND
+unfoldable pub Demand-3 : Type 0
+Demand-3 = (p : Plan) → plan-good p ≡ true → Nothing-told sixteen p

@@ -1,0 +1,1 @@
+// The pooling scheme as definitions and promises (specs/) with their proofs (proofs/), no code.
