@@ -10,3 +10,10 @@ pub mod Add
 pub mod Delta
 pub mod Told
 pub mod Modular
+pub mod Totals
+pub mod Sharp
+pub mod Held
+pub mod Well
+pub mod Choices
+pub mod Service
+pub mod Threshold

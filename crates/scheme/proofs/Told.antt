@@ -164,17 +164,17 @@ module _ (A : Arithmetic) (p : Plan) (L : Laws A (p .users) (p .threshold)) wher
       unfolding shown ys
       shown-same = λ i. record {
         firsts =
-          map-same (λ k. first-message A p (key A p xs k) (x k)) (λ k. first-message A p (key A p ys k) (y k)) (span (p .users) 1) (λ k m.
-          let s = span-in (p .users) 1 k m in
-          first-same k (s .0) (omega (arith, s .1))) i;
+            map-same (λ k. first-message A p (key A p xs k) (x k)) (λ k. first-message A p (key A p ys k) (y k)) (span (p .users) 1) (λ k m.
+            let s = span-in (p .users) 1 k m in
+            first-same k (s .0) (omega (arith, s .1))) i;
         replies =
-          map-same (λ k. reply p (key A p xs k) k v) (λ k. reply p (key A p ys k) k v) (users-in p v) (λ k m.
-          let s = users-in-in p v k m in
-          reply-same k (s .0) (s .1) (s .2)) i;
+            map-same (λ k. reply p (key A p xs k) k v) (λ k. reply p (key A p ys k) k v) (users-in p v) (λ k m.
+            let s = users-in-in p v k m in
+            reply-same k (s .0) (s .1) (s .2)) i;
         keys =
-          map-same (key A p xs) (key A p ys) (users-in p c) (λ k m.
-          let s = users-in-in p c k m in
-          key-same k (s .0) (s .1) (s .2)) i;
+            map-same (key A p xs) (key A p ys) (users-in p c) (λ k m.
+            let s = users-in-in p c k m in
+            key-same k (s .0) (s .1) (s .2)) i;
       }
 
   -- for every plan with no more colluders than threshold; the figures need not be admissible

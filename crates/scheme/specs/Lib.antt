@@ -2,5 +2,8 @@
 pub mod Scheme
 pub mod Promise
 pub mod Good
+pub mod Totals
+pub mod Service
 pub mod Laws
 pub mod Delta
+pub mod Sharp

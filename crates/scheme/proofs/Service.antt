@@ -1,0 +1,186 @@
+-- The pooling service keeps its promises, over an arithmetic that has the laws at every good plan.
+--   refused-unchanged, as-new                    a refused record changes nothing; a round begins as that of a new service
+--   sixteen-exactly, never-sixteen               when 16 is answered
+--   one-answer, always-answers, finish-right     each record has one answer, and a finish of replies by the rules the total
+--   demand-2                                     THE SECOND DEMAND
+-- Assumes nothing.
+use mathlib.Core.Path.{_≡_, refl, sym, ap, _∙_, subst}
+use mathlib.Core.Logic.{_≢_, ⊎-elim}
+use mathlib.Core.Bool.{Bool, true, false}
+use mathlib.Core.List.{List, map}
+use Prim.Native.Nat.{ℕ, zero, suc, _<_}
+use native.Mathlib.Omega.{arith}
+use lib.Dec.{eqb}
+use borrow.Author.Tests.{lt-ltb, ltb-true, eqb-false}
+use Rattle.scheme.specs.Scheme.{span, Arithmetic, sixteen, Plan, plan-good, places, total-at, _then_, unless}
+use Rattle.scheme.specs.Totals.{One-choice, Some-choice, Rules-explain, Totals-right}
+use Rattle.scheme.specs.Service.{has-plan, State, replied, Record, plan-record, open-record, first-record, close-record, reply-record, finish-record, Answer, opened, totalled, refused, refusal, planned-state, opened-state, next-state, answer-of, is-finish, values, explained-by, totals-by, Steps, refuses, accepts, totals-up, disagrees, Runs, more, Well, One-answer, Answered, Always-answers, Refused-unchanged, As-new, Finish-right, Unexplained, Sixteen-exactly, Never-sixteen, Demand-2}
+use Rattle.scheme.specs.Laws.{Laws}
+use Rattle.scheme.proofs.Tests.{holds}
+use Rattle.scheme.proofs.Refusals.{then-taken, unless-held, unless-zero}
+use Rattle.scheme.proofs.Well.{test-held, finishing, steps-well, stays-well}
+use Rattle.scheme.proofs.Choices.{totals-same, decided}
+use Rattle.scheme.proofs.Modular.{sixteen-laws}
+use Rattle.scheme.proofs.Totals.{one-choice, some-choice, rules-explain, totals-right}
+
+answer-not-refused : (r : Record) (s : State) (n : ℕ) → answer-of r s ≡ refused n → ⊥
+unfolding answer-of
+answer-not-refused (plan-record p) s n e = let z : _≡_ {A = ℕ} 0 1 = cc in omega arith
+answer-not-refused (open-record r) s n e = let z : _≡_ {A = ℕ} 0 1 = cc in omega arith
+answer-not-refused (first-record k i x) s n e = let z : _≡_ {A = ℕ} 0 1 = cc in omega arith
+answer-not-refused close-record s n e = let z : _≡_ {A = ℕ} 0 1 = cc in omega arith
+answer-not-refused (reply-record k b x) s n e = let z : _≡_ {A = ℕ} 0 1 = cc in omega arith
+answer-not-refused finish-record s n e = let z : _≡_ {A = ℕ} 0 1 = cc in omega arith
+
+-- only finish is refused 16, and not by its tests
+test-not : (b : Bool) (n m : ℕ) → eqb n 16 ≡ false → m ≢ 16 → (unless b n then m) ≢ 16
+unfolding unless _then_
+test-not true n m h l = l
+test-not false zero m h l = l
+test-not false (suc n) m h l = eqb-false (suc n) 16 h
+
+last-not : (b : Bool) (n : ℕ) → eqb n 16 ≡ false → unless b n ≢ 16
+unfolding unless
+last-not true n h = λ e. omega arith
+last-not false n h = eqb-false n 16 h
+
+module _ (A : Arithmetic) where
+  not-sixteen : (r : Record) (s : State) → refusal A r s ≢ 16
+  unfolding refusal
+  not-sixteen (plan-record p) s = test-not _ 11 _ refl (last-not _ 1 refl)
+  not-sixteen (open-record r) s = test-not _ 11 _ refl (last-not _ 17 refl)
+  not-sixteen (first-record k i x) s =
+      test-not _ 11 _ refl (test-not _ 12 _ refl (test-not _ 4 _ refl (test-not _ 8 _ refl (test-not _ 3 _ refl (last-not _ 13 refl)))))
+  not-sixteen close-record s = test-not _ 11 _ refl (test-not _ 12 _ refl (last-not _ 15 refl))
+  not-sixteen (reply-record k b x) s =
+      test-not _ 11 _ refl (test-not _ 12 _ refl (test-not _ 4 _ refl (test-not _ 8 _ refl (test-not _ 3 _ refl (test-not _ 14 _ refl (last-not _ 13 refl))))))
+  not-sixteen finish-record s = test-not _ 11 _ refl (test-not _ 12 _ refl (last-not _ 15 refl))
+
+  refused-step : (r : Record) (s t : State) (a : Answer) (n : ℕ) → a ≡ refused n → Steps A r s a t → t ≡ s
+  refused-step _ _ _ _ n d (refuses r s m e) = refl
+  refused-step _ _ _ _ n d (accepts r s f e) = absurd (answer-not-refused r s n d)
+  refused-step _ _ _ _ n d (totals-up s f e h) = let z : _≡_ {A = ℕ} 0 1 = cc in absurd (omega arith)
+  refused-step _ _ _ _ n d (disagrees s e h) = refl
+
+  pub refused-unchanged : Refused-unchanged A
+  unfolding Refused-unchanged
+  refused-unchanged r s t n h = refused-step r s t (refused n) n refl h
+
+  opened-step : (r : ℕ) (s t : State) (a : Answer) → a ≡ opened r → Steps A (open-record r) s a t → (refusal A (open-record r) s ≡ 0) × (t ≡ opened-state r s)
+  unfolding next-state
+  opened-step r s t a d (refuses _ _ n e) = let z : _≡_ {A = ℕ} 0 1 = cc in absurd (omega arith)
+  opened-step r s t a d (accepts _ _ f e) = (e, refl)
+
+  opens-as-new : (r : ℕ) (s : State) → refusal A (open-record r) s ≡ 0 → refusal A (open-record r) (planned-state (s .plan)) ≡ 0
+  unfolding refusal planned-state has-plan
+  opens-as-new r s e =
+      let late : s .round < r = ltb-true _ _ (unless-zero _ 16 (test-held _ 10 _ e .1)) in
+      then-taken (unless-held refl 11) _ ∙ unless-held (lt-ltb 0 r (omega arith)) 17
+
+  pub as-new : As-new A
+  unfolding As-new planned-state opened-state next-state answer-of is-finish
+  as-new r rs s t l (more _ _ _ u _ _ _ h rest) =
+      let o = opened-step r s u (opened r) refl h in
+      more (open-record r) rs (planned-state (s .plan)) (opened-state r s) t (opened r) l
+      (accepts (open-record r) (planned-state (s .plan)) refl (opens-as-new r s (o .0)))
+      (subst (λ (u : State). Runs A rs u l t) (o .1) rest)
+
+  sixteen-step : (r : Record) (s t : State) (a : Answer) → a ≡ refused 16 → Steps A r s a t → Unexplained A r s t
+  sixteen-step _ _ _ _ d (refuses r s n e) = absurd (not-sixteen r s (e ∙ cc))
+  sixteen-step _ _ _ _ d (accepts r s f e) = absurd (answer-not-refused r s 16 d)
+  sixteen-step _ _ _ _ d (totals-up s f e h) = let z : _≡_ {A = ℕ} 0 1 = cc in absurd (omega arith)
+  sixteen-step _ _ _ _ d (disagrees s e h) = record { finish = refl; unchanged = refl; enough = e; no-choice = h }
+
+  pub sixteen-exactly : Sixteen-exactly A
+  unfolding Sixteen-exactly
+  sixteen-exactly r s t =
+      (sixteen-step r s t (refused 16) refl, λ u. rw (u .finish, u .unchanged) (disagrees s (u .enough) (u .no-choice)))
+
+  answered : (r : Record) (s t : State) (a : Answer) → Well A s → Steps A r s a t → Answered A r s
+  answered r s t a w h = record { answer = a; state = t; step = h; well = steps-well A r s t a w h }
+
+  module _ (laws : (p : Plan) → plan-good p ≡ true → Laws A (p .users) (p .threshold)) where
+    -- the laws at the plan of a state that may finish
+    laws-here : (s : State) → Well A s → refusal A finish-record s ≡ 0 → Laws A (s .plan .users) (s .plan .threshold)
+    laws-here s w e = laws (s .plan) (w .good (finishing A s e .planned))
+
+    one-total : (s : State) (f g : (block : ℕ) → List ℕ) → Well A s → refusal A finish-record s ≡ 0 → explained-by A s f ≡ true → explained-by A s g ≡ true
+        → totals-by A s f ≡ totals-by A s g
+    unfolding explained-by totals-by One-choice
+    one-total s f g w e h l =
+        totals-same A (s .plan) (values (s .replies)) (s .survivors) (values (s .firsts)) f g
+        (one-choice A (s .plan) (laws-here s w e) (replied s) (values (s .replies)) f g (finishing A s e .many) h l)
+
+    pub one-answer : One-answer A
+    unfolding One-answer is-finish
+    one-answer _ _ _ _ _ _ w (refuses r s n e) (refuses _ _ m d) = (ap refused (sym e ∙ d), refl)
+    one-answer _ _ _ _ _ _ w (refuses r s n e) (accepts _ _ f d) = absurd (omega arith)
+    one-answer _ _ _ _ _ _ w (refuses r s n e) (totals-up _ f d h) = absurd (omega arith)
+    one-answer _ _ _ _ _ _ w (refuses r s n e) (disagrees _ d h) = absurd (omega arith)
+    one-answer _ _ _ _ _ _ w (accepts r s f e) (refuses _ _ n d) = absurd (omega arith)
+    one-answer _ _ _ _ _ _ w (accepts r s f e) (accepts _ _ g d) = (refl, refl)
+    one-answer _ _ _ _ _ _ w (accepts r s f e) (totals-up _ g d h) = absurd (holds (sym f))
+    one-answer _ _ _ _ _ _ w (accepts r s f e) (disagrees _ d h) = absurd (holds (sym f))
+    one-answer _ _ _ _ _ _ w (totals-up s f e h) (refuses _ _ n d) = absurd (omega arith)
+    one-answer _ _ _ _ _ _ w (totals-up s f e h) (accepts _ _ g d) = absurd (holds (sym g))
+    one-answer _ _ _ _ _ _ w (totals-up s f e h) (totals-up _ g d l) = (ap (totalled (s .round)) (one-total s f g w e h l), refl)
+    one-answer _ _ _ _ _ _ w (totals-up s f e h) (disagrees _ d l) = absurd (l f h)
+    one-answer _ _ _ _ _ _ w (disagrees s e h) (refuses _ _ n d) = absurd (omega arith)
+    one-answer _ _ _ _ _ _ w (disagrees s e h) (accepts _ _ g d) = absurd (holds (sym g))
+    one-answer _ _ _ _ _ _ w (disagrees s e h) (totals-up _ f d l) = absurd (h f l)
+    one-answer _ _ _ _ _ _ w (disagrees s e h) (disagrees _ d l) = (refl, refl)
+
+    finished : (s : State) → Well A s → refusal A finish-record s ≡ 0 → Answered A finish-record s
+    unfolding explained-by
+    finished s w e =
+        ⊎-elim (λ c. answered _ s _ _ w (totals-up s (c .choice) e (c .right))) (λ h. answered _ s _ _ w (disagrees s e h))
+        (decided A (s .plan) (values (s .replies)) (laws-here s w e) (w .replies-small) (replied s) (finishing A s e .many))
+
+    pub always-answers : Always-answers A
+    unfolding Always-answers is-finish
+    always-answers r s w = go (refusal A r s) refl
+      where
+        taken : (r : Record) → refusal A r s ≡ 0 → Answered A r s
+        taken (plan-record p) e = answered _ s _ _ w (accepts (plan-record p) s refl e)
+        taken (open-record n) e = answered _ s _ _ w (accepts (open-record n) s refl e)
+        taken (first-record k i x) e = answered _ s _ _ w (accepts (first-record k i x) s refl e)
+        taken close-record e = answered _ s _ _ w (accepts close-record s refl e)
+        taken (reply-record k b x) e = answered _ s _ _ w (accepts (reply-record k b x) s refl e)
+        taken finish-record e = finished s w e
+
+        go : (n : ℕ) → refusal A r s ≡ n → Answered A r s
+        go zero e = taken r e
+        go (suc n) e = answered r s s _ w (refuses r s n e)
+
+    pub finish-right : Finish-right A
+    unfolding Finish-right Rules-explain Totals-right explained-by totals-by is-finish
+    finish-right s t a xs x w e ok ax rules h = told t a h
+      where
+        told : (t : State) (a : Answer) → Steps A finish-record s a t → a ≡ totalled (s .round) (map (total-at A (s .plan) x (s .survivors)) (span (places (s .plan)) 0))
+        told _ _ (refuses _ _ n d) = absurd (omega arith)
+        told _ _ (accepts _ _ f d) = absurd (holds (sym f))
+        told _ _ (totals-up _ f d h) =
+            ap (totalled (s .round)) (totals-right A (s .plan) (laws-here s w e) xs x (s .survivors) (replied s) _ _ f ok ax (w .survive (finishing A s e .replying)) (finishing A s e .many) rules h)
+        told _ _ (disagrees _ d h) =
+            let c = rules-explain A (s .plan) (laws-here s w e) xs x (s .survivors) (replied s) _ _ ok (w .survive (finishing A s e .replying)) rules in
+            absurd (h (c .choice) (c .right))
+
+    pub never-sixteen : Never-sixteen A
+    unfolding Never-sixteen Some-choice explained-by
+    never-sixteen r s t w few h =
+        let u = sixteen-step r s t (refused 16) refl h in
+        let c = some-choice A (s .plan) (laws-here s w (u .enough)) (replied s) (values (s .replies)) (sym few) (w .replies-small) in
+        u .no-choice (c .choice) (c .right)
+
+-- THE SECOND DEMAND
+pub demand-2 : Demand-2
+demand-2 = record {
+  stays-well = stays-well sixteen (omega arith);
+  one-answer = one-answer sixteen sixteen-laws;
+  always-answers = always-answers sixteen sixteen-laws;
+  refused-unchanged = refused-unchanged sixteen;
+  as-new = as-new sixteen;
+  finish-right = finish-right sixteen sixteen-laws;
+  sixteen-exactly = sixteen-exactly sixteen;
+  never-sixteen = never-sixteen sixteen sixteen-laws;
+}

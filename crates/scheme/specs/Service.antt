@@ -1,0 +1,257 @@
+-- The pooling service of document 01, record by record, over an arithmetic: refusals 1, 3, 4, 8 and 11 to 17, answers and states.
+--   Phase, State, new-state        what the service holds
+--   complete-set                   the users with all their elements held, as a set
+--   Record, Answer                 what comes in, and what is answered
+--   refusal                        0, or the earliest refusal that applies, but for 16
+--   next-state, answer-of          of an accepted record other than finish
+--   Steps, Runs                    one record, by a relation: finish goes by what explains the replies; and a list of records
+--   Well                           what holds of every state that records lead to
+--   One-answer, Always-answers, Refused-unchanged, As-new, Finish-right, Sixteen-exactly, Never-sixteen, Stays-well     the promises of demands 1 and 2
+--   Demand-2                       all of them modulo 65521
+-- Assumes nothing: these are definitions.
+use mathlib.Core.Path.{_≡_}
+use mathlib.Core.Logic.{_↔_}
+use mathlib.Core.Bool.{Bool, true, false, _&&_, not, cond}
+use mathlib.Core.List.{List, [], _∷_, map}
+use mathlib.Core.Option.{Option, none, some}
+use Prim.Native.Nat.{ℕ, zero, suc, _+_, _-_, _^_, _≤_, _<_}
+use lib.Dec.{ltb, leb, eqb}
+use Rattle.scheme.specs.Scheme.{span, Arithmetic, sixteen, Plan, plan-good, is-user, places, in-set, ones, usable, total-at, _then_, unless}
+use Rattle.scheme.specs.Promise.{Table, admissible, list-good}
+use Rattle.scheme.specs.Totals.{all-of, explains-all, totals, Follows}
+
+-- no plan yet; idle, gathering, replying
+pub data Phase : Type 0 where
+  unplanned : Phase
+  idle : Phase
+  gathering : Phase
+  replying : Phase
+
+unfoldable pub has-plan : Phase → Bool
+has-plan unplanned = false
+has-plan idle = true
+has-plan gathering = true
+has-plan replying = true
+
+unfoldable pub is-gathering : Phase → Bool
+is-gathering unplanned = false
+is-gathering idle = false
+is-gathering gathering = true
+is-gathering replying = false
+
+unfoldable pub is-replying : Phase → Bool
+is-replying unplanned = false
+is-replying idle = false
+is-replying gathering = false
+is-replying replying = true
+
+-- the elements held: of a user's place, of a user's block
+pub record State : Type 0 where
+  pub phase : Phase
+  pub plan : Plan
+  pub round : ℕ
+  pub survivors : ℕ
+  pub firsts : (k place : ℕ) → Option ℕ
+  pub replies : (k block : ℕ) → Option ℕ
+
+abbrev pub nothing : (k at : ℕ) → Option ℕ
+nothing k i = none
+
+unfoldable pub new-state : State
+new-state =
+    record {
+      phase = unplanned;
+      plan = record { users = 0; threshold = 0; collusion = 0; blocks = 0 };
+      round = 0;
+      survivors = 0;
+      firsts = nothing;
+      replies = nothing;
+    }
+
+-- ---- what is held
+unfoldable pub is-held : Option ℕ → Bool
+is-held none = false
+is-held (some x) = true
+
+unfoldable pub element-of : Option ℕ → ℕ
+element-of none = 0
+element-of (some x) = x
+
+unfoldable pub with-element : (k at element : ℕ) → ((k at : ℕ) → Option ℕ) → (k at : ℕ) → Option ℕ
+with-element k i x f l j = cond (eqb l k && eqb j i) (some x) (f l j)
+
+-- of the n users from k on, those that pass the test, as a set
+unfoldable pub set-of : (test : ℕ → Bool) → (n k : ℕ) → ℕ
+set-of t zero k = 0
+set-of t (suc n) k = cond (t k) (2 ^ (k - 1)) 0 + set-of t n (suc k)
+
+unfoldable pub complete-set : Plan → ((k at : ℕ) → Option ℕ) → (each : ℕ) → ℕ
+complete-set p f n = set-of (λ k. all-of (λ i. is-held (f k i)) (span n 0)) (p .users) 1
+
+-- the users with all places held, and the survivors with all blocks held
+unfoldable pub gathered : State → ℕ
+gathered s = complete-set (s .plan) (s .firsts) (places (s .plan))
+
+unfoldable pub replied : State → ℕ
+replied s = complete-set (s .plan) (s .replies) (s .plan .blocks)
+
+-- ---- records and answers
+pub data Record : Type 0 where
+  plan-record : Plan → Record
+  open-record : (round : ℕ) → Record
+  first-record : (k place element : ℕ) → Record
+  close-record : Record
+  reply-record : (k block element : ℕ) → Record
+  finish-record : Record
+
+-- an accepted element prints nothing
+pub data Answer : Type 0 where
+  silent : Answer
+  planned : Plan → Answer
+  opened : (round : ℕ) → Answer
+  closed : (round set : ℕ) → Answer
+  totalled : (round : ℕ) → (totals : List ℕ) → Answer
+  refused : (number : ℕ) → Answer
+
+-- plan 11, 1; open 11, 17; elements 11, 12, 4, 8, 3, 14, 13; close 11, 12, 15; finish 11, 12, 15, and then perhaps 16
+unfoldable pub refusal : Arithmetic → Record → State → ℕ
+refusal A (plan-record p) s = unless (not (has-plan (s .phase))) 11 then unless (plan-good p) 1
+refusal A (open-record r) s = unless (has-plan (s .phase)) 11 then unless (ltb (s .round) r) 17
+refusal A (first-record k i x) s =
+    unless (has-plan (s .phase)) 11 then unless (is-gathering (s .phase)) 12 then unless (is-user (s .plan) k) 4
+    then unless (ltb i (places (s .plan))) 8 then unless (ltb x (A .size)) 3 then unless (not (is-held (s .firsts k i))) 13
+refusal A close-record s =
+    unless (has-plan (s .phase)) 11 then unless (is-gathering (s .phase)) 12 then unless (leb (s .plan .threshold) (ones (s .plan .users) (gathered s))) 15
+refusal A (reply-record k b x) s =
+    unless (has-plan (s .phase)) 11 then unless (is-replying (s .phase)) 12 then unless (is-user (s .plan) k) 4
+    then unless (ltb b (s .plan .blocks)) 8 then unless (ltb x (A .size)) 3 then unless (in-set (s .survivors) k) 14
+    then unless (not (is-held (s .replies k b))) 13
+refusal A finish-record s =
+    unless (has-plan (s .phase)) 11 then unless (is-replying (s .phase)) 12 then unless (leb (s .plan .threshold) (ones (s .plan .users) (replied s))) 15
+
+-- ---- the states that records lead to
+unfoldable pub planned-state : Plan → State
+planned-state p = record { phase = idle; plan = p; round = 0; survivors = 0; firsts = nothing; replies = nothing }
+
+unfoldable pub opened-state : (round : ℕ) → State → State
+opened-state r s = record { phase = gathering; plan = s .plan; round = r; survivors = 0; firsts = nothing; replies = nothing }
+
+unfoldable pub idle-state : State → State
+idle-state s = record { phase = idle; plan = s .plan; round = s .round; survivors = 0; firsts = nothing; replies = nothing }
+
+unfoldable pub next-state : Record → State → State
+next-state (plan-record p) s = planned-state p
+next-state (open-record r) s = opened-state r s
+next-state (first-record k i x) s =
+    record { phase = s .phase; plan = s .plan; round = s .round; survivors = s .survivors; firsts = with-element k i x (s .firsts); replies = s .replies }
+next-state close-record s =
+    record { phase = replying; plan = s .plan; round = s .round; survivors = gathered s; firsts = s .firsts; replies = nothing }
+next-state (reply-record k b x) s =
+    record { phase = s .phase; plan = s .plan; round = s .round; survivors = s .survivors; firsts = s .firsts; replies = with-element k b x (s .replies) }
+next-state finish-record s = idle-state s
+
+unfoldable pub answer-of : Record → State → Answer
+answer-of (plan-record p) s = planned p
+answer-of (open-record r) s = opened r
+answer-of (first-record k i x) s = silent
+answer-of close-record s = closed (s .round) (gathered s)
+answer-of (reply-record k b x) s = silent
+answer-of finish-record s = silent
+
+unfoldable pub is-finish : Record → Bool
+is-finish (plan-record p) = false
+is-finish (open-record r) = false
+is-finish (first-record k i x) = false
+is-finish close-record = false
+is-finish (reply-record k b x) = false
+is-finish finish-record = true
+
+-- ---- the elements held as functions of numbers, and the sums and noise that explain the complete replies
+abbrev pub values : ((k at : ℕ) → Option ℕ) → (k at : ℕ) → ℕ
+values f k i = element-of (f k i)
+
+unfoldable pub explained-by : Arithmetic → State → (choice : (block : ℕ) → List ℕ) → Bool
+explained-by A s f = explains-all A (s .plan) (replied s) (values (s .replies)) f
+
+unfoldable pub totals-by : Arithmetic → State → (choice : (block : ℕ) → List ℕ) → List ℕ
+totals-by A s f = totals A (s .plan) (s .survivors) (values (s .firsts)) f
+
+pub data Steps (A : Arithmetic) : Record → State → Answer → State → Type 0 where
+  refuses : (r : Record) (s : State) (n : ℕ) → refusal A r s ≡ suc n → Steps A r s (refused (suc n)) s
+  accepts : (r : Record) (s : State) → is-finish r ≡ false → refusal A r s ≡ 0 → Steps A r s (answer-of r s) (next-state r s)
+  totals-up : (s : State) (f : (block : ℕ) → List ℕ) → refusal A finish-record s ≡ 0 → explained-by A s f ≡ true →
+      Steps A finish-record s (totalled (s .round) (totals-by A s f)) (idle-state s)
+  disagrees : (s : State) → refusal A finish-record s ≡ 0 → ((f : (block : ℕ) → List ℕ) → explained-by A s f ≡ true → ⊥) →
+      Steps A finish-record s (refused 16) s
+
+pub data Runs (A : Arithmetic) : List Record → State → List Answer → State → Type 0 where
+  done : (s : State) → Runs A [] s [] s
+  more : (r : Record) (rs : List Record) (s t u : State) (a : Answer) (l : List Answer) → Steps A r s a t → Runs A rs t l u → Runs A (r ∷ rs) s (a ∷ l) u
+
+-- states that records lead to from a new one: a good plan, if there is one; elements; replies of survivors
+pub record Well (A : Arithmetic) (s : State) : Type 0 where
+  pub good : has-plan (s .phase) ≡ true → plan-good (s .plan) ≡ true
+  pub firsts-small : (k i : ℕ) → values (s .firsts) k i < A .size
+  pub replies-small : (k b : ℕ) → values (s .replies) k b < A .size
+  pub replies-own : (k b : ℕ) → is-held (s .replies k b) ≡ true → in-set (s .survivors) k ≡ true
+  pub survive : is-replying (s .phase) ≡ true → usable (s .plan) (s .survivors) ≡ true
+
+-- ---- THE PROMISES
+-- each record has at most one answer
+unfoldable pub One-answer : Arithmetic → Type 0
+One-answer A = (r : Record) (s t u : State) (a b : Answer) → Well A s → Steps A r s a t → Steps A r s b u → (a ≡ b) × (t ≡ u)
+
+-- and it has one, and leads to a state of the same kind
+pub record Answered (A : Arithmetic) (r : Record) (s : State) : Type 0 where
+  pub answer : Answer
+  pub state : State
+  pub step : Steps A r s answer state
+  pub well : Well A state
+
+unfoldable pub Always-answers : Arithmetic → Type 0
+Always-answers A = (r : Record) (s : State) → Well A s → Answered A r s
+
+unfoldable pub Refused-unchanged : Arithmetic → Type 0
+Refused-unchanged A = (r : Record) (s t : State) (n : ℕ) → Steps A r s (refused n) t → t ≡ s
+
+-- a round keeps nothing but the plan of what was before: a run that begins with an accepted open is a run of a new service with the same plan
+unfoldable pub As-new : Arithmetic → Type 0
+As-new A =
+    (r : ℕ) (rs : List Record) (s t : State) (l : List Answer) → Runs A (open-record r ∷ rs) s (opened r ∷ l) t →
+    Runs A (open-record r ∷ rs) (planned-state (s .plan)) (opened r ∷ l) t
+
+-- complete replies that follow the rules give the survivors' total, whatever else was sent
+unfoldable pub Finish-right : Arithmetic → Type 0
+Finish-right A =
+    (s t : State) (a : Answer) (xs : List ℕ) (x : Table) → Well A s → refusal A finish-record s ≡ 0 → list-good A (s .plan) xs ≡ true →
+    admissible A (s .plan) x → Follows A (s .plan) xs x (s .survivors) (replied s) (values (s .firsts)) (values (s .replies)) →
+    Steps A finish-record s a t → a ≡ totalled (s .round) (map (total-at A (s .plan) x (s .survivors)) (span (places (s .plan)) 0))
+
+-- 16 is the answer to a finish of enough complete replies that nothing explains, and to nothing else
+pub record Unexplained (A : Arithmetic) (r : Record) (s t : State) : Type 0 where
+  pub finish : r ≡ finish-record
+  pub unchanged : t ≡ s
+  pub enough : refusal A finish-record s ≡ 0
+  pub no-choice : (f : (block : ℕ) → List ℕ) → explained-by A s f ≡ true → ⊥
+
+unfoldable pub Sixteen-exactly : Arithmetic → Type 0
+Sixteen-exactly A = (r : Record) (s t : State) → Steps A r s (refused 16) t ↔ Unexplained A r s t
+
+-- U complete replies and no more agree, whatever they are
+unfoldable pub Never-sixteen : Arithmetic → Type 0
+Never-sixteen A = (r : Record) (s t : State) → Well A s → ones (s .plan .users) (replied s) ≡ s .plan .threshold → Steps A r s (refused 16) t → ⊥
+
+-- whatever records come to a new service, it is in a state of the kind
+unfoldable pub Stays-well : Arithmetic → Type 0
+Stays-well A = (rs : List Record) (l : List Answer) (s : State) → Runs A rs new-state l s → Well A s
+
+-- THE SECOND DEMAND, modulo 65521
+pub record Demand-2 : Type 0 where
+  pub stays-well : Stays-well sixteen
+  pub one-answer : One-answer sixteen
+  pub always-answers : Always-answers sixteen
+  pub refused-unchanged : Refused-unchanged sixteen
+  pub as-new : As-new sixteen
+  pub finish-right : Finish-right sixteen
+  pub sixteen-exactly : Sixteen-exactly sixteen
+  pub never-sixteen : Never-sixteen sixteen
