@@ -1,0 +1,2 @@
+-- The laws of test 3.
+pub mod Elements

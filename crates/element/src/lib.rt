@@ -1,0 +1,86 @@
+// Elements of document 01: whole numbers modulo 65521, held in 16 bits.
+//   Q                         the modulus
+//   add, subtract, multiply   of any two 16-bit numbers, through wider integers; the result is an element
+//   inverse_of, coefficient   from a table of the inverses below 16
+//   is_element, all_elements  test 3 of document 01
+ghost use mathlib.Core.Path.{_≡_};
+ghost use Prim.Native.Nat.{_+_, _%_, _<_};
+ghost use lib.Dec.{ltb};
+ghost use Rattle.algebra.specs.Residue.{inverse};
+ghost use Rattle.scheme.specs.Scheme.{q, sixteen, elements};
+
+pub const Q: u32 = 65521;
+
+pub fn add(a: u16, b: u16) -> u16
+    ensures { λ r. ⌜ r ≡ sixteen .add a b ⌝ }
+{
+    ((a as u32 + b as u32) % Q) as u16
+}
+
+// The subtrahend is reduced first, so that nothing falls below zero.
+pub fn subtract(a: u16, b: u16) -> u16
+    ensures { λ r. ⌜ r ≡ sixteen .subtract a b ⌝ }
+{
+    ((a as u32 + (Q - b as u32 % Q)) % Q) as u16
+}
+
+pub fn multiply(a: u16, b: u16) -> u16
+    ensures { λ r. ⌜ r ≡ sixteen .multiply a b % q ⌝ }
+{
+    (a as u32 * b as u32 % Q) as u16
+}
+
+// The inverses of 1 to 15 modulo Q; at 0, which has none, the 1 that the definition gives.
+const INVERSES: [u16; 16] = [
+    1,
+    1,
+    32761,
+    43681,
+    49141,
+    52417,
+    54601,
+    56161,
+    57331,
+    58241,
+    58969,
+    11913,
+    60061,
+    60481,
+    60841,
+    61153,
+];
+
+pub fn inverse_of(n: u32) -> u16
+    requires { ⌜ n < 16 ⌝ }
+    ensures { λ r. ⌜ r ≡ inverse q n ⌝ }
+{
+    INVERSES[n as usize]
+}
+
+// "The coefficient of airfield k and column j is the inverse of k + j modulo q."
+pub fn coefficient(user: u32, column: u32) -> u16
+    requires { ⌜ user + column < 16 ⌝ }
+    ensures { λ r. ⌜ r ≡ sixteen .coefficient user column ⌝ }
+{
+    inverse_of(user + column)
+}
+
+pub fn is_element(x: u16) -> bool
+    ensures { λ r. ⌜ r ≡ ltb x q ⌝ }
+{
+    (x as u32) < Q
+}
+
+// "Test 3 looks through every list lent to be read, whole."
+pub fn all_elements(list: &[u16]) -> bool
+    ensures { λ r. ⌜ r ≡ elements sixteen (now (list .entry)) ⌝ }
+{
+    let mut i = 0;
+    while i < list.len() {
+        if !is_element(list[i]) {
+            return false;
+        }
+        i += 1;
+    }
+    true
+}

@@ -1,0 +1,2 @@
+-- What several proofs share, and laws for callers.
+pub mod Laws

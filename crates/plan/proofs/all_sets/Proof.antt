@@ -1,0 +1,20 @@
+-- `plan::all_sets` meets its contract: 2 to the power of at most 8 is at most 256.
+-- Assumes nothing.
+use Prim.Native.Nat.{_^_, _≤_}
+use native.Mathlib.Nat.{one-mul, mod-eq-of-lt}
+use native.Mathlib.Omega.{arith}
+use borrow.Author.Needs.{needs}
+use Rattle.plan.proofs.Laws.{sets-le}
+use Rattle.plan.proofs.all_sets.Statement.{statement}
+use Rattle.plan.proofs.all_sets.Tie as tie
+
+shl-result : tie.Need-shl-result
+shl-result c = search needs
+
+returns : tie.Need-returns
+returns c =
+    let h : 2 ^ c .before .args .p .users ≤ 256 = sets-le _ (c .before .pre) in
+    (rw one-mul (mod-eq-of-lt (omega arith)), rw one-mul (omega arith))
+
+pub all-sets-spec : {M : Type 1} → statement M
+all-sets-spec = tie.close (tie.spec shl-result returns)

@@ -1,0 +1,178 @@
+// Plans and sets of document 01: their tests, and where things lie in the lists that a plan fixes.
+//   Plan, MOST_USERS ..                               K, U, T and M, as they come; their limits
+//   is_good, start_refusal                            tests 1 and 4
+//   holds, is_usable, is_usable_with                  sets of users
+//   all_sets, count_usable, set_place                 counts of sets
+//   places_of, list_length, reply_start, key_length   lengths and places
+// Document 01's airfield is a user here. All but the two tests and `holds` are for plans that passed test 1.
+ghost use mathlib.Core.Path.{_≡_};
+ghost use Prim.Native.Nat.{_+_, _*_, _^_, _≤_};
+ghost use Rattle.scheme.specs.Scheme.{plan-good, start-refusal, in-set, usable, usable-with, places, rank, list-length, key-length, reply-start};
+ghost use Rattle.scheme.specs.Good.{Good};
+ghost use Rattle.plan.specs.Plan.{plan-of};
+
+// "K airfields, 3 to 8 .. T at least 1 .. M blocks, 1 to 16 .. L is at most 96"
+pub const LEAST_USERS: u32 = 3;
+
+pub const MOST_USERS: u32 = 8;
+
+pub const LEAST_COLLUSION: u32 = 1;
+
+pub const LEAST_BLOCKS: u32 = 1;
+
+pub const MOST_BLOCKS: u32 = 16;
+
+pub const MOST_PLACES: usize = 96;
+
+pub struct Plan {
+    pub users: u32,
+    pub threshold: u32,
+    pub collusion: u32,
+    pub blocks: u32,
+}
+
+// Test 1.
+pub fn is_good(p: Plan) -> bool
+    ensures { λ r. ⌜ r ≡ plan-good (plan-of p) ⌝ }
+{
+    if p.users < LEAST_USERS {
+        return false;
+    }
+    if MOST_USERS < p.users {
+        return false;
+    }
+    if p.collusion < LEAST_COLLUSION {
+        return false;
+    }
+    if p.threshold <= p.collusion {
+        return false;
+    }
+    if p.users <= p.threshold {
+        return false;
+    }
+    if p.blocks < LEAST_BLOCKS {
+        return false;
+    }
+    if MOST_BLOCKS < p.blocks {
+        return false;
+    }
+    true
+}
+
+// "Start of an end: 1, 4."
+pub fn start_refusal(p: Plan, user: u32) -> u32
+    ensures { λ r. ⌜ r ≡ start-refusal (plan-of p) user ⌝ }
+{
+    if !is_good(p) {
+        return 1;
+    }
+    if user < 1 {
+        return 4;
+    }
+    if p.users < user {
+        return 4;
+    }
+    0
+}
+
+// Bit user - 1 of the set.
+pub fn holds(set: u32, user: u32) -> bool
+    requires { ⌜ (1 ≤ user) × (user ≤ 32) ⌝ }
+    ensures { λ r. ⌜ r ≡ in-set set user ⌝ }
+{
+    (set >> (user - 1)) % 2 == 1
+}
+
+// One past the largest set of the plan's users.
+pub fn all_sets(p: Plan) -> u32
+    requires { ⌜ Good (plan-of p) ⌝ }
+    ensures { λ r. ⌜ (r ≡ 2 ^ p .users) × (r ≤ 256) ⌝ }
+{
+    1u32 << p.users
+}
+
+// "A usable set has at least U members and none above K."
+pub fn is_usable(p: Plan, set: u32) -> bool
+    requires { ⌜ Good (plan-of p) ⌝ }
+    ensures { λ r. ⌜ r ≡ usable (plan-of p) set ⌝ }
+{
+    if all_sets(p) <= set {
+        return false;
+    }
+    p.threshold <= u32::count_ones(set)
+}
+
+pub fn is_usable_with(p: Plan, user: u32, set: u32) -> bool
+    requires { ⌜ Good (plan-of p) × (1 ≤ user) × (user ≤ 8) ⌝ }
+    ensures { λ r. ⌜ r ≡ usable-with (plan-of p) user set ⌝ }
+{
+    if !is_usable(p, set) {
+        return false;
+    }
+    holds(set, user)
+}
+
+// How many sets below `end` are usable.
+pub fn count_usable(p: Plan, end: u32) -> usize
+    requires { ⌜ Good (plan-of p) × (end ≤ 256) ⌝ }
+    ensures { λ r. ⌜ (r ≡ rank (usable (plan-of p)) end) × (r ≤ end) ⌝ }
+{
+    let mut count: usize = 0;
+    let mut v: u32 = 0;
+    while v < end {
+        if is_usable(p, v) {
+            count += 1;
+        }
+        v += 1;
+    }
+    count
+}
+
+// The place of a set in a user's key: how many smaller usable sets hold the user.
+pub fn set_place(p: Plan, user: u32, set: u32) -> usize
+    requires { ⌜ Good (plan-of p) × (1 ≤ user) × (user ≤ 8) × (set ≤ 256) ⌝ }
+    ensures { λ r. ⌜ (r ≡ rank (usable-with (plan-of p) user) set) × (r ≤ set) ⌝ }
+{
+    let mut count: usize = 0;
+    let mut v: u32 = 0;
+    while v < set {
+        if is_usable_with(p, user, v) {
+            count += 1;
+        }
+        v += 1;
+    }
+    count
+}
+
+// L = M × (U − T).
+pub fn places_of(p: Plan) -> usize
+    requires { ⌜ Good (plan-of p) ⌝ }
+    ensures { λ r. ⌜ (r ≡ places (plan-of p)) × (r ≤ 96) ⌝ }
+{
+    p.blocks as usize * (p.threshold - p.collusion) as usize
+}
+
+// "S of airfield 1, then of 2, up to K, L elements each; then for each usable set, block by block, T noise elements."
+pub fn list_length(p: Plan) -> usize
+    requires { ⌜ Good (plan-of p) ⌝ }
+    ensures { λ r. ⌜ (r ≡ list-length (plan-of p)) × (r ≤ 8 * 96 + 256 * 16 * 6) ⌝ }
+{
+    let sets = count_usable(p, all_sets(p));
+    p.users as usize * places_of(p) + sets * p.blocks as usize * p.collusion as usize
+}
+
+// Where the M shares for a set start in a user's key: behind its L masks and the shares for the smaller sets.
+pub fn reply_start(p: Plan, user: u32, set: u32) -> usize
+    requires { ⌜ Good (plan-of p) × (1 ≤ user) × (user ≤ 8) × (set ≤ 256) ⌝ }
+    ensures { λ r. ⌜ (r ≡ reply-start (plan-of p) user set) × (r ≤ 96 + 256 * 16) ⌝ }
+{
+    places_of(p) + set_place(p, user, set) * p.blocks as usize
+}
+
+// The key ends behind the shares for all sets.
+pub fn key_length(p: Plan, user: u32) -> usize
+    requires { ⌜ Good (plan-of p) × (1 ≤ user) × (user ≤ 8) ⌝ }
+    ensures { λ r. ⌜ (r ≡ key-length (plan-of p) user) × (r ≤ 96 + 256 * 16) ⌝ }
+{
+    reply_start(p, user, all_sets(p))
+}
