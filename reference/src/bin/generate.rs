@@ -1,0 +1,42 @@
+//! `generate KIND SEED [COUNT]`: test material on standard output.
+//! - `rounds`: a record stream of COUNT rounds
+//! - `damaged`: a record stream that must be refused in many places, with
+//!   COUNT random records in it
+//! - `keys`: COUNT cases for the key maker and the airfield end, one a line;
+//!   the format is set out in src/material/keys.rs
+
+use reference::material::{damaged, keys, rounds};
+use reference::stream::to_bytes;
+use std::io::{self, BufWriter, Write};
+use std::process::ExitCode;
+
+const USAGE: &str = "usage: generate rounds|damaged|keys SEED [COUNT]";
+const DEFAULT_COUNT: u32 = 20;
+
+fn main() -> io::Result<ExitCode> {
+    let arguments: Vec<String> = std::env::args().skip(1).collect();
+    let Some((kind, seed, count)) = read(&arguments) else {
+        eprintln!("{USAGE}");
+        return Ok(ExitCode::FAILURE);
+    };
+    let mut out = BufWriter::new(io::stdout());
+    match kind {
+        "rounds" => out.write_all(&to_bytes(&rounds::records(seed, count)))?,
+        "damaged" => out.write_all(&damaged::bytes(seed, count))?,
+        "keys" => keys::lines(seed, count).try_for_each(|line| writeln!(out, "{line}"))?,
+        _ => {
+            eprintln!("{USAGE}");
+            return Ok(ExitCode::FAILURE);
+        }
+    }
+    out.flush()?;
+    Ok(ExitCode::SUCCESS)
+}
+
+fn read(arguments: &[String]) -> Option<(&str, u64, u32)> {
+    match arguments {
+        [kind, seed] => Some((kind, seed.parse().ok()?, DEFAULT_COUNT)),
+        [kind, seed, count] => Some((kind, seed.parse().ok()?, count.parse().ok()?)),
+        _ => None,
+    }
+}

@@ -1,0 +1,94 @@
+//! Key maker and airfield end: the calls on the airfields' side, with their
+//! refusals in document 01's order. A refused call changes nothing.
+//!
+//! - `make_key`: the key maker, refusals 1, 4, 2, 3
+//! - `End`, `Stage`: an airfield end, its plan, number and stage
+//! - `End::start`: a fresh end, refusals 1, 4
+//! - `End::first_message`: refusals 18, 2, 3
+//! - `End::reply`: refusals 18, 2, 3, 5, 6, 19
+
+use crate::field::{is_element, Element};
+use crate::refusal::{refuse_if, Refusal};
+use crate::scheme::{self, holds, Plan, RandomList, Set};
+
+/// Writes the key of an airfield into a lent buffer of the key's length.
+pub fn make_key(
+    plan: [u8; 4],
+    airfield: u8,
+    list: &[Element],
+    key: &mut [Element],
+) -> Result<(), Refusal> {
+    let plan = Plan::new(plan)?;
+    refuse_if(!plan.has_airfield(airfield), Refusal::AirfieldNumber)?;
+    let lengths_fit = list.len() == plan.list_length() && key.len() == plan.key_length(airfield);
+    refuse_if(!lengths_fit, Refusal::Length)?;
+    refuse_if(!all_elements(list), Refusal::NotElement)?;
+    key.copy_from_slice(&scheme::key(&RandomList { plan: &plan, elements: list }, airfield));
+    Ok(())
+}
+
+#[derive(Clone, Copy, Debug, PartialEq, Eq)]
+pub enum Stage {
+    Fresh,
+    Sent,
+    Answered(Set),
+}
+
+#[derive(Clone, Debug, PartialEq, Eq)]
+pub struct End {
+    plan: Plan,
+    airfield: u8,
+    stage: Stage,
+}
+
+impl End {
+    pub fn start(plan: [u8; 4], airfield: u8) -> Result<End, Refusal> {
+        let plan = Plan::new(plan)?;
+        refuse_if(!plan.has_airfield(airfield), Refusal::AirfieldNumber)?;
+        Ok(End { plan, airfield, stage: Stage::Fresh })
+    }
+
+    /// Writes figures plus S into a lent buffer of L elements. The key is lent
+    /// whole, so test 3 looks through its shares too.
+    pub fn first_message(
+        &mut self,
+        key: &[Element],
+        figures: &[Element],
+        message: &mut [Element],
+    ) -> Result<(), Refusal> {
+        refuse_if(self.stage != Stage::Fresh, Refusal::SentOrFresh)?;
+        let row_length = self.plan.row_length();
+        let lengths_fit =
+            self.key_fits(key) && figures.len() == row_length && message.len() == row_length;
+        refuse_if(!lengths_fit, Refusal::Length)?;
+        refuse_if(!all_elements(key) || !all_elements(figures), Refusal::NotElement)?;
+        message.copy_from_slice(&scheme::first_message(key, figures));
+        self.stage = Stage::Sent;
+        Ok(())
+    }
+
+    /// Hands back the part of the lent key that answers the set.
+    pub fn reply<'a>(&mut self, key: &'a [Element], set: Set) -> Result<&'a [Element], Refusal> {
+        refuse_if(self.stage == Stage::Fresh, Refusal::SentOrFresh)?;
+        refuse_if(!self.key_fits(key), Refusal::Length)?;
+        refuse_if(!all_elements(key), Refusal::NotElement)?;
+        refuse_if(!self.plan.usable(set), Refusal::SetNotUsable)?;
+        refuse_if(!holds(set, self.airfield), Refusal::NotInSet)?;
+        let answered_other = matches!(self.stage, Stage::Answered(other) if other != set);
+        refuse_if(answered_other, Refusal::OtherSet)?;
+        self.stage = Stage::Answered(set);
+        Ok(&key[scheme::reply_part(&self.plan, self.airfield, set)])
+    }
+
+    pub fn stage(&self) -> Stage {
+        self.stage
+    }
+
+    fn key_fits(&self, key: &[Element]) -> bool {
+        key.len() == self.plan.key_length(self.airfield)
+    }
+}
+
+fn all_elements(values: &[u16]) -> bool {
+    values.iter().copied().all(is_element)
+}

@@ -1,0 +1,27 @@
+//! Second implementation of document 01, written from its text alone, to be
+//! run beside the first one. It goes for the obvious way everywhere: plain
+//! vectors, ordered maps, inverses by Fermat, Gaussian elimination.
+//!
+//! How the modules follow document 01:
+//! - `field`: "Plan, sets and the field", elements modulo 65521
+//! - `refusal`: the two lists of refusals, each with its number
+//! - `scheme`: the plan, usable sets, and "Keys and messages" as formulas
+//! - `client`: key maker and airfield end, with their refusals in order
+//! - `service`: the pooling service, with its refusals in order
+//! - `stream`: "The stream", bytes to records, records to printed lines
+//! - `text`: records as lines of text, for people
+//! - `random`: a small generator of numbers from a seed
+//! - `material`: streams and cases for tests, made from a seed
+//!
+//! The formulas are those of section 4.3 of Zhao and Sun for large fields,
+//! with the matrix that document 01 fixes: rows at k, columns at -j.
+
+pub mod client;
+pub mod field;
+pub mod material;
+pub mod random;
+pub mod refusal;
+pub mod scheme;
+pub mod service;
+pub mod stream;
+pub mod text;

@@ -1,0 +1,49 @@
+//! Test material from a seed. The same kind, seed and count always give the
+//! same bytes.
+//!
+//! - `rounds`: streams of whole rounds, with the ways a round can go wrong
+//! - `damaged`: streams that try every bound in every phase, and damage
+//! - `keys`: cases for the key maker and the airfield end, as text
+//! - `all_plans`, `plan_by_seed`: every plan there is, one for each seed
+//! - `first_records`, `reply_records`: one airfield's messages as records
+
+pub mod damaged;
+pub mod keys;
+pub mod rounds;
+
+use crate::field::Element;
+use crate::scheme::{Plan, MAX_AIRFIELDS, MAX_BLOCKS};
+use crate::stream::Record;
+
+/// Coprime to the 896 plans, so that seeds in a row meet very unlike plans
+/// and 896 seeds in a row meet them all.
+const PLAN_STRIDE: u64 = 555;
+
+/// Every K, U, T, M within its ranges.
+pub fn all_plans() -> Vec<Plan> {
+    let up_to_eight = || 1..=MAX_AIRFIELDS;
+    up_to_eight()
+        .flat_map(|k| up_to_eight().map(move |u| (k, u)))
+        .flat_map(|(k, u)| up_to_eight().map(move |t| (k, u, t)))
+        .flat_map(|(k, u, t)| (1..=MAX_BLOCKS).map(move |m| [k, u, t, m]))
+        .filter_map(|numbers| Plan::new(numbers).ok())
+        .collect()
+}
+
+pub fn plan_by_seed(seed: u64) -> Plan {
+    let plans = all_plans();
+    let count = plans.len() as u64;
+    plans[(seed % count * PLAN_STRIDE % count) as usize]
+}
+
+/// A first message as records, place by place.
+pub fn first_records(airfield: u8, message: &[Element]) -> Vec<Record> {
+    let record = |(place, &element)| Record::First { airfield, place, element };
+    (0..).zip(message).map(record).collect()
+}
+
+/// A reply as records, block by block.
+pub fn reply_records(airfield: u8, shares: &[Element]) -> Vec<Record> {
+    let record = |(block, &element)| Record::Reply { airfield, block, element };
+    (0..).zip(shares).map(record).collect()
+}

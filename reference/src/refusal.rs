@@ -1,0 +1,42 @@
+//! The refusals of document 01.
+//!
+//! - `Refusal`: one case for each numbered line of the two lists
+//! - `Refusal::number`: the number alone, as it is handed back and printed
+//! - `refuse_if`: a refusal under a condition
+
+#[derive(Clone, Copy, Debug, PartialEq, Eq)]
+pub enum Refusal {
+    PlanRange = 1,
+    Length = 2,
+    NotElement = 3,
+    AirfieldNumber = 4,
+    SetNotUsable = 5,
+    NotInSet = 6,
+    DamagedRecord = 7,
+    PlaceOrBlock = 8,
+    PlanMissingOrRepeated = 11,
+    WrongPhase = 12,
+    AlreadyHeld = 13,
+    NotSurvivor = 14,
+    TooFew = 15,
+    Unexplained = 16,
+    RoundNotAbove = 17,
+    SentOrFresh = 18,
+    OtherSet = 19,
+}
+
+impl Refusal {
+    pub fn number(self) -> u8 {
+        self as u8
+    }
+}
+
+/// `Err(refusal)` if the condition holds, so that a call's refusals read as
+/// a list in the order of document 01.
+pub fn refuse_if(condition: bool, refusal: Refusal) -> Result<(), Refusal> {
+    if condition {
+        Err(refusal)
+    } else {
+        Ok(())
+    }
+}
