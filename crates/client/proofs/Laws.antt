@@ -1,0 +1,123 @@
+-- What several proofs share.
+--   start-taken                          a client that start takes has a good plan and one of its users' numbers
+--   message-fits, message-written        where a first message is taken: the buffer is no longer than figures and key, and the message fills it
+--   Answers, reply-answers, reply-taken, answers-held    what holds where a reply is taken, and that it is taken
+--   each-next, each-end                  a row written place by place: one place more, and all places
+--   start-refused, moved-taken, moved-refused, part-given    what start, first message, reply and part hand back
+-- Assumes nothing.
+use mathlib.Core.Path.{_≡_, refl, sym, ap, _∙_}
+use mathlib.Core.Bool.{true, false}
+use mathlib.Core.List.{List, [], _∷_, _++_, map, map-append}
+use Prim.Native.Nat.{ℕ, zero, suc, _+_, _≤_, _<_}
+use native.Mathlib.Nat.{zero-add}
+use native.Mathlib.Numerals.{add-one}
+use native.Mathlib.Omega.{arith}
+use lib.ListN.{length, getD, take, set}
+use lib.Seq.{take-suc-set, take-all}
+use borrow.Author.Tests.{leb-true, eqb-true, eq-eqb}
+use Rattle.scheme.specs.Scheme as scheme
+use Rattle.scheme.specs.Scheme.{span, each, Arithmetic, elements, places, is-user, in-set, usable, usable-with, key-length, first-message, reply, is-fresh, open-to, start-refusal, message-refusal, reply-refusal, unless, _then_}
+use Rattle.scheme.specs.Good.{Good}
+use Rattle.scheme.proofs.Tests.{both, joined}
+use Rattle.scheme.proofs.Good.{good}
+use Rattle.scheme.proofs.Lists.{span-append}
+use Rattle.scheme.proofs.Refusals.{then-zero, unless-zero}
+use Rattle.plan.specs.declared.Plan.{Plan}
+use Rattle.plan.specs.Plan.{plan-of}
+use Rattle.plan.proofs.Laws.{masks-inside}
+use Rattle.client.specs.declared.Stage.{Stage}
+use Rattle.client.specs.declared.Client.{Client}
+use Rattle.client.specs.declared.Start.the-variants.{Refused}
+use Rattle.client.specs.Client.{answer-refusal, start-answer, moved, has-answered, gives, part-of}
+
+pub start-taken : (p : scheme.Plan) (k : ℕ) → start-refusal p k ≡ 0 → Good p × (1 ≤ k) × (k ≤ p .users)
+unfolding start-refusal is-user
+start-taken p k e =
+    let s = then-zero _ _ e in
+    let u = both _ _ (unless-zero _ _ (s .1)) in
+    (good p (unless-zero _ _ (s .0)), leb-true _ _ (u .0), leb-true _ _ (u .1))
+
+module _ (A : Arithmetic) (p : scheme.Plan) (k : ℕ) (g : scheme.Stage) (ks fs : List ℕ) (out : ℕ) (e : message-refusal A p k g ks fs out ≡ 0) where
+  message-lengths : (length ks ≡ key-length p k) × (length fs ≡ places p) × (out ≡ places p)
+  unfolding message-refusal
+  message-lengths =
+      let l = both _ _ (unless-zero _ _ (then-zero _ _ (then-zero _ _ (then-zero _ _ e .1) .1) .0)) in
+      let m = both _ _ (l .1) in
+      (eqb-true _ _ (l .0), eqb-true _ _ (m .0), eqb-true _ _ (m .1))
+
+  pub message-fits : (out ≤ length fs) × (out ≤ length ks)
+  message-fits = let l = message-lengths in (omega arith, omega (arith, masks-inside p k))
+
+  pub message-written : each (A .add) out fs ks ≡ first-message A p ks fs
+  unfolding first-message
+  message-written = ap (λ (n : ℕ). each (A .add) n fs ks) (message-lengths .2)
+
+-- what test 18 and test 19 do not say of a reply that is taken
+pub record Answers (A : Arithmetic) (p : scheme.Plan) (k : ℕ) (ks : List ℕ) (v : ℕ) : Type 0 where
+  pub begun : start-refusal p k ≡ 0
+  pub long : length ks ≡ key-length p k
+  pub clean : elements A ks ≡ true
+  pub whole : usable p v ≡ true
+  pub member : in-set v k ≡ true
+
+module _ {A : Arithmetic} {p : scheme.Plan} {k : ℕ} {ks : List ℕ} {v : ℕ} where
+  pub reply-answers : (g : scheme.Stage) → reply-refusal A p k g ks v ≡ 0 → Answers A p k ks v
+  unfolding reply-refusal
+  reply-answers g e =
+      let s = then-zero _ _ e in
+      let l = then-zero _ _ (then-zero _ _ (s .1) .1) in
+      let c = then-zero _ _ (l .1) in
+      let u = then-zero _ _ (c .1) in
+      record {
+        begun = s .0;
+        long = eqb-true _ _ (unless-zero _ _ (l .0));
+        clean = unless-zero _ _ (c .0);
+        whole = unless-zero _ _ (u .0);
+        member = unless-zero _ _ (then-zero _ _ (u .1) .0);
+      }
+
+  pub reply-taken : Answers A p k ks v → (g : scheme.Stage) → is-fresh g ≡ false → open-to v g ≡ true → reply-refusal A p k g ks v ≡ 0
+  unfolding reply-refusal unless _then_
+  reply-taken a g f o = simp (a .begun, f, eq-eqb _ _ (a .long), a .clean, a .whole, a .member, o)
+
+  pub answers-held : Answers A p k ks v → usable-with p k v ≡ true
+  unfolding usable-with
+  answers-held a = joined (a .whole) (a .member)
+
+-- ---- a row written place by place
+module _ (f : ℕ → ℕ → ℕ) (xs ys : List ℕ) where
+  each-more : (i : ℕ) → each f (i + 1) xs ys ≡ each f i xs ys ++ (f (getD xs i 0) (getD ys i 0) ∷ [])
+  each-more i =
+      let g : ℕ → ℕ = λ i. f (getD xs i 0) (getD ys i 0) in
+      ap (map g) (span-append i 1 0) ∙ map-append g (span i 0) (span 1 (0 + i)) ∙ ap (λ (n : ℕ). map g (span i 0) ++ (g n ∷ [])) (zero-add i)
+
+  pub each-next : (out : List ℕ) (i : ℕ) → i < length out → take i out ≡ each f i xs ys
+      → take (i + 1) (set out i (f (getD xs i 0) (getD ys i 0))) ≡ each f (i + 1) xs ys
+  each-next out i h e =
+      let x = f (getD xs i 0) (getD ys i 0) in
+      ap (λ (n : ℕ). take n (set out i x)) (add-one i) ∙ take-suc-set out i x h ∙ ap (λ (l : List ℕ). l ++ (x ∷ [])) e ∙ sym (each-more i)
+
+  pub each-end : (out : List ℕ) (n i : ℕ) → length out ≡ n → n ≤ i → i ≤ n → take i out ≡ each f i xs ys → out ≡ each f n xs ys
+  each-end out n i l a b h =
+      let e : i ≡ n = omega arith in
+      sym (take-all n out (omega arith)) ∙ rw e at h
+
+-- ---- what is handed back
+pub start-refused : {n : ℕ} → (n ≡ 0 → ⊥) → (p : Plan) (k : ℕ) → start-answer n p k ≡ Refused n
+unfolding start-answer
+start-refused {n = zero} h p k = absurd (h refl)
+start-refused {n = suc n} h p k = refl
+
+pub moved-taken : {n : ℕ} → n ≡ 0 → (c : Client) (g : Stage) → moved n c g ≡ record { number = 0; client = record { plan = c .plan; user = c .user; stage = g } }
+unfolding moved
+moved-taken e c g = ap (λ (n : ℕ). moved n c g) e
+
+pub moved-refused : {n : ℕ} → (n ≡ 0 → ⊥) → (c : Client) (g : Stage) → moved n c g ≡ record { number = n; client = c }
+unfolding moved
+moved-refused {n = zero} h c g = absurd (h refl)
+moved-refused {n = suc n} h c g = refl
+
+-- the part of a client that has answered the set, where the reply is taken
+pub part-given : (c : Client) (ks : List ℕ) (v : ℕ) → has-answered v (c .stage) ≡ true → answer-refusal c ks v ≡ 0 → part-of c ks v ≡ reply (plan-of (c .plan)) ks (c .user) v
+unfolding part-of gives
+part-given c ks v h e = simp (h, eq-eqb _ _ e)

@@ -1,0 +1,112 @@
+-- Demand 3 speaks of what the calls give.
+--   shown-is-sent   the statement of specs/Shown.antt
+-- Assumes nothing.
+use mathlib.Core.Path.{_≡_, refl, sym, ap, ap₂, _∙_}
+use mathlib.Core.Bool.{true}
+use mathlib.Core.List.{List}
+use Prim.Native.Nat.{ℕ, _≤_}
+use native.Mathlib.Omega.{arith}
+use lib.ListN.{length}
+use borrow.Author.Tests.{le-leb, eq-eqb}
+use Rattle.algebra.specs.Sums.{In}
+use Rattle.scheme.specs.Scheme as scheme
+use Rattle.scheme.specs.Scheme.{span, Arithmetic, sixteen, elements, plan-good, places, is-user, in-set, usable, users-in, list-length, key, key-length, first-message, reply, is-fresh, open-to, start-refusal, key-refusal, message-refusal, unless, _then_}
+use Rattle.scheme.specs.Promise.{shown, admissible, list-good}
+use Rattle.scheme.proofs.Lists.{map-same, span-in, members-in}
+use Rattle.scheme.proofs.Keys.{key-is-long, key-elements}
+use Rattle.scheme.proofs.Told.{list-long, list-elements}
+use Rattle.scheme.proofs.Modular.{sixteen-laws}
+use Rattle.scheme.proofs.Refusals.{written-taken}
+use Rattle.plan.specs.declared.Plan.{Plan}
+use Rattle.plan.specs.Plan.{plan-of}
+use Rattle.client.specs.declared.Stage.the-variants.{Fresh, Sent, Answered}
+use Rattle.client.specs.declared.Client.{Client}
+use Rattle.client.specs.declared.Answer.{Answer}
+use Rattle.client.specs.declared.Start.{Start}
+use Rattle.client.specs.declared.Start.the-variants.{Started}
+use Rattle.client.specs.Client.{stage-of, started, start-answer, has-answered, reply-answer, part-of}
+use Rattle.client.specs.Shown.{Given, client-calls, calls, Shown-is-sent}
+use Rattle.client.proofs.Laws.{Answers, reply-taken, moved-taken, part-given}
+
+-- ---- the calls are taken
+start-begun : (p : scheme.Plan) (k : ℕ) → plan-good p ≡ true → 1 ≤ k → k ≤ p .users → start-refusal p k ≡ 0
+unfolding start-refusal is-user unless _then_
+start-begun p k g lo hi = simp (g, le-leb _ _ lo, le-leb _ _ hi)
+
+key-taken : (A : Arithmetic) (p : scheme.Plan) (k : ℕ) (xs : List ℕ) (out : ℕ) → start-refusal p k ≡ 0 → length xs ≡ list-length p → elements A xs ≡ true
+    → out ≡ key-length p k → key-refusal A p k xs out ≡ 0
+unfolding key-refusal unless _then_
+key-taken A p k xs out s l e o = simp (s, eq-eqb _ _ l, eq-eqb _ _ o, e)
+
+message-taken : (A : Arithmetic) (p : scheme.Plan) (k : ℕ) (ks fs : List ℕ) (out : ℕ) → start-refusal p k ≡ 0 → length ks ≡ key-length p k → elements A ks ≡ true
+    → (length fs ≡ places p) × (elements A fs ≡ true) → out ≡ places p → message-refusal A p k scheme.fresh ks fs out ≡ 0
+unfolding message-refusal is-fresh unless _then_
+message-taken A p k ks fs out s l e f o = simp (s, eq-eqb _ _ l, eq-eqb _ _ (f .0), eq-eqb _ _ o, e, f .1)
+
+-- ---- what they give: one user's calls
+record Ready (p : Plan) (xs : List ℕ) (k : ℕ) (fs ko o : List ℕ) : Type 0 where
+  good-plan : plan-good (plan-of p) ≡ true
+  good-list : list-good sixteen (plan-of p) xs ≡ true
+  user : (1 ≤ k) × (k ≤ p .users)
+  figures : (length fs ≡ places (plan-of p)) × (elements sixteen fs ≡ true)
+  room : (length ko ≡ key-length (plan-of p) k) × (length o ≡ places (plan-of p))
+
+module _ (p : Plan) (xs : List ℕ) (v k : ℕ) (fs ko o : List ℕ) (r : Ready p xs k fs ko o) where
+  abbrev ks : List ℕ
+  ks = key sixteen (plan-of p) xs k
+
+  begun : start-refusal (plan-of p) k ≡ 0
+  begun = start-begun (plan-of p) k (r .good-plan) (r .user .0) (r .user .1)
+
+  long : length ks ≡ key-length (plan-of p) k
+  long = key-is-long sixteen (plan-of p) xs k
+
+  clean : elements sixteen ks ≡ true
+  clean = key-elements sixteen (p .users) (p .threshold) (sixteen-laws (plan-of p) (r .good-plan)) (plan-of p) xs k (list-elements sixteen (plan-of p) xs (r .good-list))
+
+  makes : key-refusal sixteen (plan-of p) k xs (length ko) ≡ 0
+  makes = key-taken sixteen (plan-of p) k xs (length ko) begun (list-long sixteen (plan-of p) xs (r .good-list)) (list-elements sixteen (plan-of p) xs (r .good-list)) (r .room .0)
+
+  sends : message-refusal sixteen (plan-of p) k scheme.fresh ks fs (length o) ≡ 0
+  sends = message-taken sixteen (plan-of p) k ks fs (length o) begun long clean (r .figures) (r .room .1)
+
+  taken : calls p xs fs v k ko o ≡ client-calls (Started (record { plan = p; user = k; stage = Fresh })) ks fs v o
+  unfolding calls started start-answer
+  taken =
+      ap₂ (λ (s : Start) (l : List ℕ). client-calls s l fs v o) (ap (λ (n : ℕ). start-answer n p k) begun) (written-taken makes ks ko)
+
+  key-is-given : calls p xs fs v k ko o .key-given ≡ ks
+  unfolding client-calls
+  key-is-given = ap (λ (g : Given). g .key-given) taken
+
+  message-is-sent : calls p xs fs v k ko o .message ≡ first-message sixteen (plan-of p) ks fs
+  unfolding client-calls stage-of
+  message-is-sent = ap (λ (g : Given). g .message) taken ∙ written-taken sends _ o
+
+  part-is-sent : usable (plan-of p) v ≡ true → in-set v k ≡ true → calls p xs fs v k ko o .part ≡ reply (plan-of p) ks k v
+  unfolding client-calls stage-of is-fresh open-to has-answered
+  part-is-sent u h =
+      let a : Answers sixteen (plan-of p) k ks v = record { begun = begun; long = long; clean = clean; whole = u; member = h } in
+      let c0 : Client = record { plan = p; user = k; stage = Fresh } in
+      let c1 : Client = record { plan = p; user = k; stage = Sent } in
+      let c2 : Client = record { plan = p; user = k; stage = Answered v } in
+      let answers = reply-taken a scheme.sent refl refl in
+      ap (λ (g : Given). g .part) taken ∙ ap (λ (r : Answer). part-of (reply-answer (r .client) ks v .client) ks v) (moved-taken sends c0 Sent)
+      ∙ ap (λ (r : Answer). part-of (r .client) ks v) (moved-taken answers c1 (Answered v))
+      ∙ part-given c2 ks v (eq-eqb v v refl) (reply-taken a (scheme.answered v) refl (eq-eqb v v refl))
+
+pub shown-is-sent : Shown-is-sent
+unfolding Shown-is-sent shown admissible users-in
+shown-is-sent p v c xs x ko o good u ok rows room =
+    let ready : (k : ℕ) → 1 ≤ k → k ≤ p .users → Ready p xs k (x k) (ko k) (o k) = λ k lo hi.
+    record { good-plan = good; good-list = ok; user = (lo, hi); figures = rows k lo hi; room = room k lo hi } in
+    let in-plan : (s k : ℕ) → In k (users-in (plan-of p) s) → Ready p xs k (x k) (ko k) (o k) = λ s k m.
+    let i = members-in (in-set s) (p .users) 1 k m in ready k (i .0) (omega arith) in
+    λ i.
+    record {
+      firsts = map-same (λ k. first-message sixteen (plan-of p) (key sixteen (plan-of p) xs k) (x k)) _ (span (p .users) 1) (λ k m.
+          let l = span-in (p .users) 1 k m in sym (message-is-sent p xs v k (x k) (ko k) (o k) (ready k (l .0) (omega arith)))) i;
+      replies = map-same (λ k. reply (plan-of p) (key sixteen (plan-of p) xs k) k v) _ (users-in (plan-of p) v) (λ k m.
+          sym (part-is-sent p xs v k (x k) (ko k) (o k) (in-plan v k m) u (members-in (in-set v) (p .users) 1 k m .2))) i;
+      keys = map-same (key sixteen (plan-of p) xs) _ (users-in (plan-of p) c) (λ k m. sym (key-is-given p xs v k (x k) (ko k) (o k) (in-plan c k m))) i;
+    }

@@ -1,0 +1,233 @@
+// The airfield end of document 01: it is fresh, or has sent, or has answered one named set, and holds its plan and number.
+//   Stage, Client      the end
+//   Start              what start answers: Refused by 1 or 4, or Started with a fresh end
+//   Answer             what the other calls hand back: 0 or the refusal's number, and the end
+//   Client::start, first_message, reply, part
+// A refused call hands back its number alone: the end and every lent buffer are as before.
+ghost use mathlib.Core.Path.{_≡_};
+ghost use Prim.Native.Nat.{_+_, _*_, _≤_};
+ghost use lib.ListN.{length};
+ghost use Rattle.scheme.specs.Scheme.{each, sixteen, is-fresh, open-to};
+ghost use Rattle.client.specs.Client.{stage-of, started, first-refusal, first-answer, message-left, answer-refusal, reply-answer, has-answered, part-of, part-start};
+use plan::Plan;
+
+pub enum Stage {
+    Fresh,
+    Sent,
+    Answered(u32),
+}
+
+pub struct Client {
+    pub plan: Plan,
+    pub user: u32,
+    pub stage: Stage,
+}
+
+pub enum Start {
+    Refused(u32),
+    Started(Client),
+}
+
+pub struct Answer {
+    pub number: u32,
+    pub client: Client,
+}
+
+fn is_fresh(stage: Stage) -> bool
+    ensures { λ r. ⌜ r ≡ is-fresh (stage-of stage) ⌝ }
+{
+    match stage {
+        Stage::Fresh => true,
+        Stage::Sent => false,
+        Stage::Answered(_) => false,
+    }
+}
+
+fn open_to(set: u32, stage: Stage) -> bool
+    ensures { λ r. ⌜ r ≡ open-to set (stage-of stage) ⌝ }
+{
+    match stage {
+        Stage::Fresh => true,
+        Stage::Sent => true,
+        Stage::Answered(other) => other == set,
+    }
+}
+
+fn has_answered(set: u32, stage: Stage) -> bool
+    ensures { λ r. ⌜ r ≡ has-answered set stage ⌝ }
+{
+    match stage {
+        Stage::Fresh => false,
+        Stage::Sent => false,
+        Stage::Answered(other) => other == set,
+    }
+}
+
+// Figures plus masks, place by place: the first elements of a key are its masks.
+fn add_masks(figures: &[u16], key: &[u16], out: &mut [u16])
+    requires { ⌜ (length (now out) ≤ length (now figures)) × (length (now out) ≤ length (now key)) ⌝ }
+    ensures { λ r. ⌜ now (out .exit) ≡ each (sixteen .add) (length (now (out .entry))) (now (figures .entry)) (now (key .entry)) ⌝ }
+{
+    let mut i = 0;
+    while i < out.len() {
+        out[i] = element::add(figures[i], key[i]);
+        i += 1;
+    }
+}
+
+impl Client {
+    // The modulus and the limits of document 01.
+    pub const Q: u32 = element::Q;
+
+    pub const LEAST_USERS: u32 = plan::LEAST_USERS;
+
+    pub const MOST_USERS: u32 = plan::MOST_USERS;
+
+    pub const MOST_BLOCKS: u32 = plan::MOST_BLOCKS;
+
+    pub const MOST_PLACES: usize = plan::MOST_PLACES;
+
+    // A fresh end for a plan and a number: 1, 4.
+    pub fn start(plan: Plan, user: u32) -> Start
+        ensures { λ r. ⌜ r ≡ started plan user ⌝ }
+    {
+        let number = plan::start_refusal(plan, user);
+        if number != 0 {
+            return Start::Refused(number);
+        }
+        let client = Client {
+            plan,
+            user,
+            stage: Stage::Fresh,
+        };
+        Start::Started(client)
+    }
+
+    // 18, 2, 3, of a first message into a buffer of `room` elements; 1 and 4 only of an end that start has not made.
+    fn first_refusal(self, key: &[u16], figures: &[u16], room: usize) -> u32
+        ensures { λ r. ⌜ r ≡ first-refusal self (now (key .entry)) (now (figures .entry)) room ⌝ }
+    {
+        let plan = self.plan;
+        let user = self.user;
+        let stage = self.stage;
+        let number = plan::start_refusal(plan, user);
+        if number != 0 {
+            return number;
+        }
+        if !is_fresh(stage) {
+            return 18;
+        }
+        if key.len() != plan::key_length(plan, user) {
+            return 2;
+        }
+        let places = plan::places_of(plan);
+        if figures.len() != places {
+            return 2;
+        }
+        if room != places {
+            return 2;
+        }
+        if !element::all_elements(key) {
+            return 3;
+        }
+        if !element::all_elements(figures) {
+            return 3;
+        }
+        0
+    }
+
+    // "First message: figures plus S, place by place."
+    pub fn first_message(mut self, key: &[u16], figures: &[u16], out: &mut [u16]) -> Answer
+        ensures answer { λ r. ⌜ r ≡ first-answer self (now (key .entry)) (now (figures .entry)) (length (now (out .entry))) ⌝ }
+        ensures left { λ r. ⌜ now (out .exit) ≡ message-left self (now (key .entry)) (now (figures .entry)) (now (out .entry)) ⌝ }
+    {
+        let refusal = self.first_refusal(key, figures, out.len());
+        if refusal != 0 {
+            return Answer {
+                number: refusal,
+                client: self,
+            };
+        }
+        add_masks(figures, key, out);
+        let plan = self.plan;
+        let user = self.user;
+        let client = Client {
+            plan,
+            user,
+            stage: Stage::Sent,
+        };
+        Answer { number: 0, client }
+    }
+
+    // 18, 2, 3, 5, 6, 19, of a reply; 1 and 4 only of an end that start has not made.
+    fn reply_refusal(self, key: &[u16], set: u32) -> u32
+        ensures { λ r. ⌜ r ≡ answer-refusal self (now (key .entry)) set ⌝ }
+    {
+        let plan = self.plan;
+        let user = self.user;
+        let stage = self.stage;
+        let number = plan::start_refusal(plan, user);
+        if number != 0 {
+            return number;
+        }
+        if is_fresh(stage) {
+            return 18;
+        }
+        if key.len() != plan::key_length(plan, user) {
+            return 2;
+        }
+        if !element::all_elements(key) {
+            return 3;
+        }
+        if !plan::is_usable(plan, set) {
+            return 5;
+        }
+        if !plan::holds(set, user) {
+            return 6;
+        }
+        if !open_to(set, stage) {
+            return 19;
+        }
+        0
+    }
+
+    // The reply to an announced set: the end has answered it, and `part` gives the shares.
+    pub fn reply(mut self, key: &[u16], set: u32) -> Answer
+        ensures { λ r. ⌜ r ≡ reply-answer self (now (key .entry)) set ⌝ }
+    {
+        let number = self.reply_refusal(key, set);
+        if number != 0 {
+            return Answer {
+                number,
+                client: self,
+            };
+        }
+        let plan = self.plan;
+        let user = self.user;
+        let client = Client {
+            plan,
+            user,
+            stage: Stage::Answered(set),
+        };
+        Answer { number: 0, client }
+    }
+
+    // "Handed back as the very part of the lent key where they lie": the M shares for the set that the end has answered, else nothing.
+    pub fn part(self, key: &[u16], set: u32) -> &[u16]
+        ensures shares { λ r. ⌜ now r ≡ part-of self (now (key .entry)) set ⌝ }
+        ensures place { λ r. ⌜ r .ptr ≡ (key .entry .ptr .0, key .entry .ptr .1 + part-start self (now (key .entry)) set * 2) ⌝ }
+    {
+        let plan = self.plan;
+        let user = self.user;
+        let stage = self.stage;
+        if !has_answered(set, stage) {
+            return &key[0..0];
+        }
+        if self.reply_refusal(key, set) != 0 {
+            return &key[0..0];
+        }
+        let start = plan::reply_start(plan, user, set);
+        let end = start + plan.blocks as usize;
+        &key[start..end]
+    }
+}

@@ -1,0 +1,69 @@
+-- Where masks, sums, noise and shares lie.
+--   row-in, row-next                              row k, from 0, of n rows
+--   rows-in                                       the masks of all users in the random list
+--   noise-next, noise-set, noise-skip, noise-room the noise of the next block, of the next set
+--   reply-set, reply-skip                         the shares for the next set that holds a user
+-- Assumes nothing.
+use mathlib.Core.Path.{_≡_, sym, ap, _∙_}
+use mathlib.Core.Bool.{true, false}
+use Prim.Native.Nat.{ℕ, _+_, _*_, _^_, _≤_, _<_}
+use native.Mathlib.Nat.{suc-mul, mul-le-mul-right, add-assoc, add-zero, mul-assoc}
+use native.Mathlib.Numerals.{add-one}
+use native.Mathlib.Omega.{arith}
+use lib.ListN.{length}
+use Rattle.scheme.specs.Scheme.{rank, Plan, places, usable, usable-with, usable-sets, list-length, noise-start, reply-start}
+use Rattle.scheme.proofs.Lists.{rank-step, rank-lt}
+use Rattle.scheme.proofs.Sets.{usable-below}
+
+pub row-in : (k n row : ℕ) → k < n → k * row + row ≤ n * row
+row-in k n row h = omega (arith, mul-le-mul-right row h, suc-mul k row)
+
+pub row-next : (k row : ℕ) → k * row + row ≡ (k + 1) * row
+row-next k row = sym (ap (λ (x : ℕ). x * row) (add-one k) ∙ suc-mul k row)
+
+pub rows-in : (p : Plan) → p .users * places p ≤ list-length p
+unfolding list-length
+rows-in p = omega arith
+
+-- ---- noise
+module _ (p : Plan) where
+  noise-first : (v : ℕ) → noise-start p v 0 ≡ p .users * places p + rank (usable p) v * (p .blocks * p .collusion)
+  unfolding noise-start
+  noise-first v = rw (add-zero, mul-assoc)
+
+  module _ (v : ℕ) where
+    pub noise-next : (b : ℕ) → noise-start p v b + p .collusion ≡ noise-start p v (b + 1)
+    unfolding noise-start
+    noise-next b =
+        let m : ℕ = rank (usable p) v * p .blocks in
+        add-assoc _ _ _
+        ∙ ap (λ (n : ℕ). p .users * places p + n) (row-next (m + b) (p .collusion) ∙ ap (λ (n : ℕ). n * p .collusion) (add-assoc m b 1))
+
+    pub noise-set : usable p v ≡ true → noise-start p v 0 + p .blocks * p .collusion ≡ noise-start p (v + 1) 0
+    noise-set u =
+        let s : ℕ = p .blocks * p .collusion in
+        omega (arith, noise-first v, noise-first (v + 1), row-next (rank (usable p) v) s, ap (λ (n : ℕ). n * s) (rw u at (rank-step (usable p) v)))
+
+    pub noise-skip : usable p v ≡ false → noise-start p v 0 ≡ noise-start p (v + 1) 0
+    noise-skip u =
+        let s : ℕ = p .blocks * p .collusion in
+        omega (arith, noise-first v, noise-first (v + 1), ap (λ (n : ℕ). n * s) (rw (u, add-zero) at (rank-step (usable p) v)))
+
+    pub noise-room : usable p v ≡ true → noise-start p v 0 + p .blocks * p .collusion ≤ list-length p
+    unfolding list-length usable-sets
+    noise-room u =
+        let n : ℕ = length (usable-sets p) in
+        let l = rank-lt (usable p) (2 ^ p .users) v (usable-below p v u) u in
+        omega (arith, noise-first v, row-in (rank (usable p) v) n (p .blocks * p .collusion) l, mul-assoc n (p .blocks) (p .collusion))
+
+-- ---- shares
+module _ (p : Plan) (k v : ℕ) where
+  pub reply-set : usable-with p k v ≡ true → reply-start p k v + p .blocks ≡ reply-start p k (v + 1)
+  unfolding reply-start
+  reply-set u =
+      let t = usable-with p k in
+      omega (arith, row-next (rank t v) (p .blocks), ap (λ (n : ℕ). n * p .blocks) (rw u at (rank-step t v)))
+
+  pub reply-skip : usable-with p k v ≡ false → reply-start p k v ≡ reply-start p k (v + 1)
+  unfolding reply-start
+  reply-skip u = ap (λ (n : ℕ). places p + n * p .blocks) (sym (rw (u, add-zero) at (rank-step (usable-with p k) v)))

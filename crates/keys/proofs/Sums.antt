@@ -1,0 +1,99 @@
+-- Sums modulo 65521 that a loop builds up one summand a turn.
+--   sum-small                                      a sum is reduced
+--   members-take, members-skip                     over the numbers that pass a test, one number more
+--   dotted-none, dotted-more, dot-same, dot-join   over the columns of a share
+-- Assumes nothing.
+use mathlib.Core.Path.{_≡_, refl, sym, ap, ap₂, _∙_}
+use mathlib.Core.Bool.{Bool, true, false}
+use mathlib.Core.List.{List, [], _∷_, _++_}
+use Prim.Native.Nat.{ℕ, zero, suc, _+_, _*_, _%_, _≤_, _<_}
+use native.Mathlib.Nat.{add-comm, add-zero, zero-add, add-suc, add-assoc, mod-add-mod, add-mod-mod, mod-eq-of-lt, mod-lt}
+use native.Mathlib.Omega.{arith}
+use lib.Dec.{lit<}
+use Rattle.algebra.specs.Sums.{In}
+use Rattle.algebra.proofs.Residue.{mul-mod-mod}
+use Rattle.scheme.specs.Scheme.{span, keep, members, q, sixteen, sum, row-value}
+use Rattle.scheme.proofs.Lists.{span-append, span-in, members-append}
+use Rattle.scheme.proofs.Sums.{sum-same}
+use Rattle.keys.specs.Parts.{most-product, dot, Dotted}
+
+pub sum-small : (l : List ℕ) (f : ℕ → ℕ) → sum sixteen l f < q
+unfolding sum
+sum-small [] f = lit< tt
+sum-small (k ∷ l) f = mod-lt _ (lit< tt)
+
+sum-append : (l m : List ℕ) (f : ℕ → ℕ) → sum sixteen (l ++ m) f ≡ (sum sixteen l f + sum sixteen m f) % q
+unfolding sum
+sum-append [] m f = sym (ap (λ (n : ℕ). n % q) (zero-add _) ∙ mod-eq-of-lt (sum-small m f))
+sum-append (k ∷ l) m f = rw (sum-append l m f, add-mod-mod, mod-add-mod, add-assoc)
+
+-- summands count modulo q
+sum-reduced : (l : List ℕ) (f : ℕ → ℕ) → sum sixteen l (λ i. f i % q) ≡ sum sixteen l f
+unfolding sum
+sum-reduced [] f = refl
+sum-reduced (k ∷ l) f = rw (sum-reduced l f, mod-add-mod)
+
+sum-shift : (n s k : ℕ) (f : ℕ → ℕ) → sum sixteen (span n (s + k)) f ≡ sum sixteen (span n k) (λ i. f (s + i))
+unfolding sum
+sum-shift zero s k f = refl
+sum-shift (suc n) s k f =
+    ap (λ (x : ℕ). (f (s + k) + x) % q) (ap (λ (j : ℕ). sum sixteen (span n j) f) (sym (add-suc s k)) ∙ sum-shift n s (suc k) f)
+
+-- ---- those that pass a test: acc is the sum so far
+sum-one : (k : ℕ) (f : ℕ → ℕ) → sum sixteen (k ∷ []) f ≡ f k % q
+unfolding sum
+sum-one k f = ap (λ (x : ℕ). x % q) (add-zero (f k))
+
+module _ (t : ℕ → Bool) (n : ℕ) (f : ℕ → ℕ) (acc : ℕ) (so-far : acc % q ≡ sum sixteen (members t n 1) f) where
+  more : sum sixteen (members t (n + 1) 1) f ≡ (acc + sum sixteen (keep (t (n + 1)) (n + 1) []) f) % q
+  more =
+      ap (λ (l : List ℕ). sum sixteen l f) (members-append t n 1 1) ∙ sum-append (members t n 1) _ f
+      ∙ rw (← so-far, mod-add-mod, add-comm 1 n)
+
+  pub members-take : t (n + 1) ≡ true → (acc + f (n + 1)) % q ≡ sum sixteen (members t (n + 1) 1) f
+  members-take e = sym (more ∙ rw (e, sum-one, add-mod-mod))
+
+  pub members-skip : t (n + 1) ≡ false → acc % q ≡ sum sixteen (members t (n + 1) 1) f
+  unfolding sum
+  members-skip e = sym (more ∙ rw (e, add-zero))
+
+-- ---- columns
+pub dotted-none : (k s : ℕ) (f : ℕ → ℕ) → Dotted k s 0 f 0
+unfolding dot sum
+dotted-none k s f = record { small = omega arith; right = refl }
+
+dot-more : (k s i : ℕ) (f : ℕ → ℕ) → dot k s (i + 1) f ≡ (dot k s i f + sixteen .coefficient k (s + i) * f i) % q
+unfolding dot
+dot-more k s i f =
+    ap (λ (l : List ℕ). sum sixteen l (λ j. sixteen .coefficient k (s + j) * f j)) (span-append i 1 0) ∙ sum-append (span i 0) _ _
+    ∙ rw (sum-one, add-mod-mod, zero-add i)
+
+pub dotted-more : {k s i : ℕ} {f : ℕ → ℕ} {total c x : ℕ} → Dotted k s i f total → c ≡ sixteen .coefficient k (s + i) → (x ≡ c * f i) × (x ≤ most-product) →
+    Dotted k s (i + 1) f (total + x)
+dotted-more {k} {s} {i} {f} {total} d e h =
+    record {
+      small = omega (arith, d .small);
+      right = sym (dot-more k s i f ∙ rw (← d .right, mod-add-mod, ← e, ← h .0));
+    }
+
+-- columns count modulo q
+pub dot-same : (k s n : ℕ) (f g : ℕ → ℕ) → ((i : ℕ) → i < n → f i % q ≡ g i % q) → dot k s n f ≡ dot k s n g
+unfolding dot
+dot-same k s n f g h =
+    sym (sum-reduced (span n 0) (λ i. c i * f i)) ∙ sum-same sixteen (span n 0) (λ i. c i * f i % q) (λ i. c i * g i % q) same
+    ∙ sum-reduced (span n 0) (λ i. c i * g i)
+  where
+    c : ℕ → ℕ
+    c i = sixteen .coefficient k (s + i)
+
+    same : (i : ℕ) → In i (span n 0) → c i * f i % q ≡ c i * g i % q
+    same i m =
+        sym (mul-mod-mod (c i) (f i) q) ∙ ap (λ (x : ℕ). c i * x % q) (h i (omega (arith, span-in n 0 i m .1))) ∙ mul-mod-mod (c i) (g i) q
+
+-- the first columns and the others
+pub dot-join : (k n m : ℕ) (f : ℕ → ℕ) → row-value sixteen (n + m) k f ≡ (dot k 1 n (λ i. f (1 + i)) + dot k (1 + n) m (λ i. f (1 + n + i))) % q
+unfolding dot row-value
+dot-join k n m f =
+    let g : ℕ → ℕ = λ j. sixteen .coefficient k j * f j in
+    ap (λ (l : List ℕ). sum sixteen l g) (span-append n m 1) ∙ sum-append (span n 1) (span m (1 + n)) g
+    ∙ ap₂ (λ (x y : ℕ). (x + y) % q) (sum-shift n 1 0 g) (ap (λ (s : ℕ). sum sixteen (span m s) g) (sym (add-zero (1 + n))) ∙ sum-shift m (1 + n) 0 g)

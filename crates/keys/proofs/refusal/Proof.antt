@@ -1,0 +1,75 @@
+-- `keys::refusal` meets its contract: each return is the definition under the tests that led there.
+use mathlib.Core.Path.{_≡_, sym, _∙_}
+use native.Mathlib.Omega.{arith}
+use lib.ListN.{length}
+use borrow.Author.Tests.{eq-eqb, ne-eqb, not-true, not-false}
+use borrow.Author.Needs.{needs}
+use Rattle.scheme.specs.Scheme.{_then_, unless, start-refusal, key-refusal, list-length, key-length}
+use Rattle.scheme.proofs.Refusals.{then-refused}
+use Rattle.plan.specs.Plan.{plan-of}
+use Rattle.keys.proofs.Accepted.{started}
+use Rattle.keys.proofs.refusal.Statement.{statement}
+use Rattle.keys.proofs.refusal.Tie as tie
+
+-- the start is not refused
+start : (c : tie.Else1) → start-refusal (plan-of (c .before .before .before .args .plan)) (c .before .before .before .args .user) ≡ 0
+start c = sym (c .before .start-refusal .ensures) ∙ c .if1 .left
+
+-- the list, and the buffer, has the right length
+list-long : (c : tie.Else2) → length (c .before .before .before .before .before .args .random .now) ≡ list-length (plan-of (c .before .before .before .before .before .args .plan))
+list-long c = c .if2 .left ∙ c .before .list-length .ensures .0
+
+out-long : (c : tie.Else3) → let a = c .before .before .before .before .before .before .before .args in a .out ≡ key-length (plan-of (a .plan)) (a .user)
+out-long c = c .if3 .left ∙ c .before .key-length .ensures .0
+
+start-refusal-requires : tie.Need-start-refusal-requires
+start-refusal-requires c κs = search needs
+
+returns : tie.Need-returns
+unfolding key-refusal
+returns c = c .before .start-refusal .ensures ∙ sym (then-refused (λ e. c .if1 .taken (c .before .start-refusal .ensures ∙ e)) _)
+
+list-length-requires : tie.Need-list-length-requires
+list-length-requires c κs = started _ _ (start c) .0
+
+returns-2 : tie.Need-returns-2
+unfolding key-refusal _then_ unless
+returns-2 c = rw (start (c .before .before), ne-eqb _ _ (λ e. c .if2 .taken (e ∙ sym (c .before .list-length .ensures .0))))
+
+key-length-requires : tie.Need-key-length-requires
+key-length-requires c κs =
+    let g = started _ _ (start (c .before .before)) in
+    (g .0, g .1, omega (arith, g .2, g .0 .users-high))
+
+returns-3 : tie.Need-returns-3
+unfolding key-refusal _then_ unless
+returns-3 c = rw (start (c .before .before .before .before), eq-eqb _ _ (list-long (c .before .before)), ne-eqb _ _ (λ e. c .if3 .taken (e ∙ sym (c .before .key-length .ensures .0))))
+
+all-elements-requires : tie.Need-all-elements-requires
+all-elements-requires c κs = search needs
+
+returns-4 : tie.Need-returns-4
+unfolding key-refusal _then_ unless
+returns-4 c =
+    let t = c .before .before in
+    rw (start (t .before .before .before .before), eq-eqb _ _ (list-long (t .before .before)), eq-eqb _ _ (out-long t), sym (c .before .all-elements .ensures) ∙ not-true _ (c .if4 .taken))
+
+returns-5 : tie.Need-returns-5
+unfolding key-refusal _then_ unless
+returns-5 c =
+    let t = c .before .before in
+    rw (start (t .before .before .before .before), eq-eqb _ _ (list-long (t .before .before)), eq-eqb _ _ (out-long t), sym (c .before .all-elements .ensures) ∙ not-false _ (c .if4 .left))
+
+pub refusal-spec : {M : Type 1} → statement M
+refusal-spec =
+    tie.close
+    (tie.spec
+    start-refusal-requires
+    returns
+    list-length-requires
+    returns-2
+    key-length-requires
+    returns-3
+    all-elements-requires
+    returns-4
+    returns-5)
