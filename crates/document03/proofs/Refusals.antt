@@ -1,4 +1,5 @@
 -- Refusals: ours are document 03's.
+--   refuse, refuse-last, refuse-user            one test of a chain, the last, and that of an airfield's number
 --   is-user-same, fresh-same, open-same         the tests of an airfield's number and of a stage
 --   start-refusal-same .. part-refusal-same     the numbers of start, key maker, first message and reply
 -- Assumes nothing.
@@ -19,12 +20,12 @@ use Rattle.document03.proofs.Sets.{plan-good-same, places-same, in-set-
 use Rattle.document03.proofs.Shown.{elements-same}
 
 -- ---- a chain of refusals: cond .. and ours by then and unless
-refuse : (n : ℕ) {a b : Bool} {x y : ℕ} → a ≡ b → x ≡ y → cond (not a) (suc n) x ≡ (unless b (suc n) then y)
+pub refuse : (n : ℕ) {a b : Bool} {x y : ℕ} → a ≡ b → x ≡ y → cond (not a) (suc n) x ≡ (unless b (suc n) then y)
 unfolding _then_ unless
 refuse n {b = true} e d = rw e d
 refuse n {b = false} e d = rw e
 
-refuse-last : (n : ℕ) {a b : Bool} → a ≡ b → cond a 0 (suc n) ≡ unless b (suc n)
+pub refuse-last : (n : ℕ) {a b : Bool} → a ≡ b → cond a 0 (suc n) ≡ unless b (suc n)
 unfolding unless
 refuse-last n {b = true} e = rw e
 refuse-last n {b = false} e = rw e
@@ -72,7 +73,7 @@ open-same (suc (suc w)) v h =
     rw (eqb·suc-suc (suc w) 0, eqb·suc-zero w) (ap (eqb (suc (suc w))) e ∙ eqb·suc-suc (suc w) (suc v) ∙ eqb·suc-suc w v)
 
 -- ---- the numbers
-refuse-user : (p : D.Plan) (k : ℕ) {x y : ℕ} → x ≡ y → cond (eqb k 0 || ltb (p .k) k) 4 x ≡ (unless (is-user (our-plan p) k) 4 then y)
+pub refuse-user : (p : D.Plan) (k : ℕ) {x y : ℕ} → x ≡ y → cond (eqb k 0 || ltb (p .k) k) 4 x ≡ (unless (is-user (our-plan p) k) 4 then y)
 refuse-user p k {x} d = ap (λ (t : Bool). cond t 4 x) (is-user-same p k) ∙ refuse 3 refl d
 
 pub start-refusal-same : (p : D.Plan) (k : ℕ) → E.start-refusal p k ≡ start-refusal (our-plan p) k

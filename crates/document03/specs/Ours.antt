@@ -1,11 +1,18 @@
 -- Our words for document 03's.
---   our-plan, plan-of-numbers    our plan of a plan of document 03, and of K, U, T and M
---   stage-of-number              our stage of an end's number: 0 fresh, 1 sent, else 2 and the set answered
---   left                         what a call leaves: the new value, or after a refusal the old one
+--   our-plan, plan-of-numbers      our plan of a plan of document 03, and of K, U, T and M
+--   stage-of-number                our stage of an end's number: 0 fresh, 1 sent, else 2 and the set answered
+--   left                           what a call leaves: the new value, or after a refusal the old one
+--   our-phase                      our phase of a number: 0 no plan, 2 gathering, 3 replying, all others idle
+--   our-held, our-state            the elements held as a function; our state of the service
+--   our-record, our-answer         our records, and our answers of document 03's lines
 -- Assumes nothing: these are definitions.
+use mathlib.Core.List.{List, [], _∷_}
+use mathlib.Core.Option.{Option}
 use Prim.Native.Nat.{ℕ, zero, suc}
 use Rattle.scheme.specs.Scheme.{Plan, Stage, fresh, sent, answered}
+use Rattle.scheme.specs.Service.{Phase, unplanned, idle, gathering, replying, State, nothing, with-element, Record, plan-record, open-record, first-record, close-record, reply-record, finish-record, Answer, silent, planned, opened, closed, totalled, refused}
 use Rattle.document03.specs.Scheme as D
+use Rattle.document03.specs.Service as S
 
 abbrev pub plan-of-numbers : (k u t m : ℕ) → Plan
 plan-of-numbers k u t m = record { users = k; threshold = u; collusion = t; blocks = m }
@@ -21,3 +28,43 @@ stage-of-number (suc (suc v)) = answered v
 unfoldable pub left : {A : Type 0} → (refusal : ℕ) → (new old : A) → A
 left zero new old = new
 left (suc n) new old = old
+
+-- ---- the service
+unfoldable pub our-phase : ℕ → Phase
+our-phase zero = unplanned
+our-phase (suc zero) = idle
+our-phase (suc (suc zero)) = gathering
+our-phase (suc (suc (suc zero))) = replying
+our-phase (suc (suc (suc (suc n)))) = idle
+
+-- the latest element of an airfield's place counts
+unfoldable pub our-held : List S.Held → (k at : ℕ) → Option ℕ
+our-held [] = nothing
+our-held (h ∷ hs) = with-element (h .k) (h .at) (h .value) (our-held hs)
+
+abbrev pub our-state : S.State → State
+our-state s =
+    record {
+      phase = our-phase (s .phase);
+      plan = our-plan (s .plan-of);
+      round = s .round;
+      survivors = s .survivors;
+      firsts = our-held (s .firsts);
+      replies = our-held (s .replies);
+    }
+
+unfoldable pub our-record : S.Record → Record
+our-record (S.a-plan p) = plan-record (our-plan p)
+our-record (S.open-round r) = open-record r
+our-record (S.first-element k i x) = first-record k i x
+our-record S.close-round = close-record
+our-record (S.reply-element k b x) = reply-record k b x
+our-record S.finish-round = finish-record
+
+unfoldable pub our-answer : S.Line → Answer
+our-answer S.silent = silent
+our-answer (S.told-plan p) = planned (our-plan p)
+our-answer (S.told-open r) = opened r
+our-answer (S.told-close r v) = closed r v
+our-answer (S.told-total r l) = totalled r l
+our-answer (S.refused n) = refused n

@@ -1,0 +1,155 @@
+-- The service's state: what ours holds is what document 03's holds.
+--   held-same, held-value-same                  one element
+--   complete-same, gathered-same, replied-same  the airfields with all their elements held, as a set
+--   planned-same, gathering-same, replying-same the tests of a phase
+--   refusal-same                                the numbers of all records
+-- Assumes nothing.
+use mathlib.Core.Path.{_≡_, refl, sym, ap, ap₂, _∙_}
+use mathlib.Core.Bool.{Bool, true, false, _&&_, _||_, not, cond}
+use mathlib.Core.List.{List, [], _∷_}
+use mathlib.Core.Option.{Option, some}
+use Prim.Native.Nat.{ℕ, zero, suc, _+_, _-_, _^_, _≤_}
+use native.Mathlib.Decide.{decLe, ℕ-discrete}
+use native.Mathlib.Omega.{arith}
+use borrow.Author.Tests.{le-ltb, lt-ltb, le-leb, lt-leb, eq-eqb, ne-eqb}
+use lib.Dec.{ltb, leb, eqb}
+use Rattle.scheme.specs.Scheme.{span, q, sixteen, places, ones, _then_, unless}
+use Rattle.scheme.specs.Totals.{all-of}
+use Rattle.scheme.specs.Service.{has-plan, is-gathering, is-replying, is-held, element-of, with-element, set-of, complete-set, gathered, replied, refusal}
+use Rattle.document03.specs.Ours.{our-plan, our-phase, our-held, our-state, our-record}
+use Rattle.document03.specs.Scheme as D
+use Rattle.document03.specs.Service as S
+use Rattle.document03.proofs.Sets.{plan-good-same, places-same, in-set-same, ones-same}
+use Rattle.document03.proofs.Refusals.{refuse, refuse-last, refuse-user}
+
+-- ---- one element
+eqb-sym : (a b : ℕ) → eqb a b ≡ eqb b a
+eqb-sym a b = pick (ℕ-discrete a b)
+  where
+    pick : Dec (a ≡ b) → eqb a b ≡ eqb b a
+    pick (yes e) = eq-eqb a b e ∙ sym (eq-eqb b a (sym e))
+    pick (no h) = ne-eqb a b h ∙ sym (ne-eqb b a (λ e. h (sym e)))
+
+here-same : (h : S.Held) (k i : ℕ) → (eqb (h .k) k && eqb (h .at) i) ≡ (eqb k (h .k) && eqb i (h .at))
+here-same h k i = ap₂ (λ (a b : Bool). a && b) (eqb-sym (h .k) k) (eqb-sym (h .at) i)
+
+is-held-cond : (b : Bool) (x : ℕ) (o : Option ℕ) → is-held (cond b (some x) o) ≡ (b || is-held o)
+unfolding is-held
+is-held-cond true x o = refl
+is-held-cond false x o = refl
+
+element-cond : (b : Bool) (x : ℕ) (o : Option ℕ) → element-of (cond b (some x) o) ≡ cond b x (element-of o)
+unfolding element-of
+element-cond true x o = refl
+element-cond false x o = refl
+
+pub held-same : (k i : ℕ) (hs : List S.Held) → S.held k i hs ≡ is-held (our-held hs k i)
+unfolding S.held our-held is-held with-element
+held-same k i [] = refl
+held-same k i (h ∷ hs) = ap₂ (λ (a b : Bool). a || b) (here-same h k i) (held-same k i hs) ∙ sym (is-held-cond (eqb k (h .k) && eqb i (h .at)) (h .value) (our-held hs k i))
+
+pub held-value-same : (k i : ℕ) (hs : List S.Held) → S.held-value k i hs ≡ element-of (our-held hs k i)
+unfolding S.held-value our-held element-of with-element
+held-value-same k i [] = refl
+held-value-same k i (h ∷ hs) =
+    ap₂ (λ (a : Bool) (x : ℕ). cond a (h .value) x) (here-same h k i) (held-value-same k i hs) ∙ sym (element-cond (eqb k (h .k) && eqb i (h .at)) (h .value) (our-held hs k i))
+
+-- ---- the airfields with all their elements held
+all-held-same : (n i k : ℕ) (hs : List S.Held) → S.all-held n i k hs ≡ all-of (λ j. is-held (our-held hs k j)) (span n i)
+unfolding S.all-held all-of
+all-held-same zero i k hs = refl
+all-held-same (suc n) i k hs = ap₂ (λ (a b : Bool). a && b) (held-same k i hs) (all-held-same n (suc i) k hs)
+
+complete-from-same : (n k e : ℕ) (hs : List S.Held) → S.complete-from n k e hs ≡ set-of (λ k. all-of (λ i. is-held (our-held hs k i)) (span e 0)) n k
+unfolding S.complete-from set-of
+complete-from-same zero k e hs = refl
+complete-from-same (suc n) k e hs =
+    ap₂ (λ (b : Bool) (v : ℕ). cond b (2 ^ (k - 1)) 0 + v) (all-held-same e 0 k hs) (complete-from-same n (suc k) e hs)
+
+pub complete-same : (p : D.Plan) (e : ℕ) (hs : List S.Held) → S.complete-from (p .k) 1 e hs ≡ complete-set (our-plan p) (our-held hs) e
+unfolding complete-set
+complete-same p e hs = complete-from-same (p .k) 1 e hs
+
+pub gathered-same : (s : S.State) → S.complete-from (s .plan-of .k) 1 (D.places (s .plan-of)) (s .firsts) ≡ gathered (our-state s)
+unfolding gathered
+gathered-same s =
+    ap (λ (n : ℕ). S.complete-from (s .plan-of .k) 1 n (s .firsts)) (places-same (s .plan-of)) ∙ complete-same (s .plan-of) (places (our-plan (s .plan-of))) (s .firsts)
+
+pub replied-same : (s : S.State) → S.replied s ≡ replied (our-state s)
+unfolding S.replied replied
+replied-same s = complete-same (s .plan-of) (s .plan-of .m) (s .replies)
+
+-- ---- phases
+pub planned-same : (n : ℕ) → eqb n 0 ≡ not (has-plan (our-phase n))
+unfolding our-phase has-plan
+planned-same zero = refl
+planned-same (suc zero) = refl
+planned-same (suc (suc zero)) = refl
+planned-same (suc (suc (suc zero))) = refl
+planned-same (suc (suc (suc (suc n)))) = ne-eqb (suc (suc (suc (suc n)))) 0 (λ e. omega arith)
+
+pub gathering-same : (n : ℕ) → eqb n 2 ≡ is-gathering (our-phase n)
+unfolding our-phase is-gathering
+gathering-same zero = refl
+gathering-same (suc zero) = refl
+gathering-same (suc (suc zero)) = refl
+gathering-same (suc (suc (suc zero))) = refl
+gathering-same (suc (suc (suc (suc n)))) = ne-eqb (suc (suc (suc (suc n)))) 2 (λ e. omega arith)
+
+pub replying-same : (n : ℕ) → eqb n 3 ≡ is-replying (our-phase n)
+unfolding our-phase is-replying
+replying-same zero = refl
+replying-same (suc zero) = refl
+replying-same (suc (suc zero)) = refl
+replying-same (suc (suc (suc zero))) = refl
+replying-same (suc (suc (suc (suc n)))) = ne-eqb (suc (suc (suc (suc n)))) 3 (λ e. omega arith)
+
+-- ---- tests that are turned round
+leb-not : (a b : ℕ) → leb a b ≡ not (ltb b a)
+leb-not a b = pick (decLe a b)
+  where
+    pick : Dec (a ≤ b) → leb a b ≡ not (ltb b a)
+    pick (yes h) = le-leb a b h ∙ sym (ap not (le-ltb b a h))
+    pick (no h) = lt-leb a b (omega arith) ∙ sym (ap not (lt-ltb b a (omega arith)))
+
+not-not : (b : Bool) → b ≡ not (not b)
+not-not true = refl
+not-not false = refl
+
+ltb-not : (a b : ℕ) → ltb a b ≡ not (leb b a)
+ltb-not a b = not-not (ltb a b) ∙ sym (ap not (leb-not b a))
+
+refuse-if : (n : ℕ) {a : Bool} (b : Bool) {x y : ℕ} → a ≡ not b → x ≡ y → cond a (suc n) x ≡ (unless b (suc n) then y)
+refuse-if n b {x} e d = ap (λ (t : Bool). cond t (suc n) x) e ∙ refuse n {a = b} refl d
+
+refuse-if-last : (n : ℕ) {a : Bool} (b : Bool) → a ≡ not b → cond a (suc n) 0 ≡ unless b (suc n)
+unfolding unless
+refuse-if-last n true e = rw e
+refuse-if-last n false e = rw e
+
+few-same : (n u : ℕ) {v w : ℕ} → v ≡ w → ltb (D.ones n v) u ≡ not (leb u (ones n w))
+few-same n u {v} e = ap (λ (x : ℕ). ltb x u) (ones-same n v ∙ ap (ones n) e) ∙ ltb-not _ u
+
+-- ---- refusals
+pub refusal-same : (r : S.Record) (s : S.State) → S.record-refusal r s ≡ refusal sixteen (our-record r) (our-state s)
+unfolding S.record-refusal S.plan-refusal S.open-refusal S.first-refusal S.close-refusal S.reply-refusal S.finish-refusal refusal our-record
+refusal-same (S.a-plan p) s = refuse 10 (planned-same (s .phase)) (refuse-last 0 (plan-good-same p))
+refusal-same (S.open-round r) s = refuse-if 10 _ (planned-same (s .phase)) (refuse-if-last 16 _ (leb-not r (s .round)))
+refusal-same (S.first-element k i x) s =
+    refuse-if 10 _ (planned-same (s .phase))
+    (refuse 11 (gathering-same (s .phase))
+    (refuse-user (s .plan-of) k
+    (refuse-if 7 _ (ap (λ (n : ℕ). leb n i) (places-same (s .plan-of)) ∙ leb-not _ i)
+    (refuse-if 2 _ (leb-not q x) (refuse-if-last 12 _ (held-same k i (s .firsts) ∙ not-not _))))))
+refusal-same S.close-round s =
+    refuse-if 10 _ (planned-same (s .phase))
+    (refuse 11 (gathering-same (s .phase)) (refuse-if-last 14 _ (few-same (s .plan-of .k) (s .plan-of .u) (gathered-same s))))
+refusal-same (S.reply-element k b x) s =
+    refuse-if 10 _ (planned-same (s .phase))
+    (refuse 11 (replying-same (s .phase))
+    (refuse-user (s .plan-of) k
+    (refuse-if 7 _ (leb-not (s .plan-of .m) b)
+    (refuse-if 2 _ (leb-not q x) (refuse 13 (in-set-same (s .survivors) k) (refuse-if-last 12 _ (held-same k b (s .replies) ∙ not-not _)))))))
+refusal-same S.finish-round s =
+    refuse-if 10 _ (planned-same (s .phase))
+    (refuse 11 (replying-same (s .phase)) (refuse-if-last 14 _ (few-same (s .plan-of .k) (s .plan-of .u) (replied-same s))))

@@ -1,0 +1,141 @@
+-- Document 03's steps are ours, and ours are document 03's.
+--   Sound                    if there is a plan, it is good
+--   line-same, changed-same  the answer to an accepted record, and the state that it leads to
+--   steps-same               a step of document 03 is a step of ours
+--   Stepped, steps-ours      a step of ours, from a state that stands for one of document 03's, is a step there
+-- Assumes nothing.
+use mathlib.Core.Path.{_≡_, refl, sym, ap, ap₂, _∙_, subst}
+use mathlib.Core.Bool.{Bool, true, false, not}
+use mathlib.Core.List.{List}
+use Prim.Native.Nat.{ℕ, suc}
+use native.Mathlib.Omega.{arith}
+use borrow.Author.Tests.{eqb-true}
+use Rattle.scheme.specs.Scheme.{sixteen, plan-good}
+use Rattle.scheme.specs.Good.{Good}
+use Rattle.scheme.specs.Service.{replying, State, nothing, Record, finish-record, Answer, closed, totalled, refused, refusal, planned-state, opened-state, idle-state, next-state, answer-of, is-finish, explained-by, totals-by, Steps, refuses, accepts, totals-up, disagrees}
+use Rattle.scheme.proofs.Tests.{holds}
+use Rattle.scheme.proofs.Good.{good}
+use Rattle.scheme.proofs.Well.{finishing}
+use Rattle.document03.specs.Ours.{our-plan, our-phase, our-held, our-state, our-record, our-answer}
+use Rattle.document03.specs.Scheme as D
+use Rattle.document03.specs.Service as S
+use Rattle.document03.proofs.Sets.{plan-good-same}
+use Rattle.document03.proofs.State.{gathered-same, replying-same, refusal-same}
+use Rattle.document03.proofs.Explains.{explained-same, totals-same}
+use Rattle.document03.proofs.Answers.{finish-same}
+
+abbrev pub Sound : S.State → Type 0
+Sound s = (s .phase ≡ 0 → ⊥) → D.plan-good (s .plan-of) ≡ true
+
+-- ---- accepted records
+pub line-same : (r : S.Record) (s : S.State) → our-answer (S.line-of r s) ≡ answer-of (our-record r) (our-state s)
+unfolding S.line-of S.closed our-answer answer-of our-record
+line-same (S.a-plan p) s = refl
+line-same (S.open-round r) s = refl
+line-same (S.first-element k i x) s = refl
+line-same S.close-round s = ap (closed (s .round)) (gathered-same s)
+line-same (S.reply-element k b x) s = refl
+line-same S.finish-round s = refl
+
+pub changed-same : (r : S.Record) (s : S.State) → our-state (S.changed r s) ≡ next-state (our-record r) (our-state s)
+unfolding S.changed S.planned S.gathered S.with-first S.closed S.with-reply S.idle-again our-record our-phase our-held next-state planned-state opened-state idle-state
+changed-same (S.a-plan p) s = refl
+changed-same (S.open-round r) s = refl
+changed-same (S.first-element k i x) s = refl
+changed-same S.close-round s =
+    ap
+    (λ (v : ℕ). record { phase = replying; plan = our-plan (s .plan-of); round = s .round; survivors = v; firsts = our-held (s .firsts); replies = nothing })
+    (gathered-same s)
+changed-same (S.reply-element k b x) s = refl
+changed-same S.finish-round s = refl
+
+quick-same : (r : S.Record) → S.quick r ≡ not (is-finish (our-record r))
+unfolding S.quick is-finish our-record
+quick-same (S.a-plan p) = refl
+quick-same (S.open-round r) = refl
+quick-same (S.first-element k i x) = refl
+quick-same S.close-round = refl
+quick-same (S.reply-element k b x) = refl
+quick-same S.finish-round = refl
+
+not-true : {b : Bool} → not b ≡ true → b ≡ false
+not-true {b = true} e = absurd (holds e)
+not-true {b = false} e = refl
+
+-- ---- finish
+pub finish-good : (s : S.State) → Sound s → S.finish-refusal s ≡ 0 → Good (our-plan (s .plan-of))
+finish-good s h e =
+    let replies : s .phase ≡ 3 = eqb-true (s .phase) 3 (replying-same (s .phase) ∙ finishing sixteen (our-state s) (finish-same s e) .replying) in
+    good (our-plan (s .plan-of)) (sym (plan-good-same (s .plan-of)) ∙ h (λ z. omega arith))
+
+explained : (s : S.State) → Sound s → S.finish-refusal s ≡ 0 → (f : ℕ → List ℕ) → S.all-explain (s .plan-of .m) 0 s f ≡ explained-by sixteen (our-state s) f
+explained s h e f = explained-same s (finish-good s h e) f
+
+finish-back : (s : S.State) → refusal sixteen finish-record (our-state s) ≡ 0 → S.finish-refusal s ≡ 0
+unfolding S.record-refusal our-record
+finish-back s e = refusal-same S.finish-round s ∙ e
+
+-- ---- document 03's steps are ours
+pub steps-same : (r : S.Record) (s t : S.State) (l : S.Line) → Sound s → S.Steps r s l t → Steps sixteen (our-record r) (our-state s) (our-answer l) (our-state t)
+unfolding our-record our-answer our-phase our-held S.idle-again idle-state
+steps-same _ _ _ _ h (S.turned-away r s n e) = refuses (our-record r) (our-state s) n (sym (refusal-same r s) ∙ e)
+steps-same _ _ _ _ h (S.taken r s quick e) =
+    rw (line-same r s, changed-same r s) (accepts (our-record r) (our-state s) (not-true (sym (quick-same r) ∙ quick)) (sym (refusal-same r s) ∙ e))
+steps-same _ _ _ _ h (S.summed s f e d) =
+    let a : explained-by sixteen (our-state s) f ≡ true = sym (explained s h e f) ∙ d in
+    rw (totals-same s (finish-good s h e) f a) (totals-up (our-state s) f (finish-same s e) a)
+steps-same _ _ _ _ h (S.unexplained s e d) = disagrees (our-state s) (finish-same s e) (λ f a. d f (explained s h e f ∙ a))
+
+-- ---- our steps are document 03's
+pub record Stepped (r : S.Record) (s : S.State) (a : Answer) (t : State) : Type 0 where
+  pub line : S.Line
+  pub state : S.State
+  pub step : S.Steps r s line state
+  pub says : our-answer line ≡ a
+  pub leads : our-state state ≡ t
+
+finish-only : (r : S.Record) → our-record r ≡ finish-record → r ≡ S.finish-round
+unfolding our-record
+finish-only (S.a-plan p) e = cc
+finish-only (S.open-round r) e = cc
+finish-only (S.first-element k i x) e = cc
+finish-only S.close-round e = cc
+finish-only (S.reply-element k b x) e = cc
+finish-only S.finish-round e = refl
+
+pub steps-ours : (r : S.Record) (s : S.State) (a : Answer) (t : State) → Sound s → Steps sixteen (our-record r) (our-state s) a t → Stepped r s a t
+unfolding our-answer our-phase our-held S.idle-again idle-state
+steps-ours r s a t h st = go (our-record r) (our-state s) a t refl refl st
+  where
+    go : (o : Record) (u : State) (a : Answer) (t : State) → our-record r ≡ o → our-state s ≡ u → Steps sixteen o u a t → Stepped r s a t
+    go _ _ _ _ d c (refuses o u n e) =
+        record { line = S.refused (suc n); state = s; step = S.turned-away r s n (refusal-same r s ∙ ap₂ (refusal sixteen) d c ∙ e); says = refl; leads = c }
+    go _ _ _ _ d c (accepts o u f e) =
+        record {
+          line = S.line-of r s;
+          state = S.changed r s;
+          step = S.taken r s (quick-same r ∙ ap (λ o. not (is-finish o)) d ∙ ap not f) (refusal-same r s ∙ ap₂ (refusal sixteen) d c ∙ e);
+          says = line-same r s ∙ ap₂ answer-of d c;
+          leads = changed-same r s ∙ ap₂ next-state d c;
+        }
+    go _ _ _ _ d c (totals-up u f e w) =
+        let fine = finish-back s (ap (refusal sixteen finish-record) c ∙ e) in
+        let a : explained-by sixteen (our-state s) f ≡ true = ap (λ (u : State). explained-by sixteen u f) c ∙ w in
+        subst (λ (r : S.Record). Stepped r s (totalled (u .round) (totals-by sixteen u f)) (idle-state u)) (sym (finish-only r d))
+        (record {
+          line = S.told-total (s .round) (S.totals s f);
+          state = S.idle-again s;
+          step = S.summed s f fine (explained s h fine f ∙ a);
+          says = ap (totalled (s .round)) (totals-same s (finish-good s h fine) f a) ∙ ap (λ (u : State). totalled (u .round) (totals-by sixteen u f)) c;
+          leads = ap idle-state c;
+        })
+    go _ _ _ _ d c (disagrees u e w) =
+        let fine = finish-back s (ap (refusal sixteen finish-record) c ∙ e) in
+        subst (λ (r : S.Record). Stepped r s (refused 16) u) (sym (finish-only r d))
+        (record {
+          line = S.refused 16;
+          state = s;
+          step = S.unexplained s fine (λ f a. w f (sym (ap (λ (u : State). explained-by sixteen u f) c) ∙ sym (explained s h fine f) ∙ a));
+          says = refl;
+          leads = c;
+        })
