@@ -1,0 +1,129 @@
+-- Texts written behind one another.
+--   sets-append, sets-set            two texts; a byte behind a text, written first
+--   take-sets, drop-sets             what stands before the text's end, and behind it
+--   put-none, put-append, put-as     of Put: no text, two texts, an equal text
+--   put-more, put-all                one byte more of a text, and the whole of it
+--   put-length                       the buffer keeps its length
+--   spell-turn, spell-done           digits from the last on: one more, and all
+--   numbers-append, numbers-more     numbers behind numbers; one more of a list
+--   planned-text, .., refused-text   each line from its pieces
+-- Assumes nothing.
+use mathlib.Core.Path.{_≡_, refl, sym, ap, ap₂, _∙_}
+use mathlib.Core.List.{List, [], _∷_, _++_, append-assoc, append-nil}
+use Prim.Native.Nat.{ℕ, zero, suc, _+_, _-_, _/_, _%_, _≤_, _<_}
+use native.Mathlib.Nat.{add-zero}
+use native.Mathlib.Numerals.{add-one}
+use native.Mathlib.Omega.{arith}
+use lib.ListN.{length, getD, take, drop, set, length-append}
+use lib.Seq.{sets, sets-eq, length-sets, set-comm, take-at, drop-at, take-suc, take-length, length-take-le}
+use Rattle.scheme.specs.Scheme.{Plan}
+use Rattle.scheme.specs.Service.{planned, opened, closed, totalled, refused}
+use Rattle.lines.specs.Text.{decimal, numbers, line, plan-word, open-word, survivors-word, total-word, refused-word, at-word, line-end}
+use Rattle.lines.specs.Put.{Put}
+use Rattle.lines.proofs.Decimals.{spell, length-spell, spell-decimal}
+
+-- ---- sets
+pub sets-append : (o : List ℕ) (at : ℕ) (xs ys : List ℕ) → sets (sets o at xs) (at + length xs) ys ≡ sets o at (xs ++ ys)
+sets-append o at [] ys = ap (λ (k : ℕ). sets o k ys) (add-zero at)
+sets-append o at (x ∷ xs) ys =
+    let e : at + suc (length xs) ≡ suc at + length xs = omega arith in
+    ap (λ (k : ℕ). sets (sets (set o at x) (suc at) xs) k ys) e ∙ sets-append (set o at x) (suc at) xs ys
+
+pub sets-set : (o : List ℕ) (at : ℕ) (xs : List ℕ) (j x : ℕ) → at + length xs ≤ j → sets (set o j x) at xs ≡ set (sets o at xs) j x
+sets-set o at [] j x h = refl
+sets-set o at (y ∷ ys) j x h =
+    ap (λ (l : List ℕ). sets l (suc at) ys) (set-comm o j at x y (λ e. omega (arith, e))) ∙ sets-set (set o at y) (suc at) ys j x (omega arith)
+
+module _ (o : List ℕ) (at : ℕ) (t : List ℕ) (h : at + length t ≤ length o) where
+  front : length (take at o ++ t) ≡ at + length t
+  front = length-append (take at o) t ∙ ap (λ (n : ℕ). n + length t) (length-take-le at o (omega arith))
+
+  pub take-sets : take (at + length t) (sets o at t) ≡ take at o ++ t
+  take-sets = ap (take (at + length t)) (sets-eq t o at h) ∙ take-at (take at o ++ t) _ _ front
+
+  pub drop-sets : drop (at + length t) (sets o at t) ≡ drop (at + length t) o
+  drop-sets = ap (drop (at + length t)) (sets-eq t o at h) ∙ drop-at (take at o ++ t) _ _ front
+
+-- ---- Put
+pub put-none : (o : List ℕ) (at : ℕ) → Put o o at at []
+put-none o at = record { place = omega arith; bytes = refl }
+
+pub put-append : {o p q : List ℕ} {at a b : ℕ} {xs ys : List ℕ} → Put o p at a xs → Put p q a b ys → Put o q at b (xs ++ ys)
+put-append {o} {p} {q} {at} {a} {b} {xs} {ys} x y =
+    record {
+      place = omega (arith, x .place, y .place, length-append xs ys);
+      bytes = y .bytes ∙ ap₂ (λ (l : List ℕ) (n : ℕ). sets l n ys) (x .bytes) (x .place) ∙ sets-append o at xs ys;
+    }
+
+pub put-as : {o p : List ℕ} {at a : ℕ} {xs ys : List ℕ} → Put o p at a xs → xs ≡ ys → Put o p at a ys
+put-as x e = rw e at x
+
+pub put-more : {o p : List ℕ} {at : ℕ} (t : List ℕ) (i : ℕ) → i < length t → Put o p at (at + i) (take i t) → Put o (set p (at + i) (getD t i 0)) at (at + (i + 1)) (take (i + 1) t)
+put-more {o} {p} {at} t i h x =
+    let e : take (i + 1) t ≡ take i t ++ (getD t i 0 ∷ []) = ap (λ (n : ℕ). take n t) (add-one i) ∙ take-suc t i 0 h in
+    put-as (put-append x (record { place = omega arith; bytes = refl })) (sym e)
+
+pub put-all : {o p : List ℕ} {at : ℕ} (t : List ℕ) (i : ℕ) → i ≡ length t → Put o p at (at + i) (take i t) → Put o p at (at + length t) t
+put-all t i e x = put-as (rw e at x) (take-length t)
+
+pub put-length : {o p : List ℕ} {at a : ℕ} {xs : List ℕ} → Put o p at a xs → length p ≡ length o
+put-length {o} {p} {at} {a} {xs} x = ap length (x .bytes) ∙ length-sets o at xs
+
+-- ---- numbers
+pub spell-turn : (o : List ℕ) (at i n : ℕ) → 0 < i → sets (set o (at + i) (48 + n % 10)) (at + 1) (spell (i - 1) (n / 10)) ≡ sets o (at + 1) (spell i n)
+unfolding spell
+spell-turn o at zero n h = absurd (omega arith)
+spell-turn o at (suc k) n h =
+    let s = spell k (n / 10) in
+    let x = 48 + n % 10 in
+    let e : suc k - 1 ≡ k = omega arith in
+    let f : at + suc k ≡ at + 1 + length s = omega (arith, length-spell k (n / 10)) in
+    ap₂ (λ (j i : ℕ). sets (set o j x) (at + 1) (spell i (n / 10))) f e ∙ sets-set o (at + 1) s (at + 1 + length s) x (omega arith)
+    ∙ sets-append o (at + 1) s (x ∷ [])
+
+pub spell-done :
+    (o p : List ℕ) (at i n w m : ℕ) → i ≡ 0 → w ≡ length (decimal m) → sets p (at + 1) (spell i n) ≡ sets o (at + 1) (spell w m) →
+    p ≡ sets o (suc at) (decimal m)
+unfolding spell
+spell-done o p at i n w m e f h =
+    sym (ap (λ (k : ℕ). sets p (at + 1) (spell k n)) e) ∙ h
+    ∙ ap₂ (λ (a : ℕ) (l : List ℕ). sets o a l) (add-one at) (ap (λ (k : ℕ). spell k m) f ∙ spell-decimal m)
+
+numbers-one : (n : ℕ) → numbers (n ∷ []) ≡ 32 ∷ decimal n
+unfolding numbers
+numbers-one n = ap (λ (t : List ℕ). 32 ∷ t) (append-nil (decimal n))
+
+pub numbers-append : (l k : List ℕ) → numbers (l ++ k) ≡ numbers l ++ numbers k
+unfolding numbers
+numbers-append [] k = refl
+numbers-append (n ∷ l) k = ap (λ (t : List ℕ). 32 ∷ (decimal n ++ t)) (numbers-append l k) ∙ simp append-assoc
+
+pub numbers-more : (l : List ℕ) (i : ℕ) → i < length l → numbers (take (i + 1) l) ≡ numbers (take i l) ++ (32 ∷ decimal (getD l i 0))
+numbers-more l i h =
+    ap numbers (ap (λ (n : ℕ). take n l) (add-one i) ∙ take-suc l i 0 h) ∙ numbers-append (take i l) (getD l i 0 ∷ [])
+    ∙ ap (λ (t : List ℕ). numbers (take i l) ++ t) (numbers-one (getD l i 0))
+
+-- ---- lines
+abbrev number : ℕ → List ℕ
+number n = 32 ∷ decimal n
+
+module _ (o : ℕ) where
+  pub planned-text : (p : Plan) → ((((plan-word ++ number (p .users)) ++ number (p .threshold)) ++ number (p .collusion)) ++ number (p .blocks)) ++ line-end ≡ line o (planned p)
+  unfolding numbers line
+  planned-text p = simp (append-assoc, append-nil)
+
+  pub opened-text : (r : ℕ) → (open-word ++ number r) ++ line-end ≡ line o (opened r)
+  unfolding line
+  opened-text r = ap (λ (a : List ℕ). open-word ++ a ++ line-end) (sym (numbers-one r))
+
+  pub closed-text : (r v : ℕ) → ((survivors-word ++ number r) ++ number v) ++ line-end ≡ line o (closed r v)
+  unfolding numbers line
+  closed-text r v = simp (append-assoc, append-nil)
+
+  pub totalled-text : (r : ℕ) (l : List ℕ) → ((total-word ++ number r) ++ numbers l) ++ line-end ≡ line o (totalled r l)
+  unfolding numbers line
+  totalled-text r l = simp append-assoc
+
+  pub refused-text : (n : ℕ) → (((refused-word ++ number n) ++ at-word) ++ number o) ++ line-end ≡ line o (refused n)
+  unfolding line
+  refused-text n = ap₂ (λ (a b : List ℕ). refused-word ++ a ++ at-word ++ b ++ line-end) (sym (numbers-one n)) (sym (numbers-one o))

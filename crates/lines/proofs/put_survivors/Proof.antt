@@ -1,0 +1,51 @@
+-- `lines::put_survivors` meets its contract: the pieces behind one another are the line.
+use native.Mathlib.Omega.{arith}
+use borrow.Author.Needs.{needs}
+use Rattle.lines.proofs.Lines.{put-append, put-as, closed-text}
+use Rattle.lines.proofs.put_survivors.Statement.{statement}
+use Rattle.lines.proofs.put_survivors.Tie as tie
+
+slice-aggregate-put-bytes : tie.Need-slice-aggregate-put-bytes
+slice-aggregate-put-bytes c = search needs
+
+put-bytes-requires : tie.Need-put-bytes-requires
+put-bytes-requires c κs = search needs
+
+put-number-requires : tie.Need-put-number-requires
+put-number-requires c κs = search needs
+
+put-number-requires-2 : tie.Need-put-number-requires-2
+put-number-requires-2 c κs = search needs
+
+slice-aggregate-put-bytes-2 : tie.Need-slice-aggregate-put-bytes-2
+slice-aggregate-put-bytes-2 c = search needs
+
+put-bytes-requires-2 : tie.Need-put-bytes-requires-2
+put-bytes-requires-2 c κs = search needs
+
+same-length : tie.Need-same-length
+same-length c = search needs
+
+returns : tie.Need-returns
+returns c =
+    let end = c .before .before in
+    let set = end .before .before .before .before .before in
+    let round = set .before .before .before .before in
+    let word = round .before .before .before .before in
+    let a = word .before .before .before .before .args in
+    let x = put-append (word .put-bytes .ensures) (round .put-number .ensures .1) in
+    let y = put-append x (set .put-number2 .ensures .1) in
+    (omega arith, λ o. put-as (put-append y (end .put-bytes2 .ensures)) (closed-text o (a .round) (a .set)))
+
+pub put-survivors-spec : {M : Type 1} → statement M
+put-survivors-spec =
+    tie.close
+    (tie.spec
+    slice-aggregate-put-bytes
+    put-bytes-requires
+    put-number-requires
+    put-number-requires-2
+    slice-aggregate-put-bytes-2
+    put-bytes-requires-2
+    same-length
+    returns)

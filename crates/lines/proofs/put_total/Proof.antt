@@ -1,0 +1,52 @@
+-- `lines::put_total` meets its contract: the pieces behind one another are the line.
+use native.Mathlib.Omega.{arith}
+use lib.ListN.{take}
+use borrow.Author.Needs.{needs}
+use Rattle.lines.proofs.Lines.{put-append, put-as, totalled-text}
+use Rattle.lines.proofs.put_total.Statement.{statement}
+use Rattle.lines.proofs.put_total.Tie as tie
+
+slice-aggregate-put-bytes : tie.Need-slice-aggregate-put-bytes
+slice-aggregate-put-bytes c = search needs
+
+put-bytes-requires : tie.Need-put-bytes-requires
+put-bytes-requires c κs = search needs
+
+put-number-requires : tie.Need-put-number-requires
+put-number-requires c κs = search needs
+
+put-totals-requires : tie.Need-put-totals-requires
+put-totals-requires c κs = search needs
+
+slice-aggregate-put-bytes-2 : tie.Need-slice-aggregate-put-bytes-2
+slice-aggregate-put-bytes-2 c = search needs
+
+put-bytes-requires-2 : tie.Need-put-bytes-requires-2
+put-bytes-requires-2 c κs = search needs
+
+same-length : tie.Need-same-length
+same-length c = search needs
+
+returns : tie.Need-returns
+returns c =
+    let end = c .before .before in
+    let totals = end .before .before .before .before .before in
+    let round = totals .before .before .before .before .before in
+    let word = round .before .before .before .before in
+    let a = word .before .before .before .before .args in
+    let x = put-append (word .put-bytes .ensures) (round .put-number .ensures .1) in
+    let y = put-append x (totals .put-totals .ensures .1) in
+    (omega arith, λ o. put-as (put-append y (end .put-bytes2 .ensures)) (totalled-text o (a .round) (take (a .n) (a .totals .now))))
+
+pub put-total-spec : {M : Type 1} → statement M
+put-total-spec =
+    tie.close
+    (tie.spec
+    slice-aggregate-put-bytes
+    put-bytes-requires
+    put-number-requires
+    put-totals-requires
+    slice-aggregate-put-bytes-2
+    put-bytes-requires-2
+    same-length
+    returns)

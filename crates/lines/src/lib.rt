@@ -1,0 +1,163 @@
+// The lines of document 01's program, written into a lent buffer from a place on. Each function answers the place behind
+// what it wrote; before and behind that, the buffer stays as it was.
+//   put_plan, put_open, put_survivors, put_total, put_refusal   a line for each kind of answer
+//   put_totals, put_short   the numbers of a total, each of 16 bits
+//   put_number, width       a number behind one space; how many digits it has
+//   put_bytes               any text
+ghost use mathlib.Core.Path.{_≡_};
+ghost use mathlib.Core.List.{_∷_};
+ghost use Prim.Native.Nat.{ℕ, _+_, _*_, _≤_};
+ghost use lib.ListN.{length, take};
+ghost use Rattle.scheme.specs.Service.{planned, opened, closed, totalled, refused};
+ghost use Rattle.lines.specs.Text.{decimal, numbers, line};
+ghost use Rattle.lines.specs.Put.{room, Put};
+
+// The bytes that any line fits into, and the most numbers of a total.
+pub const LINE: usize = 640;
+
+const MOST_TOTALS: usize = 96;
+
+// "plan 3 2 1 1"
+pub fn put_plan(
+    out: &mut [u8],
+    at: usize,
+    users: u32,
+    threshold: u32,
+    collusion: u32,
+    blocks: u32,
+) -> usize
+    requires { ⌜ at + room ≤ length (now out) ⌝ }
+    ensures short { λ r. ⌜ r ≤ at + room ⌝ }
+    ensures put { λ r. ⌜ ((offset : ℕ) → Put (now (out .entry)) (now (out .exit)) at r (line offset (planned (record { users = users; threshold = threshold; collusion = collusion; blocks = blocks })))) ⌝ }
+{
+    let a = put_bytes(out, at, b"plan");
+    let b = put_number(out, a, users as u64);
+    let c = put_number(out, b, threshold as u64);
+    let d = put_number(out, c, collusion as u64);
+    let e = put_number(out, d, blocks as u64);
+    put_bytes(out, e, b"\n")
+}
+
+// "open 7"
+pub fn put_open(out: &mut [u8], at: usize, round: u32) -> usize
+    requires { ⌜ at + room ≤ length (now out) ⌝ }
+    ensures short { λ r. ⌜ r ≤ at + room ⌝ }
+    ensures put { λ r. ⌜ ((offset : ℕ) → Put (now (out .entry)) (now (out .exit)) at r (line offset (opened round))) ⌝ }
+{
+    let a = put_bytes(out, at, b"open");
+    let b = put_number(out, a, round as u64);
+    put_bytes(out, b, b"\n")
+}
+
+// "survivors 7 5"
+pub fn put_survivors(out: &mut [u8], at: usize, round: u32, set: u32) -> usize
+    requires { ⌜ at + room ≤ length (now out) ⌝ }
+    ensures short { λ r. ⌜ r ≤ at + room ⌝ }
+    ensures put { λ r. ⌜ ((offset : ℕ) → Put (now (out .entry)) (now (out .exit)) at r (line offset (closed round set))) ⌝ }
+{
+    let a = put_bytes(out, at, b"survivors");
+    let b = put_number(out, a, round as u64);
+    let c = put_number(out, b, set as u64);
+    put_bytes(out, c, b"\n")
+}
+
+// "total 7 40": the round and the first n of the totals.
+pub fn put_total(
+    out: &mut [u8],
+    at: usize,
+    round: u32,
+    totals: &[u16; MOST_TOTALS],
+    n: usize,
+) -> usize
+    requires { ⌜ (at + room ≤ length (now out)) × (n ≤ 96) ⌝ }
+    ensures short { λ r. ⌜ r ≤ at + room ⌝ }
+    ensures put { λ r. ⌜ ((offset : ℕ) → Put (now (out .entry)) (now (out .exit)) at r (line offset (totalled round (take n (now (totals .entry)))))) ⌝ }
+{
+    let a = put_bytes(out, at, b"total");
+    let b = put_number(out, a, round as u64);
+    let c = put_totals(out, b, *totals, n);
+    put_bytes(out, c, b"\n")
+}
+
+// "refused 12 at 23": the number and the record's offset.
+pub fn put_refusal(out: &mut [u8], at: usize, number: u32, offset: u64) -> usize
+    requires { ⌜ at + room ≤ length (now out) ⌝ }
+    ensures short { λ r. ⌜ r ≤ at + room ⌝ }
+    ensures put { λ r. ⌜ Put (now (out .entry)) (now (out .exit)) at r (line offset (refused number)) ⌝ }
+{
+    let a = put_bytes(out, at, b"refused");
+    let b = put_number(out, a, number as u64);
+    let c = put_bytes(out, b, b" at");
+    let d = put_number(out, c, offset);
+    put_bytes(out, d, b"\n")
+}
+
+// Each number takes 6 bytes at most; put_short asks for the room of any number behind them.
+fn put_totals(out: &mut [u8], at: usize, totals: [u16; MOST_TOTALS], n: usize) -> usize
+    requires { ⌜ (at + 600 ≤ length (now out)) × (n ≤ 96) ⌝ }
+    ensures short { λ r. ⌜ r ≤ at + 6 * n ⌝ }
+    ensures put { λ r. ⌜ Put (now (out .entry)) (now (out .exit)) at r (numbers (take n totals)) ⌝ }
+{
+    let mut next = at;
+    let mut i = 0;
+    while i < n {
+        next = put_short(out, next, totals[i]);
+        i += 1;
+    }
+    next
+}
+
+// 16 bits are 5 digits at most.
+fn put_short(out: &mut [u8], at: usize, n: u16) -> usize
+    requires { ⌜ at + 21 ≤ length (now out) ⌝ }
+    ensures short { λ r. ⌜ r ≤ at + 6 ⌝ }
+    ensures put { λ r. ⌜ Put (now (out .entry)) (now (out .exit)) at r (32 ∷ decimal n) ⌝ }
+{
+    put_number(out, at, n as u64)
+}
+
+// One space and the decimal digits, the last digit first.
+pub fn put_number(out: &mut [u8], at: usize, n: u64) -> usize
+    requires { ⌜ at + 21 ≤ length (now out) ⌝ }
+    ensures short { λ r. ⌜ r ≤ at + 21 ⌝ }
+    ensures put { λ r. ⌜ Put (now (out .entry)) (now (out .exit)) at r (32 ∷ decimal n) ⌝ }
+{
+    out[at] = b' ';
+    let mut i = width(n);
+    let next = at + 1 + i;
+    let mut left = n;
+    while 0 < i {
+        out[at + i] = 48 + (left % 10) as u8;
+        left /= 10;
+        i -= 1;
+    }
+    next
+}
+
+// The powers of ten up to n, compared: no division.
+fn width(n: u64) -> usize
+    ensures { λ r. ⌜ r ≡ length (decimal n) ⌝ }
+{
+    let mut power: u64 = 10;
+    let mut k = 1;
+    while power <= n {
+        if k == 19 {
+            return 20;
+        }
+        power *= 10;
+        k += 1;
+    }
+    k
+}
+
+pub fn put_bytes(out: &mut [u8], at: usize, text: &[u8]) -> usize
+    requires { ⌜ at + length (now text) ≤ length (now out) ⌝ }
+    ensures { λ r. ⌜ Put (now (out .entry)) (now (out .exit)) at r (now (text .entry)) ⌝ }
+{
+    let mut done = 0;
+    while done < text.len() {
+        out[at + done] = text[done];
+        done += 1;
+    }
+    at + text.len()
+}

@@ -1,0 +1,95 @@
+-- Who is complete: laws of `all-of` and `set-of`, and one turn of each loop.
+--   all-of-next, all-of-end, all-of-same      a test of each of n numbers
+--   look-row                                  a row that is held, as the view sees it
+--   Gathering, gathering-start ..             the loop over the users
+-- Assumes nothing.
+use mathlib.Core.Path.{_≡_, refl, sym, ap, ap₂, _∙_}
+use mathlib.Core.Bool.{Bool, true, false, _&&_, cond}
+use mathlib.Core.List.{List, [], _∷_}
+use mathlib.Core.Logic.{inl, inr}
+use Prim.Native.Nat.{ℕ, suc, _+_, _*_, _-_, _^_, _≤_, _<_}
+use native.Mathlib.Nat.{add-zero, zero-add, sub-zero, pow-suc, suc-mul, mul-le-mul-right}
+use native.Mathlib.Numerals.{add-one}
+use native.Mathlib.Omega.{arith}
+use lib.Pow.{pow-mono}
+use borrow.Author.Tests.{le-leb, lt-ltb}
+use Rattle.algebra.specs.Sums.{In}
+use Rattle.scheme.specs.Scheme.{span}
+use Rattle.scheme.specs.Totals.{all-of}
+use Rattle.scheme.specs.Service.{is-held, set-of}
+use Rattle.scheme.proofs.Lists.{span-in}
+use Rattle.service.specs.View.{look, row-held}
+use Rattle.service.proofs.View.{stored-held}
+
+-- ---- a test of each
+module _ (t : ℕ → Bool) (n i : ℕ) where
+  pub all-of-next : i < n → all-of t (span (n - i) i) ≡ (t i && all-of t (span (n - (i + 1)) (i + 1)))
+  unfolding all-of
+  all-of-next h = let e : n - i ≡ suc (n - (i + 1)) = omega arith in rw (e, add-one i)
+
+  pub all-of-end : n ≤ i → all-of t (span (n - i) i) ≡ true
+  unfolding all-of
+  all-of-end h = let e : n - i ≡ 0 = omega arith in rw e
+
+pub all-of-same : (s t : ℕ → Bool) (l : List ℕ) → ((k : ℕ) → In k l → s k ≡ t k) → all-of s l ≡ all-of t l
+unfolding all-of
+all-of-same s t [] h = refl
+all-of-same s t (k ∷ l) h = ap₂ (λ (a b : Bool). a && b) (h k (inl refl)) (all-of-same s t l (λ i m. h i (inr m)))
+
+-- ---- a row, as the view sees it
+pub look-row : (w n k : ℕ) (xs : List ℕ) → k < 8 → n ≤ w → row-held xs (k * w) n ≡ all-of (λ i. is-held (look w xs (k + 1) i)) (span n 0)
+unfolding row-held look
+look-row w n k xs h l =
+    all-of-same _ _ (span n 0) (λ i m.
+    let s = span-in n 0 i m in
+    let e : k + 1 - 1 ≡ k = omega arith in
+    let a : 1 ≤ k + 1 = omega arith in
+    let b : k + 1 ≤ 8 = omega arith in
+    let d : i < w = omega arith in
+    simp (le-leb _ _ a, le-leb _ _ b, lt-ltb _ _ d, e, stored-held))
+
+-- ---- the loop over the users: k are passed, and those among them that pass the test make the set
+pub record Gathering (t : ℕ → Bool) (users w set bit start k : ℕ) : Type 0 where
+  pub inside : k ≤ users
+  pub bits : bit ≡ 2 ^ k
+  pub below : set < bit
+  pub at : start ≡ k * w
+  pub total : set + set-of t (users - k) (k + 1) ≡ set-of t users 1
+
+module _ (t : ℕ → Bool) (users w : ℕ) where
+  pub gathering-start : Gathering t users w 0 1 0 0
+  gathering-start = record { inside = omega arith; bits = refl; below = omega arith; at = omega arith; total = rw sub-zero (zero-add _) }
+
+  module _ {set bit start k : ℕ} (g : Gathering t users w set bit start k) where
+    pub gathering-end : users ≤ k → set ≡ set-of t users 1
+    unfolding set-of
+    gathering-end h =
+        let e : users - k ≡ 0 = omega arith in
+        sym (add-zero set) ∙ (rw e at (g .total))
+
+    pub gathering-bit : users ≤ 8 → k < users → bit ≤ 128
+    gathering-bit few h = omega (arith, g .bits, pow-mono {i = k} {j = 7} (omega arith))
+
+    pub gathering-inside : k < users → start + w ≤ users * w
+    gathering-inside h = omega (arith, g .at, mul-le-mul-right w h, suc-mul k w)
+
+    turn : k < users → set-of t (users - k) (k + 1) ≡ cond (t (k + 1)) bit 0 + set-of t (users - (k + 1)) (k + 1 + 1)
+    unfolding set-of
+    turn h =
+        let e : users - k ≡ suc (users - (k + 1)) = omega arith in
+        let z : k + 1 - 1 ≡ k = omega arith in
+        rw (e, z, ← g .bits, add-one (k + 1))
+
+    pub gathering-next : k < users → (b : Bool) → b ≡ t (k + 1) → Gathering t users w (set + cond b bit 0) (bit * 2) (start + w) (k + 1)
+    gathering-next h b e =
+        record {
+          inside = omega arith;
+          bits = ap (λ (x : ℕ). x * 2) (g .bits) ∙ sym (ap (λ (x : ℕ). 2 ^ x) (add-one k) ∙ pow-suc 2 k);
+          below = small b;
+          at = omega (arith, g .at, suc-mul k w, ap (λ (x : ℕ). x * w) (add-one k));
+          total = omega (arith, g .total, turn h, ap (λ (x : Bool). cond x bit 0) e);
+        }
+      where
+        small : (b : Bool) → set + cond b bit 0 < bit * 2
+        small true = omega (arith, g .below)
+        small false = omega (arith, g .below)

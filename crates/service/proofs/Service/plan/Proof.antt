@@ -1,0 +1,70 @@
+-- `service::Service::plan` meets its contract: the tests that led to each return decide the definition's.
+-- Assumes nothing.
+use mathlib.Core.Path.{_≡_, sym, _∙_}
+use mathlib.Core.Bool.{true, false}
+use borrow.Author.Needs.{needs}
+use borrow.Author.Tests.{not-true, not-false}
+use Rattle.scheme.specs.Scheme.{plan-good, unless, _then_}
+use Rattle.scheme.specs.Service.{has-plan}
+use Rattle.scheme.proofs.Good.{good}
+use Rattle.scheme.proofs.Refusals.{unless-zero}
+use Rattle.plan.specs.Plan.{plan-of}
+use Rattle.service.specs.View.{phase-of}
+use Rattle.service.specs.Calls.{plan-step, plan-refusal, planned, after}
+use Rattle.service.proofs.Refused.{unless-not-zero}
+use Rattle.service.proofs.Service.plan.Statement.{statement}
+use Rattle.service.proofs.Service.plan.Tie as tie
+
+none-yet : (c : tie.Else1) → has-plan (phase-of (c .before .before .before .args .self .head .phase)) ≡ false
+none-yet c = unless-not-zero _ 11 (λ z. c .if1 .left (c .before .plan-missing .ensures ∙ z))
+
+is-good : (c : tie.Else2) → plan-good (plan-of (c .before .before .before .before .before .args .plan)) ≡ true
+is-good c = sym (c .before .is-good .ensures) ∙ not-false _ (c .if2 .left)
+
+plan-missing-requires : tie.Need-plan-missing-requires
+plan-missing-requires c κs = search needs
+
+returns : tie.Need-returns
+unfolding plan-step plan-refusal after unless _then_
+returns c =
+    let h : has-plan (phase-of (c .before .before .before .args .self .head .phase)) ≡ true = unless-zero _ 10 (sym (c .before .plan-missing .ensures) ∙ c .if1 .taken) in
+    simp h
+
+is-good-requires : tie.Need-is-good-requires
+is-good-requires c κs = search needs
+
+returns-2 : tie.Need-returns-2
+unfolding plan-step plan-refusal after unless _then_
+returns-2 c = simp (none-yet (c .before .before), sym (c .before .is-good .ensures) ∙ not-true _ (c .if2 .taken))
+
+places-of-requires : tie.Need-places-of-requires
+places-of-requires c κs = good _ (is-good c)
+
+cast-places : tie.Need-cast-places
+cast-places c = search needs
+
+nothing-first-requires : tie.Need-nothing-first-requires
+nothing-first-requires c κs = search needs
+
+nothing-reply-requires : tie.Need-nothing-reply-requires
+nothing-reply-requires c κs = search needs
+
+returns-3 : tie.Need-returns-3
+unfolding plan-step plan-refusal planned after unless _then_
+returns-3 c =
+    let e = c .before .before .before in
+    simp (none-yet (e .before .before), is-good e, c .before .before .places-of .ensures .0, c .before .nothing-first .ensures, c .nothing-reply .ensures)
+
+pub plan-spec : {M : Type 1} → statement M
+plan-spec =
+    tie.close
+    (tie.spec
+    plan-missing-requires
+    returns
+    is-good-requires
+    returns-2
+    places-of-requires
+    cast-places
+    nothing-first-requires
+    nothing-reply-requires
+    returns-3)

@@ -1,0 +1,77 @@
+-- `service::row_held` meets its contract. The loop's invariant: the elements passed are held, so that those that are left decide.
+-- The measure is how many are left. Assumes nothing.
+use mathlib.Core.Path.{_≡_, sym, _∙_}
+use mathlib.Core.Bool.{Bool, not}
+use mathlib.Core.List.{List}
+use Prim.Native.Nat.{ℕ, _+_, _-_, _≤_}
+use native.Mathlib.Nat.{sub-zero}
+use native.Mathlib.Omega.{arith}
+use lib.Dec.{eqb}
+use lib.ListN.{getD}
+use borrow.Author.Needs.{needs}
+use borrow.Author.Tests.{eq-eqb, ne-eqb}
+use Rattle.scheme.specs.Scheme.{span}
+use Rattle.scheme.specs.Totals.{all-of}
+use Rattle.service.specs.View.{row-held}
+use Rattle.service.proofs.Complete.{all-of-next, all-of-end}
+use Rattle.service.proofs.row_held.Statement.{statement}
+use Rattle.service.proofs.row_held.Tie as tie
+
+abbrev held-at : List ℕ → (start i : ℕ) → Bool
+held-at xs start i = not (eqb (getD xs (start + i) 0) 0)
+
+abbrev Inv-loop : tie.InvT-loop
+Inv-loop held start each i₀ i = (i ≤ each) × (all-of (held-at held start) (span (each - i) i) ≡ row-held held start each)
+
+abbrev μ-loop : tie.MeasureT-loop
+μ-loop held start each i₀ i = each - i
+
+loop-holds : tie.Need-loop-holds Inv-loop μ-loop
+unfolding row-held
+loop-holds c = (omega arith, simp sub-zero)
+
+add-if1 : tie.Need-add-if1 Inv-loop μ-loop
+add-if1 c = search needs
+
+mul-if1 : tie.Need-mul-if1 Inv-loop μ-loop
+mul-if1 c = search needs
+
+shared-slice-read-if1 : tie.Need-shared-slice-read-if1 Inv-loop μ-loop
+shared-slice-read-if1 c = search needs
+
+returns : tie.Need-returns Inv-loop μ-loop
+returns c =
+    let l = c .before .before .before .loop in
+    sym (sym (l .inv .1) ∙ all-of-next _ _ (l .i) (c .before .before .loop-test .taken) ∙ simp (eq-eqb _ _ (c .if1 .taken)))
+
+add-i : tie.Need-add-i Inv-loop μ-loop
+add-i c = search needs
+
+loop-less : tie.Need-loop-less Inv-loop μ-loop
+loop-less c = search needs
+
+loop-again : tie.Need-loop-again Inv-loop μ-loop
+loop-again c =
+    let l = c .before .before .before .loop in
+    (omega arith, sym (all-of-next _ _ (l .i) (c .before .before .loop-test .taken) ∙ simp (ne-eqb _ _ (c .if1 .left))) ∙ l .inv .1)
+
+returns-2 : tie.Need-returns-2 Inv-loop μ-loop
+returns-2 c =
+    let l = c .before .loop in
+    sym (sym (l .inv .1) ∙ all-of-end _ _ (l .i) (c .loop-test .left))
+
+pub row-held-spec : {M : Type 1} → statement M
+row-held-spec =
+    tie.close
+    (tie.spec
+    Inv-loop
+    μ-loop
+    loop-holds
+    add-if1
+    mul-if1
+    shared-slice-read-if1
+    returns
+    add-i
+    loop-less
+    loop-again
+    returns-2)

@@ -1,0 +1,388 @@
+// The pooling service of document 01: one call for each kind of record but finish, which needs a solver (crate finish). The state goes in by value and is handed back.
+//   Phase, Head, Service         the state: its head, and the elements held
+//   Stepped, Closed              what the calls hand back: 0 or the refusal's number, and the state
+//   element_refusal              the tests that both kinds of element share
+//   put_first, put_reply         the leaves that hold an element, on a lent array: the hot path
+//   complete_set                 the users with all their elements held
+//   Service::new, plan, open, first_element, close, reply_element
+// After a refusal the state is as before.
+ghost use mathlib.Core.Path.{_≡_};
+ghost use Prim.Native.Nat.{_+_, _*_, _≤_, _<_};
+ghost use lib.ListN.{length};
+ghost use Rattle.scheme.specs.Service.{has-plan, is-gathering, is-replying, complete-set};
+ghost use Rattle.scheme.specs.Scheme.{_then_, unless};
+ghost use Rattle.plan.specs.Plan.{plan-of};
+ghost use Rattle.service.specs.View.{phase-of, row-held, look};
+ghost use Rattle.service.specs.Calls.{nothing-first, nothing-reply, new-service, plan-step, open-step, element-refusal, first-refusal, first-left, first-step, reply-refusal, reply-left, reply-step, close-step};
+use plan::Plan;
+
+// "At most 768 first elements are held": 8 rows of 96 places; and 8 rows of 16 blocks for the replies.
+pub const ROW: usize = 96;
+
+pub const FIRSTS: usize = 768;
+
+pub const BLOCKS: usize = 16;
+
+pub const REPLIES: usize = 128;
+
+pub enum Phase {
+    Unplanned,
+    Idle,
+    Gathering,
+    Replying,
+}
+
+// What is held besides elements; `places` is L, and the survivors are a set.
+pub struct Head {
+    pub phase: Phase,
+    pub plan: Plan,
+    pub places: u32,
+    pub round: u32,
+    pub survivors: u32,
+}
+
+// An element that is held stands as itself plus 1, and 0 where none is held; a user's elements stand together.
+pub struct Service {
+    pub head: Head,
+    pub first: [u16; FIRSTS],
+    pub reply: [u16; REPLIES],
+}
+
+pub struct Stepped {
+    pub number: u32,
+    pub service: Service,
+}
+
+pub struct Closed {
+    pub number: u32,
+    pub set: u32,
+    pub service: Service,
+}
+
+// 11 before a plan, else 0.
+fn plan_missing(phase: Phase) -> u32
+    ensures { λ r. ⌜ r ≡ unless (has-plan (phase-of phase)) 11 ⌝ }
+{
+    match phase {
+        Phase::Unplanned => 11,
+        Phase::Idle => 0,
+        Phase::Gathering => 0,
+        Phase::Replying => 0,
+    }
+}
+
+// 11, 12 of a record that is for the gathering phase.
+fn not_gathering(phase: Phase) -> u32
+    ensures { λ r. ⌜ r ≡ (unless (has-plan (phase-of phase)) 11 then unless (is-gathering (phase-of phase)) 12) ⌝ }
+{
+    match phase {
+        Phase::Unplanned => 11,
+        Phase::Idle => 12,
+        Phase::Gathering => 0,
+        Phase::Replying => 12,
+    }
+}
+
+// 11, 12 of a record that is for the replying phase.
+pub fn not_replying(phase: Phase) -> u32
+    ensures { λ r. ⌜ r ≡ (unless (has-plan (phase-of phase)) 11 then unless (is-replying (phase-of phase)) 12) ⌝ }
+{
+    match phase {
+        Phase::Unplanned => 11,
+        Phase::Idle => 12,
+        Phase::Gathering => 12,
+        Phase::Replying => 0,
+    }
+}
+
+// 4, 8, 3 of an element that a user sends for one of `limit` places or blocks.
+fn element_refusal(users: u32, limit: u32, user: u32, at: u32, element: u16) -> u32
+    ensures { λ r. ⌜ r ≡ element-refusal users limit user at element ⌝ }
+{
+    if user == 0 {
+        return 4;
+    }
+    if users < user {
+        return 4;
+    }
+    if limit <= at {
+        return 8;
+    }
+    if !element::is_element(element) {
+        return 3;
+    }
+    0
+}
+
+// Holds a first element and answers 0, or answers why not: 11, 12, 4, 8, 3, 13.
+pub fn put_first(head: Head, first: &mut [u16; FIRSTS], user: u32, place: u32, element: u16) -> u32
+    ensures number { λ r. ⌜ r ≡ first-refusal head (now (first .entry)) user place element ⌝ }
+    ensures left { λ r. ⌜ now (first .exit) ≡ first-left head (now (first .entry)) user place element ⌝ }
+{
+    let phase = head.phase;
+    let number = not_gathering(phase);
+    if number != 0 {
+        return number;
+    }
+    let refusal = element_refusal(head.plan.users, head.places, user, place, element);
+    if refusal != 0 {
+        return refusal;
+    }
+    let at = (user as usize - 1) * ROW + place as usize;
+    // never so in a state that calls have made
+    if FIRSTS <= at {
+        return 8;
+    }
+    if first[at] != 0 {
+        return 13;
+    }
+    first[at] = element + 1;
+    0
+}
+
+// Holds a reply element and answers 0, or answers why not: 11, 12, 4, 8, 3, 14, 13.
+pub fn put_reply(head: Head, reply: &mut [u16; REPLIES], user: u32, block: u32, element: u16) -> u32
+    ensures number { λ r. ⌜ r ≡ reply-refusal head (now (reply .entry)) user block element ⌝ }
+    ensures left { λ r. ⌜ now (reply .exit) ≡ reply-left head (now (reply .entry)) user block element ⌝ }
+{
+    let phase = head.phase;
+    let number = not_replying(phase);
+    if number != 0 {
+        return number;
+    }
+    let refusal = element_refusal(head.plan.users, head.plan.blocks, user, block, element);
+    if refusal != 0 {
+        return refusal;
+    }
+    let at = (user as usize - 1) * BLOCKS + block as usize;
+    // never so in a state that calls have made
+    if REPLIES <= at {
+        return 8;
+    }
+    if !plan::holds(head.survivors, user) {
+        return 14;
+    }
+    if reply[at] != 0 {
+        return 13;
+    }
+    reply[at] = element + 1;
+    0
+}
+
+// Whether the `each` elements from `start` on are all held.
+fn row_held(held: &[u16], start: usize, each: usize) -> bool
+    requires { ⌜ start + each ≤ length (now held) ⌝ }
+    ensures { λ r. ⌜ r ≡ row-held (now (held .entry)) start each ⌝ }
+{
+    let mut i = 0;
+    while i < each {
+        if held[start + i] == 0 {
+            return false;
+        }
+        i += 1;
+    }
+    true
+}
+
+// The set of the plan's users with `each` elements held; a user's elements start `stride` behind those of the one before.
+pub fn complete_set(held: &[u16], stride: usize, p: Plan, each: usize) -> u32
+    requires { ⌜ (p .users ≤ 8) × (p .users * stride ≤ length (now held)) × (each ≤ stride) × (stride ≤ 96) ⌝ }
+    ensures { λ r. ⌜ r ≡ complete-set (plan-of p) (look stride (now (held .entry))) each ⌝ }
+{
+    let mut set: u32 = 0;
+    let mut bit: u32 = 1;
+    let mut start = 0;
+    let mut k = 0;
+    while k < p.users {
+        if row_held(held, start, each) {
+            set += bit;
+        }
+        bit *= 2;
+        start += stride;
+        k += 1;
+    }
+    set
+}
+
+// No first element is held, and no reply.
+pub fn nothing_first() -> [u16; FIRSTS]
+    ensures { λ r. ⌜ r ≡ nothing-first ⌝ }
+{
+    [0; FIRSTS]
+}
+
+pub fn nothing_reply() -> [u16; REPLIES]
+    ensures { λ r. ⌜ r ≡ nothing-reply ⌝ }
+{
+    [0; REPLIES]
+}
+
+impl Service {
+    // Before any record.
+    pub fn new() -> Self
+        ensures { λ r. ⌜ r ≡ new-service ⌝ }
+    {
+        let plan = Plan {
+            users: 0,
+            threshold: 0,
+            collusion: 0,
+            blocks: 0,
+        };
+        let head = Head {
+            phase: Phase::Unplanned,
+            plan,
+            places: 0,
+            round: 0,
+            survivors: 0,
+        };
+        Service {
+            head,
+            first: nothing_first(),
+            reply: nothing_reply(),
+        }
+    }
+
+    // 11, 1.
+    pub fn plan(self, plan: Plan) -> Stepped
+        ensures { λ r. ⌜ r ≡ plan-step self plan ⌝ }
+    {
+        let head = self.head;
+        let phase = head.phase;
+        if plan_missing(phase) == 0 {
+            return Stepped {
+                number: 11,
+                service: self,
+            };
+        }
+        if !plan::is_good(plan) {
+            return Stepped {
+                number: 1,
+                service: self,
+            };
+        }
+        let places = plan::places_of(plan) as u32;
+        let idle = Head {
+            phase: Phase::Idle,
+            plan,
+            places,
+            round: 0,
+            survivors: 0,
+        };
+        let service = Service {
+            head: idle,
+            first: nothing_first(),
+            reply: nothing_reply(),
+        };
+        Stepped { number: 0, service }
+    }
+
+    // 11, 17. Works in any phase, drops what was held and begins gathering.
+    pub fn open(mut self, round: u32) -> Stepped
+        ensures { λ r. ⌜ r ≡ open-step self round ⌝ }
+    {
+        let head = self.head;
+        let phase = head.phase;
+        let number = plan_missing(phase);
+        if number != 0 {
+            return Stepped {
+                number,
+                service: self,
+            };
+        }
+        let plan = head.plan;
+        if round <= head.round {
+            return Stepped {
+                number: 17,
+                service: self,
+            };
+        }
+        let gathering = Head {
+            phase: Phase::Gathering,
+            plan,
+            places: head.places,
+            round,
+            survivors: 0,
+        };
+        let first = nothing_first();
+        let reply = nothing_reply();
+        self.head = gathering;
+        self.first = first;
+        self.reply = reply;
+        Stepped {
+            number: 0,
+            service: self,
+        }
+    }
+
+    // 11, 12, 4, 8, 3, 13.
+    pub fn first_element(mut self, user: u32, place: u32, element: u16) -> Stepped
+        ensures { λ r. ⌜ r ≡ first-step self user place element ⌝ }
+    {
+        let head = self.head;
+        let number = put_first(head, &mut self.first, user, place, element);
+        Stepped {
+            number,
+            service: self,
+        }
+    }
+
+    // 11, 12, 4, 8, 3, 14, 13.
+    pub fn reply_element(mut self, user: u32, block: u32, element: u16) -> Stepped
+        ensures { λ r. ⌜ r ≡ reply-step self user block element ⌝ }
+    {
+        let head = self.head;
+        let number = put_reply(head, &mut self.reply, user, block, element);
+        Stepped {
+            number,
+            service: self,
+        }
+    }
+
+    // 11, 12, 15. Makes survivors of the users with all places held, and begins replying.
+    pub fn close(mut self) -> Closed
+        ensures { λ r. ⌜ r ≡ close-step self ⌝ }
+    {
+        let head = self.head;
+        let phase = head.phase;
+        let number = not_gathering(phase);
+        if number != 0 {
+            return Closed {
+                number,
+                set: 0,
+                service: self,
+            };
+        }
+        let plan = head.plan;
+        // never so in a state that calls have made
+        if !plan::is_good(plan) {
+            return Closed {
+                number: 15,
+                set: 0,
+                service: self,
+            };
+        }
+        let each = plan::places_of(plan);
+        let set = complete_set(&self.first, ROW, plan, each);
+        if u32::count_ones(set) < plan.threshold {
+            return Closed {
+                number: 15,
+                set: 0,
+                service: self,
+            };
+        }
+        let replying = Head {
+            phase: Phase::Replying,
+            plan,
+            places: head.places,
+            round: head.round,
+            survivors: set,
+        };
+        self.head = replying;
+        self.reply = nothing_reply();
+        Closed {
+            number: 0,
+            set,
+            service: self,
+        }
+    }
+}

@@ -1,0 +1,7 @@
+-- The laws of the solver, in reading order, and in Right what a caller cites.
+pub mod Numbers
+pub mod Filled
+pub mod Turns
+pub mod Solution
+pub mod Right
+pub mod Explains

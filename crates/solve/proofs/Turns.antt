@@ -1,0 +1,140 @@
+-- One turn of each loop.
+--   span-start, span-next, span-end                           what is left of the positions
+--   Weighing, weighing-start, weighing-more, weighing-end     a weight, factor by factor
+--   Summing, summing-start, summing-more, summing-end         a sum that is reduced at its end
+--   fits-next, fits-stop, fits-end                            a test of each further row
+-- Assumes nothing.
+use mathlib.Core.Path.{_≡_, sym, ap, ap₂, _∙_}
+use mathlib.Core.Bool.{Bool, true, false, cond}
+use mathlib.Core.List.{List, [], _∷_}
+use Prim.Native.Nat.{ℕ, suc, _+_, _*_, _-_, _%_, _≤_, _<_}
+use native.Mathlib.Nat.{add-assoc, add-zero, mod-eq-of-lt, mod-lt}
+use native.Mathlib.Numerals.{add-one}
+use native.Mathlib.Decide.{ℕ-discrete}
+use native.Mathlib.Omega.{arith}
+use borrow.Author.Tests.{eq-eqb, ne-eqb}
+use lib.Dec.{eqb, lit<}
+use lib.ListN.{getD}
+use Rattle.algebra.specs.Field.{Field, sub}
+use Rattle.algebra.specs.Cauchy.{gap, weight}
+use Rattle.algebra.proofs.Field.{mul-assoc, mul-one, one-mul, expand}
+use Rattle.algebra.proofs.Residue.{mods}
+use Rattle.scheme.specs.Scheme.{span, q, sixteen, sum}
+use Rattle.scheme.specs.Totals.{all-of}
+use Rattle.scheme.specs.Laws.{Laws}
+use Rattle.scheme.proofs.Sums.{sum-small}
+use Rattle.solve.specs.Solve.{laws16, point, Points, gap-of, weight-at}
+use Rattle.solve.proofs.Numbers.{el-one, el-plus, el-times, val-of, gap-el}
+
+pub span-next : (n i : ℕ) → i < n → span (n - i) i ≡ i ∷ span (n - (i + 1)) (i + 1)
+span-next n i h = let e : n - i ≡ suc (n - (i + 1)) = omega arith in rw (e, add-one)
+
+pub span-end : (n i : ℕ) → n ≤ i → span (n - i) i ≡ []
+span-end n i h = let e : n - i ≡ 0 = omega arith in rw e
+
+pub span-start : (n : ℕ) → span (n - 0) 0 ≡ span n 0
+span-start n = let e : n - 0 ≡ n = omega arith in rw e
+
+-- ---- WEIGHTS
+open Laws laws16 using (K, el, val)
+open Field K using (F, 𝟙, add as _⊕_, mul as _⊗_, inv)
+
+infixl 65 _⊕_
+infixl 70 _⊗_
+module _ (own other : List ℕ) (n a : ℕ) where
+  -- the weight over the positions of a list
+  abbrev over : List ℕ → F
+  over l = weight K (point own) (point other) l l a
+
+  pub record Weighing (i w : ℕ) : Type 0 where
+    pub inside : i ≤ n
+    pub small : w < q
+    pub rest : el w ⊗ over (span (n - i) i) ≡ over (span n 0)
+
+  pub weighing-start : Weighing 0 1
+  weighing-start = record { inside = omega arith; small = lit< tt; rest = rw (el-one, one-mul, span-start n) }
+
+  -- different positions have different points
+  same-test : Points 8 n own → (i : ℕ) → a < n → i < n → eqb (getD own a 0) (getD own i 0) ≡ eqb a i
+  same-test p i h l = go (ℕ-discrete a i)
+    where
+      go : Dec (a ≡ i) → eqb (getD own a 0) (getD own i 0) ≡ eqb a i
+      go (yes e) = eq-eqb _ _ (ap (λ (k : ℕ). getD own k 0) e) ∙ sym (eq-eqb a i e)
+      go (no e) = ne-eqb _ _ (p .apart a i h l e) ∙ sym (ne-eqb a i e)
+
+  factor-el : (w i : ℕ) → Points 8 n own → a < n → i < n
+      → el (w * ((getD own a 0 + getD other i 0) * gap-of (getD own a 0) (getD own i 0)) % q)
+      ≡ el w ⊗ ((point own a ⊕ point other i) ⊗ gap K (point own) (point other) a i)
+  unfolding point
+  factor-el w i p h l =
+      el-times w _
+      ∙ ap (λ u. el w ⊗ u)
+      (laws16 .el-multiply _ _
+      ∙ ap₂ _⊗_ (el-plus (getD own a 0) (getD other i 0))
+      (gap-el (getD own a 0) (getD own i 0) ∙ ap (λ b. cond b 𝟙 (inv (sub K (el (getD own a 0)) (el (getD own i 0))))) (same-test p i h l)))
+
+  pub weighing-more : (i w r : ℕ) → Points 8 n own → a < n → i < n
+      → r ≡ w * ((getD own a 0 + getD other i 0) * gap-of (getD own a 0) (getD own i 0)) % q → Weighing i w → Weighing (i + 1) r
+  weighing-more i w r p h l e s = record {
+    inside = omega arith;
+    small = rw e (mod-lt _ (lit< tt));
+    rest =
+        ap (λ u. u ⊗ over (span (n - (i + 1)) (i + 1))) (ap el e ∙ factor-el w i p h l) ∙ regroup _ _ _ _ _
+        ∙ ap (λ l. el w ⊗ over l) (sym (span-next n i l)) ∙ s .rest;
+  }
+    where
+      regroup : (x s g u v : F) → x ⊗ (s ⊗ g) ⊗ (u ⊗ v) ≡ x ⊗ (s ⊗ u ⊗ (g ⊗ v))
+      regroup x s g u v = simp expand
+
+  pub weighing-end : (i w : ℕ) → n ≤ i → Weighing i w → w ≡ weight-at own other n a
+  unfolding weight-at
+  weighing-end i w h s =
+      val-of w _ (s .small)
+      (sym (mul-one K _ ∙ mul-one K _) ∙ mul-assoc K _ _ _ ∙ ap (λ l. el w ⊗ over l) (sym (span-end n i h)) ∙ s .rest)
+
+-- ---- SUMS
+module _ (f : ℕ → ℕ) (n : ℕ) where
+  pub record Summing (i s : ℕ) : Type 0 where
+    pub inside : i ≤ n
+    pub low : s ≤ i * (65535 * 65535)
+    pub rest : (s + sum sixteen (span (n - i) i) f) % q ≡ sum sixteen (span n 0) f
+
+  pub summing-start : Summing 0 0
+  summing-start = record {
+    inside = omega arith;
+    low = omega arith;
+    rest =
+        let e : 0 + sum sixteen (span n 0) f ≡ sum sixteen (span n 0) f = omega arith in
+        rw (span-start n, e) (mod-eq-of-lt (sum-small sixteen 8 7 laws16 (span n 0) f));
+  }
+
+  pub summing-more : (i s t : ℕ) → i < n → t ≡ f i → t ≤ 65535 * 65535 → Summing i s → Summing (i + 1) (s + t)
+  unfolding sum
+  summing-more i s t l e h g = record {
+    inside = omega arith;
+    low = omega arith;
+    rest =
+        ap (λ (x : ℕ). (s + x + sum sixteen (span (n - (i + 1)) (i + 1)) f) % q) e ∙ regroup s (f i) _
+        ∙ ap (λ (l : List ℕ). (s + sum sixteen l f) % q) (sym (span-next n i l)) ∙ g .rest;
+  }
+    where
+      regroup : (s x r : ℕ) → (s + x + r) % q ≡ (s + (x + r) % q) % q
+      regroup s x r = simp (mods, add-assoc)
+
+  pub summing-end : (i s : ℕ) → n ≤ i → Summing i s → s % q ≡ sum sixteen (span n 0) f
+  unfolding sum
+  summing-end i s h g = ap (λ (x : ℕ). x % q) (sym (add-zero s)) ∙ ap (λ (l : List ℕ). (s + sum sixteen l f) % q) (sym (span-end n i h)) ∙ g .rest
+
+-- ---- TESTS
+module _ (t : ℕ → Bool) (m i : ℕ) where
+  pub fits-next : i < m → t i ≡ true → all-of t (span (m - (i + 1)) (i + 1)) ≡ all-of t (span (m - i) i)
+  unfolding all-of
+  fits-next h e = rw (span-next m i h, e)
+
+  pub fits-stop : i < m → t i ≡ false → all-of t (span (m - i) i) ≡ false
+  unfolding all-of
+  fits-stop h e = rw (span-next m i h, e)
+
+  pub fits-end : m ≤ i → all-of t (span (m - i) i) ≡ true
+  unfolding all-of
+  fits-end h = rw (span-end m i h)

@@ -1,0 +1,32 @@
+-- `solve::factor` meets its contract: the product of two 16-bit numbers and one of at most 16 fits 64 bits.
+-- Assumes nothing.
+use Prim.Native.Nat.{_*_, _≤_}
+use native.Mathlib.Nat.{mul-le-mul}
+use native.Mathlib.Omega.{arith}
+use borrow.Author.Needs.{needs}
+use Rattle.solve.proofs.factor.Statement.{statement}
+use Rattle.solve.proofs.factor.Tie as tie
+
+mul-result : tie.Need-mul-result
+mul-result c = omega (arith, mul-le-mul {n₁ = c .args .near} {m₁ = c .args .gap} {n₂ = 16} {m₂ = 65535} (c .pre) (omega arith))
+
+mul-result-2 : tie.Need-mul-result-2
+mul-result-2 c =
+    let a = c .args in
+    let h : a .near * a .gap ≤ 1048560 = mul-le-mul {n₁ = a .near} {m₁ = a .gap} {n₂ = 16} {m₂ = 65535} (c .pre) (omega arith) in
+    omega (arith, mul-le-mul {n₁ = a .weight} {m₁ = a .near * a .gap} {n₂ = 65535} {m₂ = 1048560} (omega arith) h)
+
+cast-result : tie.Need-cast-result
+cast-result c = search needs
+
+rem-result : tie.Need-rem-result
+rem-result c = search needs
+
+cast-result-2 : tie.Need-cast-result-2
+cast-result-2 c = search needs
+
+returns : tie.Need-returns
+returns c = search needs
+
+pub factor-spec : {M : Type 1} → statement M
+factor-spec = tie.close (tie.spec mul-result mul-result-2 cast-result rem-result cast-result-2 returns)

@@ -1,0 +1,2 @@
+-- The solution of a Cauchy system modulo 65521 on lists of numbers.
+pub mod Solve
