@@ -1,0 +1,227 @@
+-- One block: the closed solution of the first U complete replies.
+--   columns-points, rows-square, listed-few, listed-points      the points of columns and rows
+--   values-small, choice-first      where the replies are elements, it explains the first U of them
+--   fits-same                       and it explains all exactly if the further replies fit
+--   explained-small                 replies that something explains are elements
+--   system-few, system-many, system-points, system-ready        the system as the code has it
+--   block-right, block-wrong        the block as the code solves it
+-- Assumes nothing.
+use mathlib.Core.Path.{_≡_, refl, sym, ap, ap₂, _∙_, subst}
+use mathlib.Core.Bool.{Bool, true, false, _&&_}
+use mathlib.Core.List.{List, _++_, map}
+use Prim.Native.Nat.{ℕ, zero, suc, _+_, _-_, _≤_, _<_}
+use native.Mathlib.Omega.{arith}
+use lib.Dec.{eqb, lit<}
+use lib.ListN.{length, getD, take, replicate, length-map}
+use lib.Seq.{take-at}
+use borrow.Author.Tests.{eq-eqb, eqb-true}
+use Rattle.algebra.specs.Sums.{Distinct}
+use Rattle.scheme.specs.Scheme.{span, sixteen, q, elements, Plan, ones, users-in, row-value, in-set}
+use Rattle.scheme.specs.Good.{Good}
+use Rattle.scheme.specs.Totals.{all-of, explains}
+use Rattle.scheme.proofs.Lists.{map-span-length, in-span, members-once, members-le}
+use Rattle.scheme.proofs.Sums.{row-value-small}
+use Rattle.scheme.proofs.Keys.{elements-at, elements-map, elements-append}
+use Rattle.scheme.proofs.Tests.{both, joined, is-false, holds}
+use Rattle.scheme.proofs.Sets.{users-in-in, users-in-size}
+use Rattle.scheme.proofs.Totals.{all-of-in, at-all-of, in-at, at-apart, Explained}
+use Rattle.plan.specs.Plan.{plan-of}
+use Rattle.solve.specs.Solve.{laws16, Points, Square, Ready, filled, unknown-at, solution-of, fits-of}
+use Rattle.solve.specs.Solve as solved
+use Rattle.solve.specs.declared.Explained as code
+use Rattle.solve.proofs.Explains.{points-some, Block, explains-first, fits-explains, explains-fits}
+use Rattle.finish.specs.Finish.{padded, rows-of, values-of, columns, choice-of}
+use Rattle.finish.specs.Parts.{held-in, Prepared, Block-solved}
+use Rattle.finish.specs.declared.System.{System}
+use Rattle.finish.proofs.Padded.{padded-at, map-at, map-by-place}
+
+-- ---- the points
+column-at : (i : ℕ) → i < 7 → getD columns i 0 ≡ i + 1
+unfolding all-of
+column-at i h = eqb-true _ _ (all-of-in (λ k. eqb (getD columns k 0) (k + 1)) (span 7 0) refl i (in-span 7 0 i (omega arith) (omega arith)))
+
+pub columns-points : (n : ℕ) → n ≤ 7 → Points 7 n columns
+columns-points n h = record {
+  inside = λ i l. let e = column-at i (omega arith) in (omega arith, omega arith);
+  apart = λ i k a b ne e. ne (omega (arith, column-at i (omega arith), column-at k (omega arith)));
+}
+
+users-few : (p : Plan) (v : ℕ) → length (users-in p v) ≤ p .users
+unfolding users-in
+users-few p v = members-le (in-set v) (p .users) 1
+
+users-once : (p : Plan) (v : ℕ) → Distinct (users-in p v)
+unfolding users-in
+users-once p v = members-once (in-set v) (p .users) 1
+
+rows-points : (p : Plan) (v : ℕ) → p .users ≤ 8 → Points 8 (length (users-in p v)) (rows-of p v)
+unfolding rows-of
+rows-points p v h = record {
+  inside = λ i l. let x = users-in-in p v _ (in-at (users-in p v) i l) in rw (padded-at 8 (users-in p v) i l) (x .0, omega (arith, x .1));
+  apart = λ i k a b ne e. at-apart (users-in p v) (users-once p v) i k a b ne (sym (padded-at 8 (users-in p v) i a) ∙ e ∙ padded-at 8 (users-in p v) k b);
+}
+
+-- what a list of users gives
+module _ (p : Plan) (v : ℕ) (rs : List ℕ) (m : ℕ) (e : rs ≡ rows-of p v) (d : m ≡ length (users-in p v)) (h : p .users ≤ 8) where
+  pub listed-few : m ≤ 8
+  listed-few = omega (arith, users-few p v)
+
+  pub listed-points : Points 8 m rs
+  listed-points = rw (e, d) (rows-points p v h)
+
+pub choice-long : (p : Plan) (r : ℕ) (y : (k block : ℕ) → ℕ) (b : ℕ) → length (choice-of p r y b) ≡ p .threshold
+unfolding choice-of
+choice-long p r y b = map-span-length _ (p .threshold) 0
+
+-- ---- what `explains` says of one block
+explains-facts : (p : Plan) (r : ℕ) (y : (k : ℕ) → ℕ) (w : List ℕ) → explains sixteen p r y w ≡ true → Explained sixteen p (users-in p r) (length (users-in p r)) y w
+unfolding explains
+explains-facts p r y w h =
+    let s = both (eqb (length w) (p .threshold) && elements sixteen w) _ h in
+    let t = both (eqb (length w) (p .threshold)) (elements sixteen w) (s .0) in
+    record { long = eqb-true _ _ (t .0); small = t .1; fits = λ a i. eqb-true _ _ (all-of-in _ (users-in p r) (s .1) _ (in-at (users-in p r) a i)) }
+
+facts-explains : (p : Plan) (r : ℕ) (y : (k : ℕ) → ℕ) (w : List ℕ) → Explained sixteen p (users-in p r) (length (users-in p r)) y w → explains sixteen p r y w ≡ true
+unfolding explains
+facts-explains p r y w e =
+    joined (joined (eq-eqb _ _ (e .long)) (e .small)) (at-all-of _ (users-in p r) (λ a i. eq-eqb _ _ (e .fits a i)))
+
+same-test : (a b : Bool) → (a ≡ true → b ≡ true) → (b ≡ true → a ≡ true) → a ≡ b
+same-test true b f g = sym (f refl)
+same-test false b f g = sym (is-false b (λ e. holds (g e)))
+
+elements-zeros : (n : ℕ) → elements sixteen (replicate n 0) ≡ true
+unfolding elements
+elements-zeros zero = refl
+elements-zeros (suc n) = elements-zeros n
+
+module _ (p : Plan) (r : ℕ) (good : Good p) (many : p .threshold ≤ ones (p .users) r) where
+  enough-rows : p .threshold ≤ length (users-in p r)
+  enough-rows = omega (arith, users-in-size p r)
+
+  pub rows-square : Square (rows-of p r) columns (p .threshold)
+  rows-square = record {
+    few = omega (arith, good .threshold-high, good .users-high);
+    rows-good = points-some (rows-points p r (good .users-high)) (omega arith) enough-rows;
+    columns-good = columns-points (p .threshold) (omega (arith, good .threshold-high, good .users-high));
+  }
+
+  -- ---- one block
+  module _ (y : (k block : ℕ) → ℕ) (b : ℕ) where
+    value-at : (a : ℕ) → a < length (users-in p r) → getD (values-of p r y b) a 0 ≡ y (getD (users-in p r) a 0) b
+    unfolding values-of
+    value-at a h =
+        padded-at 8 (map (λ k. y k b) (users-in p r)) a (omega (arith, length-map (users-in p r) (λ k. y k b))) ∙ map-at (λ k. y k b) (users-in p r) a h
+
+    block-of : ((a : ℕ) → a < length (users-in p r) → getD (values-of p r y b) a 0 < q)
+        → Block p (users-in p r) (length (users-in p r)) (λ k. y k b) (rows-of p r) columns (values-of p r y b)
+    unfolding rows-of
+    block-of small = record {
+      many = enough-rows;
+      columns = λ i h. column-at i (omega (arith, good .threshold-high, good .users-high));
+      rows = padded-at 8 (users-in p r);
+      values = value-at;
+      small = small;
+    }
+
+    pub values-small : ((k : ℕ) → y k b < q) → (a : ℕ) → a < length (users-in p r) → getD (values-of p r y b) a 0 < q
+    values-small h a l = rw (value-at a l) (h (getD (users-in p r) a 0))
+
+    choice-take : take (p .threshold) (solution-of (rows-of p r) columns (values-of p r y b) (p .threshold)) ≡ choice-of p r y b
+    unfolding solution-of filled choice-of
+    choice-take = take-at _ _ (p .threshold) (map-span-length _ (p .threshold) 0)
+
+    choice-unknowns : solution-of (rows-of p r) columns (values-of p r y b) (p .threshold) ≡ padded 8 (choice-of p r y b)
+    unfolding solution-of filled choice-of padded
+    choice-unknowns =
+        ap (λ (n : ℕ). map (unknown-at (rows-of p r) columns (values-of p r y b) (p .threshold)) (span (p .threshold) 0) ++ replicate (8 - n) 0)
+        (sym (map-span-length _ (p .threshold) 0))
+
+    module _ (small : (a : ℕ) → a < length (users-in p r) → getD (values-of p r y b) a 0 < q) where
+      abbrev users : List ℕ
+      users = users-in p r
+
+      pub choice-first : Explained sixteen p (users-in p r) (p .threshold) (λ k. y k b) (choice-of p r y b)
+      choice-first =
+          subst (Explained sixteen p users (p .threshold) (λ k. y k b)) choice-take
+          (explains-first p users (length users) (λ k. y k b) (rows-of p r) columns (values-of p r y b) (block-of small) rows-square)
+
+      pub fits-same : fits-of (rows-of p r) columns (values-of p r y b) (solution-of (rows-of p r) columns (values-of p r y b) (p .threshold)) (p .threshold) (length (users-in p r))
+          ≡ explains sixteen p r (λ k. y k b) (choice-of p r y b)
+      fits-same =
+          same-test _ _
+          (λ e. facts-explains p r (λ k. y k b) (choice-of p r y b)
+          (subst (Explained sixteen p users (length users) (λ k. y k b)) choice-take
+          (fits-explains p users (length users) (λ k. y k b) (rows-of p r) columns (values-of p r y b) (block-of small) rows-square e)))
+          (λ e. explains-fits p users (length users) (λ k. y k b) (rows-of p r) columns (values-of p r y b) (block-of small) rows-square
+          (subst (Explained sixteen p users (length users) (λ k. y k b)) (sym choice-take) (explains-facts p r (λ k. y k b) (choice-of p r y b) e)))
+
+    -- replies that something explains are elements
+    pub explained-small : (w : List ℕ) → explains sixteen p r (λ k. y k b) w ≡ true → elements sixteen (values-of p r y b) ≡ true
+    unfolding explains values-of padded
+    explained-small w h =
+        elements-append sixteen (map (λ k. y k b) (users-in p r)) _
+        (elements-map sixteen (λ k. y k b) (users-in p r) (λ k m.
+        subst (λ (x : ℕ). x < q)
+        (eqb-true (row-value sixteen (p .threshold) k (λ j. getD w (j - 1) 0)) (y k b) (all-of-in _ (users-in p r) (both (eqb (length w) (p .threshold) && elements sixteen w) _ h .1) k m))
+        (row-value-small sixteen 8 7 laws16 (p .threshold) k (λ j. getD w (j - 1) 0))))
+        (elements-zeros (8 - length (map (λ k. y k b) (users-in p r))))
+
+-- the replies of a block by the places of their users
+filled-values : (p : Plan) (r : ℕ) (y : (k block : ℕ) → ℕ) (b : ℕ) → filled (length (users-in p r)) (λ a. y (getD (rows-of p r) a 0) b) ≡ values-of p r y b
+unfolding filled values-of rows-of padded
+filled-values p r y b =
+    sym (ap₂ (λ (l : List ℕ) (n : ℕ). l ++ replicate (8 - n) 0) (map-by-place (λ k. y k b) 8 (users-in p r)) (length-map (users-in p r) (λ k. y k b)))
+
+-- ---- the system of the complete replies, and one block as the code solves it
+module _ (s : System) (h : Prepared (s .plan) (s .users .set) s) where
+  abbrev p : Plan
+  p = plan-of (s .plan)
+
+  abbrev r : ℕ
+  r = s .users .set
+
+  pub system-few : s .users .count ≤ 8
+  system-few = listed-few p r (s .users .list) (s .users .count) (h .listed .list-right) (h .listed .count-right) (h .good .users-high)
+
+  pub system-many : s .plan .threshold ≤ s .users .count
+  system-many = omega (arith, enough-rows p r (h .good) (h .enough), h .listed .count-right)
+
+  pub system-points : Points 8 (s .users .count) (s .users .list)
+  system-points = listed-points p r (s .users .list) (s .users .count) (h .listed .list-right) (h .listed .count-right) (h .good .users-high)
+
+  pub system-ready : (cs : List ℕ) → cs ≡ columns → Ready (s .users .list) cs (s .alpha) (s .beta) (s .plan .threshold)
+  system-ready cs e =
+      rw (h .listed .list-right, e) (record { square = rows-square p r (h .good) (h .enough); alpha-right = h .alpha-right; beta-right = h .beta-right })
+
+  module _ (ys : List ℕ) (b : ℕ) (cs vs : List ℕ) (e : code.Explained) (c : cs ≡ columns)
+      (v : vs ≡ filled (s .users .count) (λ a. held-in 16 ys (getD (s .users .list) a 0) b))
+      (x : e ≡ solved.explained (s .users .list) cs vs (s .plan .threshold) (s .users .count)) where
+    values-right : vs ≡ values-of p r (held-in 16 ys) b
+    values-right =
+        v ∙ ap₂ (λ (n : ℕ) (l : List ℕ). filled n (λ a. held-in 16 ys (getD l a 0) b)) (h .listed .count-right) (h .listed .list-right)
+        ∙ filled-values p r (held-in 16 ys) b
+
+    answer : e ≡ solved.explained (rows-of p r) columns (values-of p r (held-in 16 ys) b) (s .plan .threshold) (length (users-in p r))
+    answer = x ∙ rw (h .listed .list-right, c, values-right, h .listed .count-right)
+
+    unknowns : e .unknowns ≡ padded 8 (choice-of p r (held-in 16 ys) b)
+    unfolding solved.explained
+    unknowns = ap (λ (z : code.Explained). z .unknowns) answer ∙ choice-unknowns p r (h .good) (h .enough) (held-in 16 ys) b
+
+    pub block-right : elements sixteen vs ≡ true → Block-solved s ys b e
+    unfolding solved.explained
+    block-right ok = record {
+      fits-right =
+          ap (λ (z : code.Explained). z .fits) answer
+          ∙ fits-same p r (h .good) (h .enough) (held-in 16 ys) b (λ a l. elements-at sixteen (lit< tt) (values-of p r (held-in 16 ys) b) a (ap (elements sixteen) (sym values-right) ∙ ok));
+      unknowns-right = unknowns;
+    }
+
+    -- a reply that is no element
+    pub block-wrong : elements sixteen vs ≡ false → Block-solved s ys b (record { fits = false; unknowns = e .unknowns })
+    block-wrong bad = record {
+      fits-right =
+          sym (is-false _ (λ d. holds (sym bad ∙ ap (elements sixteen) values-right ∙ explained-small p r (h .good) (h .enough) (held-in 16 ys) b _ d)));
+      unknowns-right = unknowns;
+    }

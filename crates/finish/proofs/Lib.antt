@@ -1,0 +1,7 @@
+-- The laws of finish, in reading order; Steps has the theorems of specs/Promise.antt.
+pub mod Padded
+pub mod Turns
+pub mod Blocks
+pub mod Totalling
+pub mod Answers
+pub mod Steps

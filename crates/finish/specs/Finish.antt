@@ -1,0 +1,65 @@
+-- What the finish call answers and leaves, for every state value.
+--   rows-of, values-of, columns   the users of a set, and their replies of a block, in eight places; the columns' points
+--   choice                        the sums and noise of each block: the closed solution of the first U complete replies
+--   finish-refusal                11, 12, 15, 16
+--   padded, finish-step           the totals in the first places of 96; the whole answer
+-- Assumes nothing: these are definitions.
+use mathlib.Core.List.{List, [], _∷_, _++_, map}
+use Prim.Native.Nat.{ℕ, zero, suc, _-_}
+use lib.Dec.{leb}
+use lib.ListN.{length, replicate}
+use Rattle.scheme.specs.Scheme.{span, sixteen, Plan, plan-good, ones, users-in, _then_, unless}
+use Rattle.scheme.specs.Service.{has-plan, is-replying, replied, values, explained-by, totals-by}
+use Rattle.plan.specs.Plan.{plan-of}
+use Rattle.solve.specs.Solve.{unknown-at}
+use Rattle.service.specs.declared.Phase.the-variants.{Idle}
+use Rattle.service.specs.declared.Head.{Head}
+use Rattle.service.specs.declared.Service.{Service}
+use Rattle.service.specs.View.{phase-of, view}
+use Rattle.service.specs.Calls.{nothing-first, nothing-reply}
+use Rattle.finish.specs.declared.Finished.{Finished}
+
+-- a list in the first places of n
+unfoldable pub padded : (n : ℕ) → List ℕ → List ℕ
+padded n l = l ++ replicate (n - length l) 0
+
+unfoldable pub rows-of : Plan → (set : ℕ) → List ℕ
+rows-of p r = padded 8 (users-in p r)
+
+unfoldable pub values-of : Plan → (set : ℕ) → (replies : (k block : ℕ) → ℕ) → (block : ℕ) → List ℕ
+values-of p r y b = padded 8 (map (λ k. y k b) (users-in p r))
+
+abbrev pub columns : List ℕ
+columns = 1 ∷ 2 ∷ 3 ∷ 4 ∷ 5 ∷ 6 ∷ 7 ∷ 0 ∷ []
+
+unfoldable pub choice-of : Plan → (set : ℕ) → (replies : (k block : ℕ) → ℕ) → (block : ℕ) → List ℕ
+choice-of p r y b = map (unknown-at (rows-of p r) columns (values-of p r y b) (p .threshold)) (span (p .threshold) 0)
+
+unfoldable pub choice : Service → (block : ℕ) → List ℕ
+choice s = choice-of (plan-of (s .head .plan)) (replied (view s)) (values (view s .replies))
+
+unfoldable pub finish-refusal : Service → ℕ
+finish-refusal s =
+    unless (has-plan (phase-of (s .head .phase))) 11 then unless (is-replying (phase-of (s .head .phase))) 12
+    then unless (plan-good (plan-of (s .head .plan))) 15
+    then unless (leb (s .head .plan .threshold) (ones (s .head .plan .users) (replied (view s)))) 15
+    then unless (explained-by sixteen (view s) (choice s)) 16
+
+unfoldable pub finished : Head → Service
+finished h =
+    record {
+      head = record { phase = Idle; plan = h .plan; places = h .places; round = h .round; survivors = 0 };
+      first = nothing-first;
+      reply = nothing-reply;
+    }
+
+-- a refused finish hands back its number alone: the totals are 0
+abbrev pub finish-refused : (number : ℕ) → Service → Finished
+finish-refused n s = record { number = n; totals = replicate 96 0; service = s }
+
+unfoldable pub finish-answer : (refusal : ℕ) → Service → Finished
+finish-answer zero s = record { number = 0; totals = padded 96 (totals-by sixteen (view s) (choice s)); service = finished (s .head) }
+finish-answer (suc n) s = finish-refused (suc n) s
+
+unfoldable pub finish-step : Service → Finished
+finish-step s = finish-answer (finish-refusal s) s

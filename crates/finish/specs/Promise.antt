@@ -1,0 +1,31 @@
+-- That finish is the step of document 01's service.
+--   Finish-steps      on a well-formed state: the step that names what explains the replies, never the solver
+--   Finish-right      complete replies that follow the rules give the survivors' total
+-- Assumes nothing: these are definitions.
+use mathlib.Core.Path.{_≡_}
+use mathlib.Core.Bool.{true}
+use mathlib.Core.List.{List, map}
+use Prim.Native.Nat.{ℕ}
+use lib.ListN.{take}
+use Rattle.scheme.specs.Scheme.{span, sixteen, places, total-at}
+use Rattle.scheme.specs.Promise.{Table, admissible, list-good}
+use Rattle.scheme.specs.Totals.{Follows}
+use Rattle.scheme.specs.Service.{finish-record, totalled, refusal, replied, values}
+use Rattle.plan.specs.Plan.{plan-of}
+use Rattle.service.specs.declared.Service.{Service}
+use Rattle.service.specs.View.{view, Formed}
+use Rattle.service.specs.Promise.{told, Is-step}
+use Rattle.finish.specs.Finish.{padded, finish-step}
+
+unfoldable pub Finish-steps : Type 0
+Finish-steps =
+    (s : Service) → Formed s →
+    Is-step finish-record s (told (finish-step s .number) (totalled (s .head .round) (take (places (plan-of (s .head .plan))) (finish-step s .totals)))) (finish-step s .service)
+
+-- whatever else was sent
+unfoldable pub Finish-right : Type 0
+Finish-right =
+    (s : Service) (xs : List ℕ) (x : Table) → Formed s → refusal sixteen finish-record (view s) ≡ 0 → list-good sixteen (plan-of (s .head .plan)) xs ≡ true →
+    admissible sixteen (plan-of (s .head .plan)) x →
+    Follows sixteen (plan-of (s .head .plan)) xs x (s .head .survivors) (replied (view s)) (values (view s .firsts)) (values (view s .replies)) →
+    (finish-step s .number ≡ 0) × (finish-step s .totals ≡ padded 96 (map (total-at sixteen (plan-of (s .head .plan)) x (s .head .survivors)) (span (places (plan-of (s .head .plan))) 0)))

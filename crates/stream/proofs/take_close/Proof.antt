@@ -1,0 +1,54 @@
+-- `stream::take_close` meets its contract: the call's answer decides the line.
+-- Assumes nothing.
+use mathlib.Core.Path.{ap}
+use borrow.Author.Needs.{needs}
+use Rattle.scheme.specs.Service.{closed}
+use Rattle.service.specs.declared.Closed.{Closed}
+use Rattle.service.specs.Promise.{told}
+use Rattle.stream.specs.Stream.{step}
+use Rattle.stream.proofs.Feeding.{turn-taken, turn-refused}
+use Rattle.stream.proofs.take_close.Statement.{statement}
+use Rattle.stream.proofs.take_close.Tie as tie
+
+close-requires : tie.Need-close-requires
+close-requires c κs = search needs
+
+put-refusal-requires : tie.Need-put-refusal-requires
+put-refusal-requires c κs = search needs
+
+same-length : tie.Need-same-length
+same-length c = search needs
+
+returns : tie.Need-returns
+unfolding step
+returns c =
+    let e = c .before .before .before .before .before .before .close .ensures in
+    let n = c .before .before .before .before .before .before .before .before .before .args .service .head .round in
+    let p = c .before .before .put-refusal .ensures in
+    turn-refused _ _ _ _ _ _ _ _ _ (closed (c .before .before .before .before .before .before .before .before .before .args .service .head .round) (c .before .before .before .before .before .before .close .result .set)) (ap (λ (r : Closed). r .service) e) (ap (λ (r : Closed). told (r .number) (closed n (r .set))) e) (p .0) (c .before .before .before .before .if1 .taken) (p .1)
+
+put-survivors-requires : tie.Need-put-survivors-requires
+put-survivors-requires c κs = search needs
+
+same-length-2 : tie.Need-same-length-2
+same-length-2 c = search needs
+
+returns-2 : tie.Need-returns-2
+unfolding step
+returns-2 c =
+    let e = c .before .before .before .before .before .before .close .ensures in
+    let n = c .before .before .before .before .before .before .before .before .before .args .service .head .round in
+    let p = c .before .before .put-survivors .ensures in
+    turn-taken _ _ _ _ _ _ _ _ _ (closed (c .before .before .before .before .before .before .before .before .before .args .service .head .round) (c .before .before .before .before .before .before .close .result .set)) (ap (λ (r : Closed). r .service) e) (ap (λ (r : Closed). told (r .number) (closed n (r .set))) e) (p .0) (c .before .before .before .before .if1 .left) (p .1 _)
+
+pub take-close-spec : {M : Type 1} → statement M
+take-close-spec =
+    tie.close
+    (tie.spec
+    close-requires
+    put-refusal-requires
+    same-length
+    returns
+    put-survivors-requires
+    same-length-2
+    returns-2)

@@ -1,0 +1,52 @@
+-- `stream::take_open` meets its contract: the call's answer decides the line.
+-- Assumes nothing.
+use mathlib.Core.Path.{ap}
+use borrow.Author.Needs.{needs}
+use Rattle.scheme.specs.Service.{opened}
+use Rattle.service.specs.declared.Stepped.{Stepped}
+use Rattle.service.specs.Promise.{told}
+use Rattle.stream.specs.Stream.{step}
+use Rattle.stream.proofs.Feeding.{turn-taken, turn-refused}
+use Rattle.stream.proofs.take_open.Statement.{statement}
+use Rattle.stream.proofs.take_open.Tie as tie
+
+open-requires : tie.Need-open-requires
+open-requires c κs = search needs
+
+put-refusal-requires : tie.Need-put-refusal-requires
+put-refusal-requires c κs = search needs
+
+same-length : tie.Need-same-length
+same-length c = search needs
+
+returns : tie.Need-returns
+unfolding step
+returns c =
+    let e = c .before .before .before .before .before .before .«open» .ensures in
+    let p = c .before .before .put-refusal .ensures in
+    turn-refused _ _ _ _ _ _ _ _ _ (opened (c .before .before .before .before .before .before .before .before .args .round)) (ap (λ (r : Stepped). r .service) e) (ap (λ (r : Stepped). told (r .number) (opened (c .before .before .before .before .before .before .before .before .args .round))) e) (p .0) (c .before .before .before .before .if1 .taken) (p .1)
+
+put-open-requires : tie.Need-put-open-requires
+put-open-requires c κs = search needs
+
+same-length-2 : tie.Need-same-length-2
+same-length-2 c = search needs
+
+returns-2 : tie.Need-returns-2
+unfolding step
+returns-2 c =
+    let e = c .before .before .before .before .before .before .«open» .ensures in
+    let p = c .before .before .put-open .ensures in
+    turn-taken _ _ _ _ _ _ _ _ _ (opened (c .before .before .before .before .before .before .before .before .args .round)) (ap (λ (r : Stepped). r .service) e) (ap (λ (r : Stepped). told (r .number) (opened (c .before .before .before .before .before .before .before .before .args .round))) e) (p .0) (c .before .before .before .before .if1 .left) (p .1 _)
+
+pub take-open-spec : {M : Type 1} → statement M
+take-open-spec =
+    tie.close
+    (tie.spec
+    open-requires
+    put-refusal-requires
+    same-length
+    returns
+    put-open-requires
+    same-length-2
+    returns-2)

@@ -1,0 +1,140 @@
+-- The record stream of document 01: bytes, records with their offsets, answers, lines.
+--   record-length, record-of     how long a record of a kind is; the record that a list of bytes starts with
+--   Item, items                  the records of an input, each with its offset, and where it breaks off
+--   Outcome, step                one record on the service's state: the answer and the next state
+--   Told, answers                the answers to a list of records, each with its record's offset; 7 ends the run
+--   text, lines                  what is printed for a list of answers, and for an input
+--   Stops, Fed-says              why feed stops, and what it leaves
+--   Turns, cut-length, cut-left  one record; the line of refusal 7
+-- Assumes nothing: these are definitions.
+use mathlib.Core.Path.{_≡_}
+use mathlib.Core.Bool.{cond}
+use mathlib.Core.List.{List, [], _∷_, _++_}
+use Prim.Native.Nat.{ℕ, zero, suc, _+_, _*_, _-_, _^_, _≤_, _<_}
+use lib.Dec.{ltb, leb, eqb}
+use lib.ListN.{length, getD, take, drop}
+use lib.Seq.{sets}
+use Rattle.scheme.specs.Scheme as scheme
+use Rattle.scheme.specs.Scheme.{places}
+use Rattle.scheme.specs.Service.{Record, plan-record, open-record, first-record, close-record, reply-record, finish-record, Answer, silent, planned, opened, closed, totalled, refused}
+use Rattle.plan.specs.declared.Plan.{Plan}
+use Rattle.plan.specs.Plan.{plan-of}
+use Rattle.service.specs.declared.Service.{Service}
+use Rattle.service.specs.Calls.{plan-step, open-step, first-step, close-step, reply-step}
+use Rattle.service.specs.Promise.{told}
+use Rattle.finish.specs.Finish.{finish-step}
+use Rattle.stream.specs.declared.Stop.{Stop}
+use Rattle.stream.specs.declared.Stop.the-variants.{Used, Unknown, Partial, Full, Far}
+use Rattle.stream.specs.declared.Fed.{Fed}
+use Rattle.stream.specs.declared.Turned.{Turned}
+use Rattle.lines.specs.Text.{line}
+use Rattle.lines.specs.Put.{room, Put}
+
+-- ---- BYTES TO RECORDS
+-- a record's length with its kind: 5, 5, 6, 1, 5, 1 for the kinds 01 to 06; 0 for every other kind
+unfoldable pub record-length : (kind : ℕ) → ℕ
+record-length k =
+    cond (eqb k 1) 5 (cond (eqb k 2) 5 (cond (eqb k 3) 6 (cond (eqb k 4) 1 (cond (eqb k 5) 5 (cond (eqb k 6) 1 0)))))
+
+-- numbers have their low byte first
+abbrev pub two-bytes : List ℕ → (at : ℕ) → ℕ
+two-bytes b i = getD b i 0 + getD b (i + 1) 0 * 256
+
+abbrev pub four-bytes : List ℕ → (at : ℕ) → ℕ
+four-bytes b i = two-bytes b i + two-bytes b (i + 2) * 65536
+
+-- the whole record that starts at a place
+unfoldable pub record-at : List ℕ → (at : ℕ) → Record
+record-at b i =
+    cond (eqb (getD b i 0) 1)
+    (plan-record (record { users = getD b (i + 1) 0; threshold = getD b (i + 2) 0; collusion = getD b (i + 3) 0; blocks = getD b (i + 4) 0 }))
+    (cond (eqb (getD b i 0) 2) (open-record (four-bytes b (i + 1)))
+    (cond (eqb (getD b i 0) 3) (first-record (getD b (i + 1) 0) (two-bytes b (i + 2)) (two-bytes b (i + 4)))
+    (cond (eqb (getD b i 0) 4) close-record
+    (cond (eqb (getD b i 0) 5) (reply-record (getD b (i + 1) 0) (getD b (i + 2) 0) (two-bytes b (i + 3))) finish-record))))
+
+-- a record at its offset, or an unknown kind or a cut record there
+pub data Item : Type 0 where
+  taken : (offset : ℕ) → Record → Item
+  broken : (offset : ℕ) → Item
+
+-- of the bytes b, the first of which stands at the offset o
+unfoldable pub items-from : (most o : ℕ) → (b : List ℕ) → List Item
+items-from zero o b = []
+items-from (suc n) o [] = []
+items-from (suc n) o (k ∷ b) =
+    cond (eqb (record-length k) 0) (broken o ∷ [])
+    (cond (ltb (length (k ∷ b)) (record-length k)) (broken o ∷ [])
+    (taken o (record-at (k ∷ b) 0) ∷ items-from n (o + record-length k) (drop (record-length k) (k ∷ b))))
+
+unfoldable pub items : (o : ℕ) → (b : List ℕ) → List Item
+items o b = items-from (length b) o b
+
+-- ---- RECORDS TO ANSWERS
+pub record Outcome : Type 0 where
+  pub answer : Answer
+  pub service : Service
+
+abbrev pub plan-from : scheme.Plan → Plan
+plan-from p = record { users = p .users; threshold = p .threshold; collusion = p .collusion; blocks = p .blocks }
+
+unfoldable pub step : Service → Record → Outcome
+step s (plan-record p) = record { answer = told (plan-step s (plan-from p) .number) (planned p); service = plan-step s (plan-from p) .service }
+step s (open-record r) = record { answer = told (open-step s r .number) (opened r); service = open-step s r .service }
+step s (first-record k i x) = record { answer = told (first-step s k i x .number) silent; service = first-step s k i x .service }
+step s close-record =
+    record { answer = told (close-step s .number) (closed (s .head .round) (close-step s .set)); service = close-step s .service }
+step s (reply-record k b x) = record { answer = told (reply-step s k b x .number) silent; service = reply-step s k b x .service }
+step s finish-record =
+    record {
+      answer = told (finish-step s .number) (totalled (s .head .round) (take (places (plan-of (s .head .plan))) (finish-step s .totals)));
+      service = finish-step s .service;
+    }
+
+pub record Told : Type 0 where
+  pub offset : ℕ
+  pub answer : Answer
+
+unfoldable pub answers : Service → List Item → List Told
+answers s [] = []
+answers s (taken o r ∷ l) = record { offset = o; answer = step s r .answer } ∷ answers (step s r .service) l
+answers s (broken o ∷ l) = record { offset = o; answer = refused 7 } ∷ []
+
+-- ---- ANSWERS TO LINES
+unfoldable pub text : List Told → List ℕ
+text [] = []
+text (t ∷ l) = line (t .offset) (t .answer) ++ text l
+
+unfoldable pub lines : Service → (o : ℕ) → (b : List ℕ) → List ℕ
+lines s o b = text (answers s (items o b))
+
+-- ---- A CHUNK AT A TIME
+-- why feed stops: all bytes used; an unknown kind, or a record that is not whole, at the place; no room for a line; an offset past 64 bits
+unfoldable pub Stops : Stop → (b : List ℕ) → (offset out at wrote : ℕ) → Type 0
+Stops Used b o n at w = at ≡ length b
+Stops Unknown b o n at w = (at < length b) × (record-length (getD b at 0) ≡ 0)
+Stops Partial b o n at w = (at < length b) × (length b - at < record-length (getD b at 0))
+Stops Full b o n at w = (at < length b) × (n - w < room)
+Stops Far b o n at w = (2 ^ 64 ≤ o + length b) × (at ≡ 0) × (w ≡ 0)
+
+-- what was written, then the lines from where feed stopped, are the lines of the whole input, whatever bytes follow the chunk
+pub record Fed-says (s : Service) (b : List ℕ) (o : ℕ) (out out-now : List ℕ) (r : Fed) : Type 0 where
+  pub inside : r .at ≤ length b
+  pub fits : r .wrote ≤ length out
+  pub long : length out-now ≡ length out
+  pub behind : drop (r .wrote) out-now ≡ drop (r .wrote) out
+  pub same : (rest : List ℕ) → lines s o (b ++ rest) ≡ take (r .wrote) out-now ++ lines (r .service) (o + r .at) (drop (r .at) b ++ rest)
+  pub why : Stops (r .stop) b o (length out) (r .at) (r .wrote)
+
+-- one record: the next state, and its line written behind what was written before
+pub record Turns (s : Service) (r : Record) (o : ℕ) (out out-now : List ℕ) (at : ℕ) (t : Turned) : Type 0 where
+  pub state : t .service ≡ step s r .service
+  pub put : Put out out-now at (t .wrote) (line o (step s r .answer))
+  pub short : t .wrote ≤ at + room
+
+-- the line of refusal 7, where there is room for a line
+unfoldable pub cut-length : (offset out : ℕ) → ℕ
+cut-length o n = cond (leb room n) (length (line o (refused 7))) 0
+
+unfoldable pub cut-left : (offset : ℕ) → List ℕ → List ℕ
+cut-left o out = cond (leb room (length out)) (sets out 0 (line o (refused 7))) out
