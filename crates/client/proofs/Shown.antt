@@ -1,4 +1,5 @@
 -- Demand 3 speaks of what the calls give.
+--   Ready, message-is-sent, part-is-sent   one user's calls are taken, and give its first message and its reply
 --   shown-is-sent   the statement of specs/Shown.antt
 -- Assumes nothing.
 use mathlib.Core.Path.{_≡_, refl, sym, ap, ap₂, _∙_}
@@ -44,12 +45,12 @@ unfolding message-refusal is-fresh unless _then_
 message-taken A p k ks fs out s l e f o = simp (s, eq-eqb _ _ l, eq-eqb _ _ (f .0), eq-eqb _ _ o, e, f .1)
 
 -- ---- what they give: one user's calls
-record Ready (p : Plan) (xs : List ℕ) (k : ℕ) (fs ko o : List ℕ) : Type 0 where
-  good-plan : plan-good (plan-of p) ≡ true
-  good-list : list-good sixteen (plan-of p) xs ≡ true
-  user : (1 ≤ k) × (k ≤ p .users)
-  figures : (length fs ≡ places (plan-of p)) × (elements sixteen fs ≡ true)
-  room : (length ko ≡ key-length (plan-of p) k) × (length o ≡ places (plan-of p))
+pub record Ready (p : Plan) (xs : List ℕ) (k : ℕ) (fs ko o : List ℕ) : Type 0 where
+  pub good-plan : plan-good (plan-of p) ≡ true
+  pub good-list : list-good sixteen (plan-of p) xs ≡ true
+  pub user : (1 ≤ k) × (k ≤ p .users)
+  pub figures : (length fs ≡ places (plan-of p)) × (elements sixteen fs ≡ true)
+  pub room : (length ko ≡ key-length (plan-of p) k) × (length o ≡ places (plan-of p))
 
 module _ (p : Plan) (xs : List ℕ) (v k : ℕ) (fs ko o : List ℕ) (r : Ready p xs k fs ko o) where
   abbrev ks : List ℕ
@@ -79,11 +80,11 @@ module _ (p : Plan) (xs : List ℕ) (v k : ℕ) (fs ko o : List ℕ) (r : Ready 
   unfolding client-calls
   key-is-given = ap (λ (g : Given). g .key-given) taken
 
-  message-is-sent : calls p xs fs v k ko o .message ≡ first-message sixteen (plan-of p) ks fs
+  pub message-is-sent : calls p xs fs v k ko o .message ≡ first-message sixteen (plan-of p) ks fs
   unfolding client-calls stage-of
   message-is-sent = ap (λ (g : Given). g .message) taken ∙ written-taken sends _ o
 
-  part-is-sent : usable (plan-of p) v ≡ true → in-set v k ≡ true → calls p xs fs v k ko o .part ≡ reply (plan-of p) ks k v
+  pub part-is-sent : usable (plan-of p) v ≡ true → in-set v k ≡ true → calls p xs fs v k ko o .part ≡ reply (plan-of p) ks k v
   unfolding client-calls stage-of is-fresh open-to has-answered
   part-is-sent u h =
       let a : Answers sixteen (plan-of p) k ks v = record { begun = begun; long = long; clean = clean; whole = u; member = h } in

@@ -1,0 +1,2 @@
+-- Round: the proof of demand 2 from end to end.
+pub mod Round

@@ -1,0 +1,2 @@
+-- Round: key maker, first messages, replies and finish give the survivors' total.
+pub mod Round

@@ -1,0 +1,36 @@
+-- Demand 2 from end to end: what key maker, start, first message, reply and part give, held by the service, finishes as the survivors' total.
+--   Sent-in        the elements that the service holds are what the survivors' calls gave
+--   Round-right    the statement; late first messages, unfinished rows and partial replies may be held too
+-- Assumes nothing: these are definitions.
+use mathlib.Core.Path.{_≡_}
+use mathlib.Core.Bool.{true}
+use mathlib.Core.List.{List, map}
+use Prim.Native.Nat.{ℕ, _≤_, _<_}
+use lib.ListN.{length, getD, take}
+use Rattle.scheme.specs.Scheme.{span, sixteen, places, in-set, key-length, total-at}
+use Rattle.scheme.specs.Promise.{Table, admissible, list-good}
+use Rattle.scheme.specs.Service.{finish-record, refusal, replied, values}
+use Rattle.plan.specs.declared.Plan.{Plan}
+use Rattle.plan.specs.Plan.{plan-of}
+use Rattle.client.specs.Shown.{calls}
+use Rattle.service.specs.declared.Service.{Service}
+use Rattle.service.specs.View.{view, Formed}
+use Rattle.finish.specs.Finish.{finish-step}
+
+-- from one random list and one table, the replies to the survivors' set, into any lent buffers
+pub record Sent-in (s : Service) (xs : List ℕ) (x : Table) (key-buffer buffer : (k : ℕ) → List ℕ) : Type 0 where
+  pub first : (k i : ℕ) → 1 ≤ k → k ≤ s .head .plan .users → in-set (s .head .survivors) k ≡ true → i < places (plan-of (s .head .plan)) →
+      values (view s .firsts) k i ≡ getD (calls (s .head .plan) xs (x k) (s .head .survivors) k (key-buffer k) (buffer k) .message) i 0
+  pub answer : (k b : ℕ) → 1 ≤ k → k ≤ s .head .plan .users → in-set (replied (view s)) k ≡ true → b < s .head .plan .blocks →
+      values (view s .replies) k b ≡ getD (calls (s .head .plan) xs (x k) (s .head .survivors) k (key-buffer k) (buffer k) .part) b 0
+
+-- finish is not refused by 11, 12 or 15: it answers 0 and the sum of the survivors' figures, place by place
+unfoldable pub Round-right : Type 0
+Round-right =
+    (s : Service) (xs : List ℕ) (x : Table) (key-buffer buffer : (k : ℕ) → List ℕ) → Formed s → refusal sixteen finish-record (view s) ≡ 0 →
+    list-good sixteen (plan-of (s .head .plan)) xs ≡ true → admissible sixteen (plan-of (s .head .plan)) x →
+    ((k : ℕ) → 1 ≤ k → k ≤ s .head .plan .users → (length (key-buffer k) ≡ key-length (plan-of (s .head .plan)) k) × (length (buffer k) ≡ places (plan-of (s .head .plan)))) →
+    Sent-in s xs x key-buffer buffer →
+    (finish-step s .number ≡ 0)
+    × (take (places (plan-of (s .head .plan))) (finish-step s .totals)
+    ≡ map (total-at sixteen (plan-of (s .head .plan)) x (s .head .survivors)) (span (places (plan-of (s .head .plan))) 0))

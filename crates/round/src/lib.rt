@@ -1,0 +1,1 @@
+// Demand 2 from end to end, on the program's own functions: a statement (specs/) with its proof (proofs/), no code.
