@@ -1,5 +1,4 @@
 -- What several proofs share.
---   start-taken                          a client that start takes has a good plan and one of its users' numbers
 --   message-fits, message-written        where a first message is taken: the buffer is no longer than figures and key, and the message fills it
 --   Answers, reply-answers, reply-taken, answers-held    what holds where a reply is taken, and that it is taken
 --   each-next, each-end                  a row written place by place: one place more, and all places
@@ -14,12 +13,10 @@ use native.Mathlib.Numerals.{add-one}
 use native.Mathlib.Omega.{arith}
 use lib.ListN.{length, getD, take, set}
 use lib.Seq.{take-suc-set, take-all}
-use borrow.Author.Tests.{leb-true, eqb-true, eq-eqb}
+use borrow.Author.Tests.{eqb-true, eq-eqb}
 use Rattle.scheme.specs.Scheme as scheme
-use Rattle.scheme.specs.Scheme.{span, each, Arithmetic, elements, places, is-user, in-set, usable, usable-with, key-length, first-message, reply, is-fresh, open-to, start-refusal, message-refusal, reply-refusal, unless, _then_}
-use Rattle.scheme.specs.Good.{Good}
+use Rattle.scheme.specs.Scheme.{span, each, Arithmetic, elements, places, in-set, usable, usable-with, key-length, first-message, reply, is-fresh, open-to, start-refusal, message-refusal, reply-refusal, unless, _then_}
 use Rattle.scheme.proofs.Tests.{both, joined}
-use Rattle.scheme.proofs.Good.{good}
 use Rattle.scheme.proofs.Lists.{span-append}
 use Rattle.scheme.proofs.Refusals.{then-zero, unless-zero}
 use Rattle.plan.specs.declared.Plan.{Plan}
@@ -29,13 +26,6 @@ use Rattle.client.specs.declared.Stage.{Stage}
 use Rattle.client.specs.declared.Client.{Client}
 use Rattle.client.specs.declared.Start.the-variants.{Refused}
 use Rattle.client.specs.Client.{answer-refusal, start-answer, moved, has-answered, gives, part-of}
-
-pub start-taken : (p : scheme.Plan) (k : ℕ) → start-refusal p k ≡ 0 → Good p × (1 ≤ k) × (k ≤ p .users)
-unfolding start-refusal is-user
-start-taken p k e =
-    let s = then-zero _ _ e in
-    let u = both _ _ (unless-zero _ _ (s .1)) in
-    (good p (unless-zero _ _ (s .0)), leb-true _ _ (u .0), leb-true _ _ (u .1))
 
 module _ (A : Arithmetic) (p : scheme.Plan) (k : ℕ) (g : scheme.Stage) (ks fs : List ℕ) (out : ℕ) (e : message-refusal A p k g ks fs out ≡ 0) where
   message-lengths : (length ks ≡ key-length p k) × (length fs ≡ places p) × (out ≡ places p)

@@ -4,15 +4,13 @@
 -- Assumes nothing.
 use mathlib.Core.Path.{_≡_, refl, sym, ap, _∙_}
 use mathlib.Core.List.{List}
-use Prim.Native.Nat.{ℕ, zero, suc, _+_, _≤_}
+use Prim.Native.Nat.{ℕ, zero, suc, _+_}
 use native.Mathlib.Omega.{arith}
-use borrow.Author.Tests.{eqb-true, leb-true}
+use borrow.Author.Tests.{eqb-true}
 use lib.ListN.{length}
-use Rattle.scheme.specs.Scheme.{sixteen, is-user, key, key-length, first-message, reply-start, sent, answered, start-refusal, key-refusal, message-refusal, reply-refusal, written}
-use Rattle.scheme.specs.Good.{Good}
+use Rattle.scheme.specs.Scheme.{sixteen, key, key-length, first-message, reply-start, sent, answered, key-refusal, message-refusal, reply-refusal, written}
 use Rattle.scheme.proofs.Tests.{both}
-use Rattle.scheme.proofs.Good.{good}
-use Rattle.scheme.proofs.Refusals.{then-zero, unless-zero, written-taken, written-refused}
+use Rattle.scheme.proofs.Refusals.{then-zero, start-taken, unless-zero, written-taken, written-refused}
 use Rattle.document03.specs.Ours.{our-plan, plan-of-numbers, stage-of-number, left}
 use Rattle.document03.specs.Scheme as D
 use Rattle.document03.specs.Entry as E
@@ -44,13 +42,6 @@ left-refused {n = zero} h new old = absurd (h refl)
 left-refused {n = suc n} h new old = refl
 
 -- ---- the key maker
-start-taken : (p : D.Plan) (k : ℕ) → start-refusal (our-plan p) k ≡ 0 → Good (our-plan p) × (1 ≤ k) × (k ≤ p .k)
-unfolding start-refusal is-user
-start-taken p k e =
-    let s = then-zero _ _ e in
-    let u = both _ _ (unless-zero _ _ (s .1)) in
-    (good (our-plan p) (unless-zero _ _ (s .0)), leb-true _ _ (u .0), leb-true _ _ (u .1))
-
 put-says : (n : ℕ) {m : ℕ} (ws : List ℕ) {us : List ℕ} (r : ℕ) (o z : List ℕ) → n ≡ m → (m ≡ 0 → ws ≡ us) → r ≡ m → z ≡ written m us o → E.Put-says n ws r o z
 unfolding E.Put-says
 put-says zero ws {us} r o z e h f d = (f ∙ sym e, d ∙ written-taken (sym e) us o ∙ sym (h (sym e)))
@@ -63,7 +54,7 @@ unfolding E.Key-says D.plan key-refusal
 key-says k u t m a xs r o z f d =
     put-says _ _ r o z (key-refusal-same (D.plan k u t m) a xs (length o)) (λ e.
     let s = then-zero _ _ e in
-    let w = start-taken (D.plan k u t m) a (s .0) in
+    let w = start-taken (our-plan (D.plan k u t m)) a (s .0) in
     let l = both _ _ (unless-zero _ _ (then-zero _ _ (s .1) .0)) in
     key-same (D.plan k u t m) (w .0) xs a (w .1) (w .2) (eqb-true _ _ (l .0))) f d
 

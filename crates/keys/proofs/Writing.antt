@@ -1,25 +1,18 @@
 -- Lists written one behind the other.
---   sets-append     two lists
 --   sets-more       one word more of those that f gives for 0, 1, ..
 --   sets-whole      a list as long as what it is written over
 --   rows-take, rows-skip   the rows of the numbers that pass a test, one number more
 -- Assumes nothing.
 use mathlib.Core.Path.{_≡_, sym, ap, ap₂, _∙_}
 use mathlib.Core.Bool.{Bool, true, false}
-use mathlib.Core.List.{List, [], _∷_, _++_, map, map-append, append-nil}
-use Prim.Native.Nat.{ℕ, suc, _+_}
-use native.Mathlib.Nat.{add-zero, zero-add, add-suc, suc-add}
+use mathlib.Core.List.{List, [], _++_, map, map-append, append-nil}
+use Prim.Native.Nat.{ℕ, _+_}
+use native.Mathlib.Nat.{zero-add}
 use native.Mathlib.Omega.{arith}
 use lib.ListN.{length, set, drop-of-length-le}
 use lib.Seq.{sets, sets-eq}
 use Rattle.scheme.specs.Scheme.{span, keep, members, rows}
-use Rattle.scheme.proofs.Lists.{span-append, map-span-length, members-append, rows-append}
-
-pub sets-append : (o : List ℕ) (at : ℕ) (xs ys : List ℕ) → sets (sets o at xs) (at + length xs) ys ≡ sets o at (xs ++ ys)
-sets-append o at [] ys = ap (λ (k : ℕ). sets o k ys) (add-zero at)
-sets-append o at (x ∷ xs) ys =
-    ap (λ (k : ℕ). sets (sets (set o at x) (suc at) xs) k ys) (add-suc at (length xs) ∙ sym (suc-add at (length xs)))
-    ∙ sets-append (set o at x) (suc at) xs ys
+use Rattle.scheme.proofs.Lists.{span-append, map-span-length, members-append, rows-append, sets-append}
 
 pub sets-more : (o : List ℕ) (at i : ℕ) (f : ℕ → ℕ) → set (sets o at (map f (span i 0))) (at + i) (f i) ≡ sets o at (map f (span (i + 1) 0))
 sets-more o at i f =

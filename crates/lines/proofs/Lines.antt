@@ -1,5 +1,5 @@
 -- Texts written behind one another.
---   sets-append, sets-set            two texts; a byte behind a text, written first
+--   sets-set                         a byte behind a text, written first
 --   take-sets, drop-sets             what stands before the text's end, and behind it
 --   put-none, put-append, put-as     of Put: no text, two texts, an equal text
 --   put-more, put-all                one byte more of a text, and the whole of it
@@ -11,24 +11,18 @@
 use mathlib.Core.Path.{_≡_, refl, sym, ap, ap₂, _∙_}
 use mathlib.Core.List.{List, [], _∷_, _++_, append-assoc, append-nil}
 use Prim.Native.Nat.{ℕ, zero, suc, _+_, _-_, _/_, _%_, _≤_, _<_}
-use native.Mathlib.Nat.{add-zero}
 use native.Mathlib.Numerals.{add-one}
 use native.Mathlib.Omega.{arith}
 use lib.ListN.{length, getD, take, drop, set, length-append}
 use lib.Seq.{sets, sets-eq, length-sets, set-comm, take-at, drop-at, take-suc, take-length, length-take-le}
 use Rattle.scheme.specs.Scheme.{Plan}
 use Rattle.scheme.specs.Service.{planned, opened, closed, totalled, refused}
+use Rattle.scheme.proofs.Lists.{sets-append}
 use Rattle.lines.specs.Text.{decimal, numbers, line, plan-word, open-word, survivors-word, total-word, refused-word, at-word, line-end}
 use Rattle.lines.specs.Put.{Put}
 use Rattle.lines.proofs.Decimals.{spell, length-spell, spell-decimal}
 
 -- ---- sets
-pub sets-append : (o : List ℕ) (at : ℕ) (xs ys : List ℕ) → sets (sets o at xs) (at + length xs) ys ≡ sets o at (xs ++ ys)
-sets-append o at [] ys = ap (λ (k : ℕ). sets o k ys) (add-zero at)
-sets-append o at (x ∷ xs) ys =
-    let e : at + suc (length xs) ≡ suc at + length xs = omega arith in
-    ap (λ (k : ℕ). sets (sets (set o at x) (suc at) xs) k ys) e ∙ sets-append (set o at x) (suc at) xs ys
-
 pub sets-set : (o : List ℕ) (at : ℕ) (xs : List ℕ) (j x : ℕ) → at + length xs ≤ j → sets (set o j x) at xs ≡ set (sets o at xs) j x
 sets-set o at [] j x h = refl
 sets-set o at (y ∷ ys) j x h =

@@ -117,7 +117,7 @@ fn put_short(out: &mut [u8], at: usize, n: u16) -> usize
 }
 
 // One space and the decimal digits, the last digit first.
-pub fn put_number(out: &mut [u8], at: usize, n: u64) -> usize
+fn put_number(out: &mut [u8], at: usize, n: u64) -> usize
     requires { ⌜ at + 21 ≤ length (now out) ⌝ }
     ensures short { λ r. ⌜ r ≤ at + 21 ⌝ }
     ensures put { λ r. ⌜ Put (now (out .entry)) (now (out .exit)) at r (32 ∷ decimal n) ⌝ }
@@ -150,7 +150,7 @@ fn width(n: u64) -> usize
     k
 }
 
-pub fn put_bytes(out: &mut [u8], at: usize, text: &[u8]) -> usize
+fn put_bytes(out: &mut [u8], at: usize, text: &[u8]) -> usize
     requires { ⌜ at + length (now text) ≤ length (now out) ⌝ }
     ensures { λ r. ⌜ Put (now (out .entry)) (now (out .exit)) at r (now (text .entry)) ⌝ }
 {

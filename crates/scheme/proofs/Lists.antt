@@ -4,6 +4,7 @@
 --   members-append, members-in, in-members, members-once, members-fewer, members-le     those that pass a test
 --   rank-zero, rank-step, rank-le, rank-at, rank-lt             how many below v pass
 --   rows-same, rows-append, rows-length, rows-at                        one list for each number
+--   sets-append                                                 one list written behind another
 --   high, low, digits-lt                                        a number of two digits
 -- Assumes nothing.
 use mathlib.Core.Path.{_≡_, refl, sym, ap, ap₂, _∙_}
@@ -14,8 +15,8 @@ use Prim.Native.Nat.{ℕ, zero, suc, _+_, _*_, _-_, _/_, _%_, _≤_, _<_}
 use native.Mathlib.Nat.{add-zero, zero-add, add-suc, suc-add, suc-mul, zero-mul, mul-le-mul-right, mul-add-div-right, mul-add-mod-self-right, mod-eq-of-lt, div-eq-of-lt}
 use native.Mathlib.Decide.{ℕ-discrete}
 use native.Mathlib.Omega.{arith}
-use lib.ListN.{length, getD, take, drop, length-append}
-use lib.Seq.{take-at, drop-at, getD-at}
+use lib.ListN.{length, getD, take, drop, set, length-append}
+use lib.Seq.{sets, take-at, drop-at, getD-at}
 use Rattle.algebra.specs.Sums.{In, Distinct}
 use Rattle.scheme.specs.Scheme.{span, keep, members, rank, rows}
 use Rattle.scheme.proofs.Tests.{holds}
@@ -187,6 +188,13 @@ rows-at f m h t n v l e =
     let b = rows f (members t (n - suc v) (suc v)) in
     ap (λ (r : List ℕ). take m (drop (length (members t v 0) * m) r)) (ap (rows f) (members-split t n v l e) ∙ rows-append f (members t v 0) (v ∷ members t (n - suc v) (suc v)))
     ∙ ap (take m) (drop-at a (f v ++ b) _ (rows-length f m h (members t v 0))) ∙ take-at (f v) b m (h v)
+
+-- ---- writing
+pub sets-append : (o : List ℕ) (at : ℕ) (xs ys : List ℕ) → sets (sets o at xs) (at + length xs) ys ≡ sets o at (xs ++ ys)
+sets-append o at [] ys = ap (λ (k : ℕ). sets o k ys) (add-zero at)
+sets-append o at (x ∷ xs) ys =
+    let e : at + suc (length xs) ≡ suc at + length xs = omega arith in
+    ap (λ (k : ℕ). sets (sets (set o at x) (suc at) xs) k ys) e ∙ sets-append (set o at x) (suc at) xs ys
 
 -- ---- a number a * n + b with b below n
 pub high : (a b n : ℕ) → b < n → (a * n + b) / n ≡ a

@@ -4,13 +4,18 @@
 --   unless-held, unless-failed       one test
 --   unless-zero                      the number is not 0, so the test held
 --   written-taken, written-refused   a lent buffer
+--   start-taken                      a call that start's tests let pass has a good plan and one of its users
 -- Assumes nothing.
 use mathlib.Core.Path.{_≡_, refl, ap}
 use mathlib.Core.Bool.{Bool, true, false}
 use mathlib.Core.List.{List}
-use Prim.Native.Nat.{ℕ, zero, suc}
+use Prim.Native.Nat.{ℕ, zero, suc, _≤_}
 use native.Mathlib.Omega.{arith}
-use Rattle.scheme.specs.Scheme.{_then_, unless, written}
+use borrow.Author.Tests.{leb-true}
+use Rattle.scheme.specs.Scheme.{Plan, is-user, _then_, unless, start-refusal, written}
+use Rattle.scheme.specs.Good.{Good}
+use Rattle.scheme.proofs.Tests.{both}
+use Rattle.scheme.proofs.Good.{good}
 
 pub then-taken : {a : ℕ} → a ≡ 0 → (b : ℕ) → (a then b) ≡ b
 unfolding _then_
@@ -47,3 +52,10 @@ pub written-refused : {a : ℕ} → (a ≡ 0 → ⊥) → (new old : List ℕ) �
 unfolding written
 written-refused {a = zero} h new old = absurd (h refl)
 written-refused {a = suc a} h new old = refl
+
+pub start-taken : (p : Plan) (k : ℕ) → start-refusal p k ≡ 0 → Good p × (1 ≤ k) × (k ≤ p .users)
+unfolding start-refusal is-user
+start-taken p k e =
+    let s = then-zero _ _ e in
+    let u = both _ _ (unless-zero _ _ (s .1)) in
+    (good p (unless-zero _ _ (s .0)), leb-true _ _ (u .0), leb-true _ _ (u .1))

@@ -15,7 +15,8 @@ use Rattle.plan.specs.Plan.{plan-of}
 use Rattle.plan.proofs.Laws.{masks-inside}
 use Rattle.keys.specs.Parts.{Ready}
 use Rattle.keys.proofs.Accepted.{accepted}
-use Rattle.keys.proofs.Writing.{sets-append, sets-whole}
+use Rattle.scheme.proofs.Lists.{sets-append}
+use Rattle.keys.proofs.Writing.{sets-whole}
 use Rattle.keys.proofs.make_key.Statement.{statement}
 use Rattle.keys.proofs.make_key.Tie as tie
 

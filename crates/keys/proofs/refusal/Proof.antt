@@ -4,10 +4,10 @@ use native.Mathlib.Omega.{arith}
 use lib.ListN.{length}
 use borrow.Author.Tests.{eq-eqb, ne-eqb, not-true, not-false}
 use borrow.Author.Needs.{needs}
-use Rattle.scheme.specs.Scheme.{_then_, unless, start-refusal, key-refusal, list-length, key-length}
+use Rattle.scheme.specs.Scheme.{unless, start-refusal, key-refusal, list-length, key-length, _then_}
 use Rattle.scheme.proofs.Refusals.{then-refused}
 use Rattle.plan.specs.Plan.{plan-of}
-use Rattle.keys.proofs.Accepted.{started}
+use Rattle.scheme.proofs.Refusals.{start-taken}
 use Rattle.keys.proofs.refusal.Statement.{statement}
 use Rattle.keys.proofs.refusal.Tie as tie
 
@@ -30,7 +30,7 @@ unfolding key-refusal
 returns c = c .before .start-refusal .ensures ∙ sym (then-refused (λ e. c .if1 .taken (c .before .start-refusal .ensures ∙ e)) _)
 
 list-length-requires : tie.Need-list-length-requires
-list-length-requires c κs = started _ _ (start c) .0
+list-length-requires c κs = start-taken _ _ (start c) .0
 
 returns-2 : tie.Need-returns-2
 unfolding key-refusal _then_ unless
@@ -38,7 +38,7 @@ returns-2 c = rw (start (c .before .before), ne-eqb _ _ (λ e. c .if2 .taken (e 
 
 key-length-requires : tie.Need-key-length-requires
 key-length-requires c κs =
-    let g = started _ _ (start (c .before .before)) in
+    let g = start-taken _ _ (start (c .before .before)) in
     (g .0, g .1, omega (arith, g .2, g .0 .users-high))
 
 returns-3 : tie.Need-returns-3

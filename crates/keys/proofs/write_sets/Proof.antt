@@ -16,7 +16,8 @@ use Rattle.scheme.proofs.Keys.{shares-length}
 use Rattle.plan.specs.Plan.{plan-of}
 use Rattle.plan.proofs.Laws.{reply-inside}
 use Rattle.keys.proofs.Places.{rows-in, noise-set, noise-skip, noise-room, reply-set, reply-skip}
-use Rattle.keys.proofs.Writing.{sets-append, rows-take, rows-skip}
+use Rattle.scheme.proofs.Lists.{sets-append}
+use Rattle.keys.proofs.Writing.{rows-take, rows-skip}
 use Rattle.keys.proofs.write_sets.Statement.{statement}
 use Rattle.keys.proofs.write_sets.Tie as tie
 

@@ -10,7 +10,8 @@ use Rattle.scheme.specs.Scheme.{sixteen, reply}
 use Rattle.plan.specs.Plan.{plan-of}
 use Rattle.plan.proofs.Laws.{usable-le, reply-inside}
 use Rattle.client.specs.Client.{gives, part-of, part-start}
-use Rattle.client.proofs.Laws.{start-taken, Answers, reply-answers, answers-held}
+use Rattle.scheme.proofs.Refusals.{start-taken}
+use Rattle.client.proofs.Laws.{Answers, reply-answers, answers-held}
 use Rattle.client.proofs.Client.part.Statement.{statement}
 use Rattle.client.proofs.Client.part.Tie as tie
 
