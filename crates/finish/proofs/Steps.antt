@@ -58,18 +58,19 @@ module _ (s : Service) (w : Formed s) where
   abbrev p : Plan
   p = plan-of (s .head .plan)
 
+  abbrev given : List ℕ
+  given = totals-by sixteen (view s) (choice s)
+
   finish-same : finish-refusal s ≡ (refusal sixteen finish-record (view s) then unless (explained-by sixteen (view s) (choice s)) 16)
   unfolding finish-refusal refusal view
   finish-same = split _ _ _ _ _ (w .well .good)
 
-  totals-long : length (totals-by sixteen (view s) (choice s)) ≡ places p
+  totals-long : length given ≡ places p
   unfolding totals-by totals view
   totals-long = map-span-length _ (places p) 0
 
-  whole : take (places p) (padded 96 (totals-by sixteen (view s) (choice s))) ≡ totals-by sixteen (view s) (choice s)
-  whole =
-      subst (λ (n : ℕ). take n (padded 96 (totals-by sixteen (view s) (choice s))) ≡ totals-by sixteen (view s) (choice s)) totals-long
-      (padded-take 96 (totals-by sixteen (view s) (choice s)))
+  whole : take (places p) (padded 96 given) ≡ given
+  whole = subst (λ (n : ℕ). take n (padded 96 given) ≡ given) totals-long (padded-take 96 given)
 
   whole-answer : (n : ℕ) → finish-answer n s .number ≡ 0 → finish-answer n s .totals ≡ padded 96 (take (places p) (finish-answer n s .totals))
   unfolding finish-answer
@@ -92,10 +93,10 @@ module _ (s : Service) (w : Formed s) where
         (choice-first p r (good p (ripe .good)) (ripe .many) y b (values-small p r (good p (ripe .good)) (ripe .many) y b (λ k. w .well .replies-small k b))) f h)
         (explained sixteen p r y f h b i))
 
-    taken : explained-by sixteen (view s) (choice s) ≡ true → Is-step finish-record s (totalled (s .head .round) (take (places p) (padded 96 (totals-by sixteen (view s) (choice s))))) (finished (s .head))
+    taken : explained-by sixteen (view s) (choice s) ≡ true → Is-step finish-record s (totalled (s .head .round) (take (places p) (padded 96 given))) (finished (s .head))
     unfolding finished view phase-of has-plan nothing-first nothing-reply
     taken h =
-        let d : Steps sixteen finish-record (view s) (totalled (s .head .round) (totals-by sixteen (view s) (choice s))) (idle-state (view s)) = totals-up (view s) (choice s) e h in
+        let d : Steps sixteen finish-record (view s) (totalled (s .head .round) given) (idle-state (view s)) = totals-up (view s) (choice s) e h in
         record {
           step = rw (whole, finished-view s) d;
           formed = record {

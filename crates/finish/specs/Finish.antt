@@ -1,8 +1,10 @@
 -- What the finish call answers and leaves, for every state value.
+--   padded                        a list in the first places of n
 --   rows-of, values-of, columns   the users of a set, and their replies of a block, in eight places; the columns' points
---   choice                        the sums and noise of each block: the closed solution of the first U complete replies
---   finish-refusal                11, 12, 15, 16
---   padded, finish-step           the totals in the first places of 96; the whole answer
+--   choice-of, choice             the sums and noise of each block: the closed solution of the first U complete replies
+--   finish-refusal                11, 12, 15, 16; on a well-formed state the plan's test never acts
+--   finished, finish-refused      the state after a finish; what a refused one hands back
+--   finish-step                   the whole answer
 -- Assumes nothing: these are definitions.
 use mathlib.Core.List.{List, [], _∷_, _++_, map}
 use Prim.Native.Nat.{ℕ, zero, suc, _-_}
@@ -19,7 +21,6 @@ use Rattle.service.specs.View.{phase-of, view}
 use Rattle.service.specs.Calls.{nothing-first, nothing-reply}
 use Rattle.finish.specs.declared.Finished.{Finished}
 
--- a list in the first places of n
 unfoldable pub padded : (n : ℕ) → List ℕ → List ℕ
 padded n l = l ++ replicate (n - length l) 0
 

@@ -1,4 +1,4 @@
--- Finish: what the call answers and leaves. Promise: that it is the step of document 01's service.
+-- Finish: what the call answers and leaves. Promise: that it is the step of document 01's service. Parts: what the functions under it answer.
 pub mod Finish
-pub mod Parts
 pub mod Promise
+pub mod Parts

@@ -6,9 +6,8 @@
 //   Finished, finish                 what the call hands back, and the call: 11, 12, 15, 16
 // The call is no method of the service: it is the only one that needs the solver.
 ghost use mathlib.Core.Path.{_≡_};
-ghost use mathlib.Core.Bool.{true};
 ghost use mathlib.Core.List.{map};
-ghost use Prim.Native.Nat.{_+_, _*_, _-_, _≤_, _<_};
+ghost use Prim.Native.Nat.{_+_, _*_, _≤_, _<_};
 ghost use lib.ListN.{length, getD, replicate};
 ghost use lib.Seq.{sets};
 ghost use Rattle.scheme.specs.Scheme.{span, ones};

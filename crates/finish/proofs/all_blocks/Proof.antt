@@ -60,7 +60,7 @@ spread-requires c κs =
     let u = s .pre .1 in (
       listed-few _ _ _ _ (u .list-right) (u .count-right) (g .users-high),
       omega (arith, g .threshold-high, g .users-high),
-      room i,
+      omega (arith, room i),
       listed-points _ _ _ _ (u .list-right) (u .count-right) (g .users-high),
     )
 

@@ -1,8 +1,8 @@
 -- `finish::finish` meets its contract: the tests that led to each return decide the definition's.
 -- The complete set has no member above K, so the machine counts the ones that the definition counts. Assumes nothing.
-use mathlib.Core.Path.{_≡_, sym, ap, _∙_}
+use mathlib.Core.Path.{_≡_, sym, ap, _∙_, subst}
 use mathlib.Core.Bool.{true}
-use Prim.Native.Nat.{_^_, _<_}
+use Prim.Native.Nat.{ℕ, _^_, _<_}
 use native.Mathlib.Omega.{arith}
 use lib.ListN.{length}
 use lib.Count as machine
@@ -15,6 +15,7 @@ use Rattle.scheme.proofs.Held.{complete-below}
 use Rattle.scheme.proofs.Refusals.{unless-held, unless-failed}
 use Rattle.plan.specs.Plan.{plan-of}
 use Rattle.plan.proofs.Laws.{ones-same}
+use Rattle.service.specs.declared.Service.{Service}
 use Rattle.service.specs.View.{phase-of, view}
 use Rattle.service.proofs.Refused.{past-phase, stopped}
 use Rattle.finish.specs.Finish.{padded, choice, finish-refusal}
@@ -29,24 +30,26 @@ phase-right c = past-phase _ _ (sym (c .before .not-replying .ensures) ∙ c .if
 a-plan : (c : tie.Else2) → plan-good (plan-of (c .before .before .before .before .before .before .args .t1 .head .plan)) ≡ true
 a-plan c = sym (c .before .is-good .ensures) ∙ not-false _ (c .if2 .left)
 
-whole : (c : tie.After-complete-set) → c .complete-set .result ≡ replied (view (c .before .before .before .before .before .before .before .before .before .before .before .args .t1))
+-- the state, where the complete set is known
+abbrev state : tie.After-complete-set → Service
+state c = c .before .before .before .before .before .before .before .before .before .before .before .args .t1
+
+whole : (c : tie.After-complete-set) → c .complete-set .result ≡ replied (view (state c))
 unfolding replied view
 whole c = c .complete-set .ensures
 
-counted : (c : tie.After-complete-set) → machine.ones (c .complete-set .result) ≡ ones (c .before .before .before .before .before .before .before .before .before .before .before .args .t1 .head .plan .users) (c .complete-set .result)
+counted : (c : tie.After-complete-set) → machine.ones (c .complete-set .result) ≡ ones (state c .head .plan .users) (replied (view (state c)))
 counted c =
-    let h : c .complete-set .result < 2 ^ c .before .before .before .before .before .before .before .before .before .before .before .args .t1 .head .plan .users = rw (c .complete-set .ensures) (complete-below _ _ _) in
-    ones-same _ _ h
+    let h : c .complete-set .result < 2 ^ state c .head .plan .users =
+    subst (λ (v : ℕ). v < 2 ^ state c .head .plan .users) (sym (c .complete-set .ensures)) (complete-below _ _ _) in
+    ones-same _ _ h ∙ ap (ones (state c .head .plan .users)) (whole c)
 
-ripe : (c : tie.Else3) → Ripe (c .before .before .before .before .before .before .before .before .before .before .before .before .before .args .t1)
+ripe : (c : tie.Else3) → Ripe (state (c .before .before))
 ripe c =
-    let d = c .before .before in
-    let s = c .before .before .before .before .before .before .before .before .before .before .before .before .before .args .t1 in
-    let e : ones (s .head .plan .users) (d .complete-set .result) ≡ ones (s .head .plan .users) (replied (view s)) = ap (ones (s .head .plan .users)) (whole d) in
     let p = phase-right (c .before .before .before .before .before .before .before .before .before .before) in
-    record { planned = p .0; replying = p .1; good = a-plan (c .before .before .before .before .before .before .before); many = omega (arith, c .if3 .left, counted d, e) }
+    record { planned = p .0; replying = p .1; good = a-plan (c .before .before .before .before .before .before .before); many = omega (arith, c .if3 .left, counted (c .before .before)) }
 
-answer : (c : tie.After-totals-of) → let s = c .before .before .before .before .before .before .before .before .before .before .before .before .before .before .before .before .before .args .t1 in let t = c .totals-of .result in
+answer : (c : tie.After-totals-of) → let s = state (c .before .before .before .before .before .before) in let t = c .totals-of .result in
     (t .explained ≡ explained-by sixteen (view s) (choice s)) × (t .explained ≡ true → t .totals ≡ padded 96 (totals-by sixteen (view s) (choice s)))
 answer c = totalled-right _ _ _ (whole (c .before .before .before .before .before .before)) (c .totals-of .ensures)
 
@@ -90,14 +93,15 @@ returns-3 : tie.Need-returns-3
 unfolding finish-refusal unless _then_
 returns-3 c =
     let d = c .before .before .before in
-    let s = c .before .before .before .before .before .before .before .before .before .before .before .before .before .before .args .t1 in
     let p = phase-right (c .before .before .before .before .before .before .before .before .before .before .before) in
-    let e : ones (s .head .plan .users) (d .complete-set .result) ≡ ones (s .head .plan .users) (replied (view s)) = ap (ones (s .head .plan .users)) (whole d) in
-    let h : ones (s .head .plan .users) (replied (view s)) < s .head .plan .threshold = omega (arith, c .before .if3 .taken, counted d) in
+    let h : ones (state d .head .plan .users) (replied (view (state d))) < state d .head .plan .threshold = omega (arith, c .before .if3 .taken, counted d) in
     c .refused3 .ensures ∙ refused-right _ (λ z. omega arith) (simp (p .0, p .1, a-plan (c .before .before .before .before .before .before .before .before), lt-leb _ _ h))
 
 totals-of-requires : tie.Need-totals-of-requires
-totals-of-requires c κs = (good _ (a-plan (c .before .before .before .before .before .before .before .before .before .before)), omega (arith, c .before .before .before .if3 .left, counted (c .before .before .before .before .before)))
+totals-of-requires c κs =
+    let d = c .before .before .before .before .before in
+    let e = ap (ones (state d .head .plan .users)) (whole d) in
+    (good _ (a-plan (c .before .before .before .before .before .before .before .before .before .before)), omega (arith, c .before .before .before .if3 .left, counted d, e))
 
 refused-requires-4 : tie.Need-refused-requires-4
 refused-requires-4 c κs = search needs

@@ -3,6 +3,7 @@ use mathlib.Core.Path.{sym, _∙_}
 use native.Mathlib.Omega.{arith}
 use borrow.Author.Needs.{needs}
 use borrow.Author.Tests.{not-true, not-false}
+use Rattle.solve.proofs.Explains.{points-some}
 use Rattle.finish.proofs.Blocks.{system-few, system-many, system-points, system-ready, block-right, block-wrong}
 use Rattle.finish.proofs.solve_block.Statement.{statement}
 use Rattle.finish.proofs.solve_block.Tie as tie
@@ -22,7 +23,9 @@ explain-requires : tie.Need-explain-requires
 explain-requires c κs =
     let k = c .before .before .before .before .before .before .before .before .before .before in
     let s = k .before .before .before .before in
-    (system-many _ (s .pre .0), system-few _ (s .pre .0), system-points _ (s .pre .0), system-ready _ (s .pre .0) _ (k .the-columns .ensures))
+    let many = system-many _ (s .pre .0) in
+    let few = system-few _ (s .pre .0) in
+    (omega arith, omega arith, points-some (system-points _ (s .pre .0)) (omega arith) (omega arith), system-ready _ (s .pre .0) _ (k .the-columns .ensures))
 
 slice-aggregate-all-elements : tie.Need-slice-aggregate-all-elements
 slice-aggregate-all-elements c = search needs
