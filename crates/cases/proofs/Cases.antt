@@ -1,0 +1,78 @@
+-- The table of examples holds: every row by computation, but for the rounds that come after the last number.
+--   cases   THE TABLE
+-- Assumes nothing.
+use mathlib.Core.Path.{_≡_, refl, ap}
+use mathlib.Core.Bool.{Bool}
+use Prim.Native.Nat.{ℕ}
+use borrow.Author.Tests.{le-ltb}
+use Rattle.algebra.specs.Field.{sub}
+use Rattle.algebra.specs.Residue.{inverse, inverse-from}
+use Rattle.scheme.specs.Scheme as Scheme
+use Rattle.scheme.specs.Scheme.{unless}
+use Rattle.scheme.specs.Promise.{shown}
+use Rattle.scheme.specs.Totals as Totals
+use Rattle.scheme.specs.Delta as Delta
+use Rattle.scheme.specs.Service as Service
+use Rattle.scheme.proofs.Modular.{modular-laws, sixteen-laws}
+use Rattle.solve.specs.Solve.{laws16, point, unknown-at}
+use Rattle.client.specs.Client as Client
+use Rattle.service.specs.View as View
+use Rattle.service.specs.Calls as Calls
+use Rattle.finish.specs.Finish as Finish
+use Rattle.cases.specs.Cases.{key-from, key-of, message, part, tried, planned, opened, firsts, replies, pooled, told, told-5, told-7, Cases}
+
+pub cases : Cases
+unfolding key-from key-of message part tried planned opened firsts replies pooled told told-5 told-7
+    sub inverse inverse-from modular-laws sixteen-laws laws16 point unknown-at shown
+    Scheme.rank Scheme.elements Scheme.sum Scheme.plan-good Scheme.items Scheme.places Scheme.is-user Scheme.in-set Scheme.ones Scheme.usable Scheme.usable-with
+    Scheme.users-in Scheme.usable-sets Scheme.sets-with Scheme.list-length Scheme.mask Scheme.noise-start Scheme.noise Scheme.column Scheme.row-value
+    Scheme.share Scheme.shares Scheme.key Scheme.key-length Scheme.first-message Scheme.reply-start Scheme.reply Scheme._then_ unless
+    Scheme.is-fresh Scheme.open-to Scheme.start-refusal Scheme.key-refusal Scheme.message-refusal Scheme.reply-refusal Scheme.written
+    Totals.all-of Totals.explains Totals.explains-all Totals.total-of Totals.totals
+    Delta.colluders-in Delta.kept Delta.given Delta.shift Delta.delta Delta.translation Delta.gap-of Delta.table-delta Delta.partner
+    Service.has-plan Service.is-gathering Service.is-replying Service.is-held Service.element-of Service.set-of Service.complete-set Service.gathered
+    Service.replied Service.explained-by Service.totals-by
+    Client.stage-of Client.moved Client.has-answered Client.gives Client.part-of
+    View.phase-of View.stored View.look View.view
+    Calls.after Calls.nothing-first Calls.nothing-reply Calls.new-service Calls.plan-refusal Calls.planned Calls.plan-step Calls.open-refusal Calls.opened
+    Calls.open-step Calls.first-refusal Calls.first-left Calls.first-step Calls.reply-refusal Calls.reply-left Calls.reply-step Calls.close-refusal
+    Calls.closed Calls.close-answer Calls.close-step
+    Finish.padded Finish.rows-of Finish.values-of Finish.choice-of Finish.choice Finish.finish-refusal Finish.finish-answer Finish.finish-step
+cases = record {
+  inverses = refl;
+  key-1 = refl;
+  key-2 = refl;
+  key-3 = refl;
+  messages = refl;
+  parts-5 = refl;
+  parts-7 = refl;
+  survivors-5 = refl;
+  total-5 = refl;
+  total-7-by-1-2 = refl;
+  total-7-by-1-3 = refl;
+  total-7-by-2-3 = refl;
+  total-7-by-all = refl;
+  wrong-7 = refl;
+  wrong-5 = refl;
+  good = refl;
+  partner = refl;
+  same-shown = refl;
+  sum-wraps = refl;
+  list-3 = refl;
+  list-3-left = refl;
+  figure-3 = refl;
+  first-3 = refl;
+  sixteen-blocks = refl;
+  seventeen-blocks = refl;
+  threshold-is-users = refl;
+  threshold-is-collusion = refl;
+  list-4080 = refl;
+  keys-2048 = refl;
+  round-0 = refl;
+  last-round = refl;
+  none-after = λ r h. ap (λ (b : Bool). unless b 17) (le-ltb _ r h);
+  set-1 = refl;
+  set-5-of-2 = refl;
+  set-5 = refl;
+  then-set-7 = refl;
+}

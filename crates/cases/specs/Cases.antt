@@ -1,0 +1,150 @@
+-- The starred examples of document 01 ("Example round"), about the definitions that the contracts name: one table, a row for each example.
+--   plan, random, partner-list, bad-list, figures   K, U, T, M = 3, 2, 1, 1; the random list, its partner, one that is refused; tables of figures
+--   key-of, end-of, message, part, handed           a user's key; its airfield end; its first message and its reply; an answer of an end
+--   tried                                           the numbers that the service and an airfield end have for a plan
+--   planned, opened, pooled, told                   a service with the plan; in a round; with the replies; what its finish tells
+--   Cases                                           THE TABLE
+-- Assumes nothing: these are definitions.
+use mathlib.Core.Path.{_≡_}
+use mathlib.Core.Bool.{true}
+use mathlib.Core.List.{List, [], _∷_, map}
+use Prim.Native.Nat.{ℕ, _≤_}
+use lib.ListN.{getD, take, replicate}
+use Rattle.algebra.specs.Residue.{inverse}
+use Rattle.scheme.specs.Scheme.{span, q, sixteen, plan-good, list-length, key, key-length, start-refusal, key-refusal, written}
+use Rattle.scheme.specs.Promise.{Table, shown}
+use Rattle.scheme.specs.Delta as Delta
+use Rattle.scheme.proofs.Modular.{sixteen-laws}
+use Rattle.plan.specs.declared.Plan.{Plan}
+use Rattle.plan.specs.Plan.{plan-of}
+use Rattle.client.specs.declared.Stage.{Stage}
+use Rattle.client.specs.declared.Stage.the-variants.{Fresh, Sent, Answered}
+use Rattle.client.specs.declared.Client.{Client}
+use Rattle.client.specs.declared.Answer.{Answer}
+use Rattle.client.specs.Client.{first-answer, message-left, reply-answer, part-of}
+use Rattle.service.specs.declared.Service.{Service}
+use Rattle.service.specs.Calls.{new-service, plan-step, open-step, first-step, close-step, reply-step}
+use Rattle.finish.specs.declared.Finished.{Finished}
+use Rattle.finish.specs.Finish.{finish-step}
+
+-- ---- PLANS, LISTS AND FIGURES
+abbrev pub plan-with : (users threshold collusion blocks : ℕ) → Plan
+plan-with k u t m = record { users = k; threshold = u; collusion = t; blocks = m }
+
+abbrev pub plan : Plan
+plan = plan-with 3 2 1 1
+
+abbrev pub random : List ℕ
+random = 100 ∷ 200 ∷ 300 ∷ 12 ∷ 60 ∷ 40 ∷ 120 ∷ []
+
+-- what shows with the figures 10, 25, 30 the same as random with 10, 20, 30
+abbrev pub partner-list : List ℕ
+partner-list = 100 ∷ 195 ∷ 300 ∷ 32780 ∷ 60 ∷ 40 ∷ 32888 ∷ []
+
+abbrev pub bad-list : List ℕ
+bad-list = 100 ∷ 200 ∷ 300 ∷ 12 ∷ 60 ∷ 40 ∷ 65521 ∷ []
+
+abbrev pub figures : (a b c : ℕ) → Table
+figures a b c k = getD (0 ∷ a ∷ b ∷ c ∷ []) k 0 ∷ []
+
+-- ---- AIRFIELD ENDS
+-- what the key maker leaves in a buffer of four zeros
+unfoldable pub key-from : (list : List ℕ) → (k : ℕ) → List ℕ
+key-from xs k = written (key-refusal sixteen (plan-of plan) k xs 4) (key sixteen (plan-of plan) xs k) (replicate 4 0)
+
+unfoldable pub key-of : (k : ℕ) → List ℕ
+key-of = key-from random
+
+abbrev pub end-of : (k : ℕ) → Stage → Client
+end-of k g = record { plan = plan; user = k; stage = g }
+
+-- what a fresh end leaves in a buffer that held 1
+unfoldable pub message : (k : ℕ) → (key figures : List ℕ) → List ℕ
+message k ks fs = message-left (end-of k Fresh) ks fs (1 ∷ [])
+
+-- what an end that is asked for the set, and has sent, hands back
+unfoldable pub part : (set k : ℕ) → List ℕ
+part v k = part-of (reply-answer (end-of k Sent) (key-of k) v .client) (key-of k) v
+
+abbrev pub handed : (number : ℕ) → Client → Answer
+handed n c = record { number = n; client = c }
+
+-- ---- THE SERVICE
+unfoldable pub tried : Plan → List ℕ
+tried p = plan-step new-service p .number ∷ start-refusal (plan-of p) 1 ∷ []
+
+unfoldable pub planned : Service
+planned = plan-step new-service plan .service
+
+unfoldable pub opened : (round : ℕ) → Service
+opened r = open-step planned r .service
+
+-- users and their elements, of the one place and the one block
+unfoldable pub firsts : List (ℕ × ℕ) → Service → Service
+firsts [] s = s
+firsts ((k, x) ∷ l) s = firsts l (first-step s k 0 x .service)
+
+unfoldable pub replies : List (ℕ × ℕ) → Service → Service
+replies [] s = s
+replies ((k, y) ∷ l) s = replies l (reply-step s k 0 y .service)
+
+unfoldable pub pooled : (sent answered : List (ℕ × ℕ)) → Service
+pooled xs ys = replies ys (close-step (firsts xs (opened 7)) .service)
+
+-- number and total
+unfoldable pub told : Finished → List ℕ
+told f = f .number ∷ take 1 (f .totals)
+
+-- survivors 1 and 3, with their replies; survivors 1, 2 and 3, with the replies that came
+unfoldable pub told-5 : (a c : ℕ) → List ℕ
+told-5 a c = told (finish-step (pooled ((1, 110) ∷ (3, 330) ∷ []) ((1, a) ∷ (3, c) ∷ [])))
+
+unfoldable pub told-7 : (answered : List (ℕ × ℕ)) → List ℕ
+told-7 ys = told (finish-step (pooled ((1, 110) ∷ (2, 220) ∷ (3, 330) ∷ []) ys))
+
+-- ---- THE TABLE
+pub record Cases : Type 0 where
+  -- keys and messages
+  pub inverses : map (inverse q) (2 ∷ 3 ∷ 4 ∷ 5 ∷ []) ≡ 32761 ∷ 43681 ∷ 49141 ∷ 52417 ∷ []
+  pub key-1 : key-of 1 ≡ 100 ∷ 154 ∷ 220 ∷ 340 ∷ []
+  pub key-2 : key-of 2 ≡ 200 ∷ 103 ∷ 22017 ∷ 230 ∷ []
+  pub key-3 : key-of 3 ≡ 300 ∷ 112 ∷ 133 ∷ 174 ∷ []
+  pub messages : map (λ k. message k (key-of k) (figures 10 20 30 k)) (1 ∷ 2 ∷ 3 ∷ []) ≡ (110 ∷ []) ∷ (220 ∷ []) ∷ (330 ∷ []) ∷ []
+  pub parts-5 : map (part 5) (1 ∷ 3 ∷ []) ≡ (220 ∷ []) ∷ (112 ∷ []) ∷ []
+  pub parts-7 : map (part 7) (1 ∷ 2 ∷ 3 ∷ []) ≡ (340 ∷ []) ∷ (230 ∷ []) ∷ (174 ∷ []) ∷ []
+  -- totals: of set 5; of set 7 with any two replies, and with all three
+  pub survivors-5 : close-step (firsts ((1, 110) ∷ (3, 330) ∷ []) (opened 7)) .set ≡ 5
+  pub total-5 : told-5 220 112 ≡ 0 ∷ 40 ∷ []
+  pub total-7-by-1-2 : told-7 ((1, 340) ∷ (2, 230) ∷ []) ≡ 0 ∷ 60 ∷ []
+  pub total-7-by-1-3 : told-7 ((1, 340) ∷ (3, 174) ∷ []) ≡ 0 ∷ 60 ∷ []
+  pub total-7-by-2-3 : told-7 ((2, 230) ∷ (3, 174) ∷ []) ≡ 0 ∷ 60 ∷ []
+  pub total-7-by-all : told-7 ((1, 340) ∷ (2, 230) ∷ (3, 174) ∷ []) ≡ 0 ∷ 60 ∷ []
+  -- three replies show that one is wrong; two do not
+  pub wrong-7 : told-7 ((1, 340) ∷ (2, 230) ∷ (3, 175) ∷ []) ≡ 16 ∷ 0 ∷ []
+  pub wrong-5 : told-5 221 113 ≡ 0 ∷ 48 ∷ []
+  -- set 5, colluder 1, and the table 10, 25, 30
+  pub good : plan-good (plan-of plan) ≡ true
+  pub partner : Delta.partner sixteen (plan-of plan) (sixteen-laws (plan-of plan) good) 1 (figures 10 20 30) (figures 10 25 30) random ≡ partner-list
+  pub same-shown : shown sixteen (plan-of plan) 5 1 random (figures 10 20 30) ≡ shown sixteen (plan-of plan) 5 1 partner-list (figures 10 25 30)
+  -- elements: 65520 and 1 give 0; 65521 is none, for the key maker, an end and the service
+  pub sum-wraps : message 1 (1 ∷ 154 ∷ 220 ∷ 340 ∷ []) (65520 ∷ []) ≡ 0 ∷ []
+  pub list-3 : key-refusal sixteen (plan-of plan) 1 bad-list 4 ≡ 3
+  pub list-3-left : key-from bad-list 1 ≡ replicate 4 0
+  pub figure-3 : first-answer (end-of 1 Fresh) (key-of 1) (65521 ∷ []) 1 ≡ handed 3 (end-of 1 Fresh)
+  pub first-3 : first-step (opened 7) 1 0 65521 .number ≡ 3
+  -- plans
+  pub sixteen-blocks : tried (plan-with 3 2 1 16) ≡ 0 ∷ 0 ∷ []
+  pub seventeen-blocks : tried (plan-with 3 2 1 17) ≡ 1 ∷ 1 ∷ []
+  pub threshold-is-users : tried (plan-with 3 3 1 1) ≡ 1 ∷ 1 ∷ []
+  pub threshold-is-collusion : tried (plan-with 3 2 2 1) ≡ 1 ∷ 1 ∷ []
+  pub list-4080 : list-length (plan-of (plan-with 8 2 1 16)) ≡ 4080
+  pub keys-2048 : map (key-length (plan-of (plan-with 8 2 1 16))) (span 8 1) ≡ replicate 8 2048
+  -- rounds: 0 never opens; after the last 32-bit number no 32-bit number opens
+  pub round-0 : open-step planned 0 .number ≡ 17
+  pub last-round : open-step planned 4294967295 .number ≡ 0
+  pub none-after : (r : ℕ) → r ≤ 4294967295 → open-step (opened 4294967295) r .number ≡ 17
+  -- sets asked of ends that have sent, and of one that has answered 5
+  pub set-1 : reply-answer (end-of 1 Sent) (key-of 1) 1 ≡ handed 5 (end-of 1 Sent)
+  pub set-5-of-2 : reply-answer (end-of 2 Sent) (key-of 2) 5 ≡ handed 6 (end-of 2 Sent)
+  pub set-5 : reply-answer (end-of 1 Sent) (key-of 1) 5 ≡ handed 0 (end-of 1 (Answered 5))
+  pub then-set-7 : reply-answer (end-of 1 (Answered 5)) (key-of 1) 7 ≡ handed 19 (end-of 1 (Answered 5))
