@@ -1,0 +1,137 @@
+//! Safe Rust over the functions that include/cutawheno.h declares; link with libcapi.a.
+//! A slice carries its own length, and the buffer to be written overlaps no other: what the header asks of a caller always holds.
+
+/// K, U, T and M of document 01.
+#[derive(Clone, Copy, Debug, PartialEq, Eq)]
+pub struct Plan {
+    pub users: u32,
+    pub threshold: u32,
+    pub collusion: u32,
+    pub blocks: u32,
+}
+
+/// Why a call is refused, by document 01's numbers.
+#[derive(Clone, Copy, Debug, PartialEq, Eq)]
+pub enum Refusal {
+    BadPlan = 1,
+    BadLength = 2,
+    BadElement = 3,
+    BadUser = 4,
+    SetUnusable = 5,
+    NotInSet = 6,
+    OutOfTurn = 18,
+    OtherSet = 19,
+}
+
+/// An airfield end: its plan, its user and its stage. It cannot be copied, so each stage is left once.
+#[derive(Debug)]
+pub struct End {
+    plan: Plan,
+    user: u32,
+    stage: u32,
+}
+
+#[repr(C)]
+struct Sent {
+    number: u32,
+    stage: u32,
+}
+
+#[repr(C)]
+struct Part {
+    number: u32,
+    start: u32,
+    count: u32,
+    stage: u32,
+}
+
+#[link(name = "capi", kind = "static")]
+extern "C" {
+    fn cutawheno_list_len(users: u32, threshold: u32, collusion: u32, blocks: u32) -> u32;
+    fn cutawheno_key_len(users: u32, threshold: u32, collusion: u32, blocks: u32) -> u32;
+    fn cutawheno_make_key(
+        list: *const u16, list_len: usize, key: *mut u16, key_len: usize,
+        users: u32, threshold: u32, collusion: u32, blocks: u32, user: u32,
+    ) -> u32;
+    fn cutawheno_first_message(
+        key: *const u16, key_len: usize, figures: *const u16, figures_len: usize, message: *mut u16, message_len: usize,
+        users: u32, threshold: u32, collusion: u32, blocks: u32, user: u32, stage: u32,
+    ) -> Sent;
+    fn cutawheno_reply(
+        key: *const u16, key_len: usize,
+        users: u32, threshold: u32, collusion: u32, blocks: u32, user: u32, stage: u32, set: u32,
+    ) -> Part;
+}
+
+fn outcome(number: u32) -> Result<(), Refusal> {
+    match number {
+        0 => Ok(()),
+        1 => Err(Refusal::BadPlan),
+        2 => Err(Refusal::BadLength),
+        3 => Err(Refusal::BadElement),
+        4 => Err(Refusal::BadUser),
+        5 => Err(Refusal::SetUnusable),
+        6 => Err(Refusal::NotInSet),
+        18 => Err(Refusal::OutOfTurn),
+        19 => Err(Refusal::OtherSet),
+        _ => unreachable!("the calls have no other refusal"),
+    }
+}
+
+impl Plan {
+    /// The length of the random list; 0 for a plan outside its ranges.
+    pub fn list_len(self) -> usize {
+        // SAFETY: numbers alone.
+        unsafe { cutawheno_list_len(self.users, self.threshold, self.collusion, self.blocks) as usize }
+    }
+
+    /// The length of each user's key; 0 for a plan outside its ranges.
+    pub fn key_len(self) -> usize {
+        // SAFETY: numbers alone.
+        unsafe { cutawheno_key_len(self.users, self.threshold, self.collusion, self.blocks) as usize }
+    }
+
+    /// Writes the user's key, made from the random list.
+    pub fn make_key(self, user: u32, list: &[u16], key: &mut [u16]) -> Result<(), Refusal> {
+        // SAFETY: pointers and lengths are those of slices, of which the written one is borrowed alone.
+        outcome(unsafe {
+            cutawheno_make_key(
+                list.as_ptr(), list.len(), key.as_mut_ptr(), key.len(),
+                self.users, self.threshold, self.collusion, self.blocks, user,
+            )
+        })
+    }
+}
+
+impl End {
+    /// A fresh end; a plan or user that does not serve is refused by the first call.
+    pub fn new(plan: Plan, user: u32) -> End {
+        End { plan, user, stage: 0 }
+    }
+
+    /// Writes the first message: figures plus masks, place by place.
+    pub fn first_message(&mut self, key: &[u16], figures: &[u16], message: &mut [u16]) -> Result<(), Refusal> {
+        let p = self.plan;
+        // SAFETY: pointers and lengths are those of slices, of which the written one is borrowed alone.
+        let sent = unsafe {
+            cutawheno_first_message(
+                key.as_ptr(), key.len(), figures.as_ptr(), figures.len(), message.as_mut_ptr(), message.len(),
+                p.users, p.threshold, p.collusion, p.blocks, self.user, self.stage,
+            )
+        };
+        self.stage = sent.stage;
+        outcome(sent.number)
+    }
+
+    /// The shares for the announced set: the part of the key where they lie.
+    pub fn reply<'a>(&mut self, key: &'a [u16], set: u32) -> Result<&'a [u16], Refusal> {
+        let p = self.plan;
+        // SAFETY: pointer and length are those of a slice.
+        let part = unsafe {
+            cutawheno_reply(key.as_ptr(), key.len(), p.users, p.threshold, p.collusion, p.blocks, self.user, self.stage, set)
+        };
+        self.stage = part.stage;
+        outcome(part.number)?;
+        Ok(&key[part.start as usize..][..part.count as usize])
+    }
+}

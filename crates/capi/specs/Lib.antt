@@ -1,0 +1,4 @@
+-- Calls: what the exported calls hand back, by the refusals and messages of scheme's specs/Scheme.antt.
+-- Promise: what callers in C and Rust lean on.
+pub mod Calls
+pub mod Promise

@@ -1,0 +1,34 @@
+-- What callers in C and Rust lean on.
+--   Same-length       one length serves every user's key
+--   Part-is-reply     the part that a taken reply names is document 01's reply
+--   Same-part         "the same set asked again gets the same part"
+--   One-set           the stage that a taken reply hands back lets no other set be answered
+--   Stages-numbered   a stage and its number say the same
+-- Assumes nothing: these are definitions.
+use mathlib.Core.Path.{_≡_}
+use mathlib.Core.Logic.{_≢_}
+use mathlib.Core.Bool.{true}
+use mathlib.Core.List.{List}
+use Prim.Native.Nat.{ℕ}
+use lib.ListN.{take, drop}
+use Rattle.scheme.specs.Scheme.{Plan, Stage, sixteen, plan-good, is-user, key-length, reply, reply-refusal}
+use Rattle.capi.specs.Calls.{stage-of-number, stage-number, key-len, part-answer}
+
+unfoldable pub Same-length : Type 0
+Same-length = (p : Plan) (k : ℕ) → plan-good p ≡ true → is-user p k ≡ true → key-length p k ≡ key-len p
+
+unfoldable pub Part-is-reply : Type 0
+Part-is-reply =
+    (p : Plan) (ks : List ℕ) (k s v : ℕ) → let part = part-answer 0 p k s v in
+    take (part .count) (drop (part .start) ks) ≡ reply p ks k v
+
+unfoldable pub Same-part : Type 0
+Same-part =
+    (p : Plan) (ks : List ℕ) (k s v : ℕ) → reply-refusal sixteen p k (stage-of-number s) ks v ≡ 0 → let part = part-answer 0 p k s v in
+    part-answer (reply-refusal sixteen p k (stage-of-number (part .stage)) ks v) p k (part .stage) v ≡ part
+
+unfoldable pub One-set : Type 0
+One-set = (p : Plan) (ks : List ℕ) (k s v w : ℕ) → v ≢ w → reply-refusal sixteen p k (stage-of-number (part-answer 0 p k s v .stage)) ks w ≢ 0
+
+unfoldable pub Stages-numbered : Type 0
+Stages-numbered = ((s : ℕ) → stage-number (stage-of-number s) ≡ s) × ((g : Stage) → stage-of-number (stage-number g) ≡ g)

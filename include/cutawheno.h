@@ -1,0 +1,98 @@
+/* Key maker and airfield end of document 01, for C: the functions that crates/capi exports (rt staticlib capi gives libcapi.a).
+ *
+ * A plan is four numbers: users (K), threshold (U), collusion (T) and blocks (M). A user is an airfield's number, 1 to K; a set of
+ * users is a number whose bit k - 1 stands for user k. An element is a number below CUTAWHENO_Q. A row of figures, and a first
+ * message, has blocks * (threshold - collusion) elements.
+ *
+ * An end is its plan, its user and its stage, which the caller keeps and hands to each call: it begins at CUTAWHENO_FRESH, and
+ * after each call its stage is the one in the answer. Whoever lets two calls start from one stage, or sets a stage back, gives up
+ * what the stages are for: an end that answers a single set.
+ *
+ * Each call answers CUTAWHENO_TAKEN or the earliest refusal that applies, in the order that its comment gives. A refused call
+ * writes nothing into a lent buffer and hands the stage back as it came. No input makes a call fail in any other way, provided
+ * that each pointer leads to as many elements as the length beside it says, and that the buffer to be written overlaps no list. A
+ * list of length 0 may have any pointer that is not null and is aligned for uint16_t.
+ */
+#ifndef CUTAWHENO_H
+#define CUTAWHENO_H
+
+#include <stddef.h>
+#include <stdint.h>
+
+#ifdef __cplusplus
+extern "C" {
+#endif
+
+enum {
+    CUTAWHENO_Q = 65521, /* elements are below it */
+    CUTAWHENO_LEAST_USERS = 3,
+    CUTAWHENO_MOST_USERS = 8,
+    CUTAWHENO_MOST_BLOCKS = 16,
+    CUTAWHENO_MOST_PLACES = 96 /* of a row of figures */
+};
+
+/* Why a call is refused. */
+enum {
+    CUTAWHENO_TAKEN = 0,
+    CUTAWHENO_BAD_PLAN = 1,      /* plan outside its ranges */
+    CUTAWHENO_BAD_LENGTH = 2,    /* a lent list or buffer is not of the plan's length */
+    CUTAWHENO_BAD_ELEMENT = 3,   /* an element above 65520 */
+    CUTAWHENO_BAD_USER = 4,      /* user 0 or above the plan's users */
+    CUTAWHENO_SET_UNUSABLE = 5,  /* fewer than the threshold in the set, or a user that the plan has not */
+    CUTAWHENO_NOT_IN_SET = 6,    /* the user is not in the set */
+    CUTAWHENO_OUT_OF_TURN = 18,  /* first message already given, or a reply asked of a fresh end */
+    CUTAWHENO_OTHER_SET = 19     /* a set other than the one answered */
+};
+
+/* The stage of an end; one that has answered the set v is at CUTAWHENO_ANSWERED + v. */
+enum {
+    CUTAWHENO_FRESH = 0,
+    CUTAWHENO_SENT = 1,
+    CUTAWHENO_ANSWERED = 2
+};
+
+/* What a first message answers: the refusal or 0, and the stage of the end from now on. */
+typedef struct {
+    uint32_t number;
+    uint32_t stage;
+} CutawhenoSent;
+
+/* What a reply answers: the refusal or 0; the shares, which are the `count` elements of the key from `start` on (none after a
+ * refusal); the stage of the end from now on. */
+typedef struct {
+    uint32_t number;
+    uint32_t start;
+    uint32_t count;
+    uint32_t stage;
+} CutawhenoPart;
+
+/* The length of the random list of a plan; 0 for a plan outside its ranges. */
+uint32_t cutawheno_list_len(uint32_t users, uint32_t threshold, uint32_t collusion, uint32_t blocks);
+
+/* The length of a key of a plan, the same for every user; 0 for a plan outside its ranges. */
+uint32_t cutawheno_key_len(uint32_t users, uint32_t threshold, uint32_t collusion, uint32_t blocks);
+
+/* Writes the user's key, made from the random list. The list has cutawheno_list_len elements, the key cutawheno_key_len.
+ * Refusals, the earliest: BAD_PLAN, BAD_USER, BAD_LENGTH, BAD_ELEMENT (in the list). */
+uint32_t cutawheno_make_key(const uint16_t *list, size_t list_len, uint16_t *key, size_t key_len,
+                            uint32_t users, uint32_t threshold, uint32_t collusion, uint32_t blocks, uint32_t user);
+
+/* Writes the first message: figures plus masks, place by place. The end must be fresh, and has then sent.
+ * Refusals, the earliest: BAD_PLAN, BAD_USER, OUT_OF_TURN, BAD_LENGTH, BAD_ELEMENT (in key or figures). */
+CutawhenoSent cutawheno_first_message(const uint16_t *key, size_t key_len, const uint16_t *figures, size_t figures_len,
+                                      uint16_t *message, size_t message_len,
+                                      uint32_t users, uint32_t threshold, uint32_t collusion, uint32_t blocks, uint32_t user,
+                                      uint32_t stage);
+
+/* Tells where in the key the shares for the announced set lie. The end must have sent, and has then answered the set; the same set
+ * asked again gets the same part.
+ * Refusals, the earliest: BAD_PLAN, BAD_USER, OUT_OF_TURN, BAD_LENGTH, BAD_ELEMENT (in the key), SET_UNUSABLE, NOT_IN_SET, OTHER_SET. */
+CutawhenoPart cutawheno_reply(const uint16_t *key, size_t key_len,
+                              uint32_t users, uint32_t threshold, uint32_t collusion, uint32_t blocks, uint32_t user,
+                              uint32_t stage, uint32_t set);
+
+#ifdef __cplusplus
+}
+#endif
+
+#endif
