@@ -2,7 +2,7 @@
 --   spell, length-spell, spell-decimal   a given number of digits, the last one split off; those of a number
 --   decimal-some, decimal-twenty         at least one digit, and at most 20
 --   decimal-most, decimal-least          below a power of ten, and from one on
---   decimal-ten, decimal-five            of 32 bits, of 16 bits
+--   decimal-five                         of 16 bits
 -- Assumes nothing.
 use mathlib.Core.Path.{_≡_, refl, ap, _∙_}
 use mathlib.Core.List.{List, [], _∷_, _++_}
@@ -82,9 +82,6 @@ decimal-least k n =
     last : (m n : ℕ) (l : List ℕ) → 10 ≤ n → ((k : ℕ) → k < m → 10 ^ k ≤ n / 10 → k < length l) → (k : ℕ) → k < suc m → 10 ^ k ≤ n → k < length (l ++ ((48 + n % 10) ∷ []))
     last m n l h p zero i j = omega (arith, length-last l (48 + n % 10))
     last m n l h p (suc k) i j = omega (arith, length-last l (48 + n % 10), p k (omega arith) (omega (arith, pow-suc 10 k)))
-
-pub decimal-ten : (n : ℕ) → n < 2 ^ 32 → length (decimal n) ≤ 10
-decimal-ten n h = decimal-most 10 n (omega arith) (omega arith)
 
 pub decimal-five : (n : ℕ) → n < 2 ^ 16 → length (decimal n) ≤ 5
 decimal-five n h = decimal-most 5 n (omega arith) (omega arith)

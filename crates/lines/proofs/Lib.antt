@@ -1,4 +1,3 @@
--- Decimals: how many digits. Lines: texts behind one another. Lengths: how long a line is.
+-- Decimals: how many digits. Lines: texts behind one another.
 pub mod Decimals
 pub mod Lines
-pub mod Lengths

@@ -6,7 +6,6 @@ use mathlib.Core.Bool.{cond}
 use mathlib.Core.List.{List, [], _∷_, _++_}
 use Prim.Native.Nat.{ℕ, zero, suc, _+_, _/_, _%_}
 use lib.Dec.{ltb}
-use Rattle.scheme.specs.Scheme.{Plan}
 use Rattle.scheme.specs.Service.{Answer, silent, planned, opened, closed, totalled, refused}
 
 -- of a number with at most `most` digits: those of the tenth part, then the last

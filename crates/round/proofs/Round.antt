@@ -5,22 +5,21 @@ use mathlib.Core.Path.{_≡_, sym, ap, _∙_}
 use mathlib.Core.Bool.{true}
 use mathlib.Core.List.{List, map}
 use Prim.Native.Nat.{ℕ, _≤_}
-use lib.ListN.{length, getD, take}
-use Rattle.scheme.specs.Scheme.{span, sixteen, plan-good, places, in-set, usable, total-at}
-use Rattle.scheme.specs.Promise.{Table, admissible}
+use lib.ListN.{getD, take}
+use Rattle.scheme.specs.Scheme.{span, sixteen, plan-good, places, in-set, total-at}
+use Rattle.scheme.specs.Promise.{admissible}
 use Rattle.scheme.specs.Totals.{Follows}
-use Rattle.scheme.specs.Service.{Well, replied, values}
+use Rattle.scheme.specs.Service.{replied, values}
 use Rattle.scheme.proofs.Lists.{map-span-length}
 use Rattle.scheme.proofs.Well.{Finishing, finishing, replied-survives}
 use Rattle.plan.specs.Plan.{plan-of}
 use Rattle.client.proofs.Shown.{Ready, message-is-sent, part-is-sent}
-use Rattle.service.specs.declared.Service.{Service}
 use Rattle.service.specs.View.{view}
 use Rattle.finish.specs.Finish.{padded}
 use Rattle.finish.specs.Promise.{Finish-right}
 use Rattle.finish.proofs.Padded.{padded-take}
 use Rattle.finish.proofs.Steps.{finish-right}
-use Rattle.round.specs.Round.{Sent-in, Round-right}
+use Rattle.round.specs.Round.{Round-right}
 
 pub round-right : Round-right
 unfolding Round-right Finish-right admissible view

@@ -10,7 +10,6 @@ use lib.ListN.{length, getD, take}
 use Rattle.scheme.specs.Scheme.{span, sixteen, places, in-set, key-length, total-at}
 use Rattle.scheme.specs.Promise.{Table, admissible, list-good}
 use Rattle.scheme.specs.Service.{finish-record, refusal, replied, values}
-use Rattle.plan.specs.declared.Plan.{Plan}
 use Rattle.plan.specs.Plan.{plan-of}
 use Rattle.client.specs.Shown.{calls}
 use Rattle.service.specs.declared.Service.{Service}

@@ -3,25 +3,24 @@
 --   mask-add, noise-add, column-add, share-add      of a sum of two lists
 --   key-add                          the key of a sum is the sum of the keys
 -- Assumes nothing.
-use mathlib.Core.Path.{_≡_, refl, sym, ap, ap₂, _∙_}
+use mathlib.Core.Path.{_≡_, sym, ap, ap₂, _∙_}
 use mathlib.Core.Bool.{true}
 use mathlib.Core.List.{List, [], _∷_, _++_, map}
 use Prim.Native.Nat.{ℕ, suc, _+_, _*_, _-_, _^_, _≤_, _<_}
 use native.Mathlib.Nat.{zero-mul, suc-mul, zero-add}
 use native.Mathlib.Decide.{decLe}
 use native.Mathlib.Omega.{arith}
-use lib.Dec.{leb}
-use lib.ListN.{length, getD}
+use lib.ListN.{length}
 use borrow.Author.Tests.{le-leb, lt-leb}
 use Rattle.algebra.specs.Field.{Field}
 use Rattle.algebra.specs.Sums.{In}
 use Rattle.algebra.specs.Cauchy.{coefficient, value}
 use Rattle.algebra.proofs.Field.{mul-add, mul-zero}
 use Rattle.algebra.proofs.Sums.{sum-same, sum-add, sum-zero}
-use Rattle.scheme.specs.Scheme.{span, members, rows, each, Arithmetic, sum, Plan, items, places, usable, usable-with, users-in, sets-with, list-length, mask, noise, noise-start, column, row-value, share, shares, key, key-length}
+use Rattle.scheme.specs.Scheme.{span, rows, each, Arithmetic, Plan, items, places, usable, usable-with, users-in, sets-with, list-length, mask, noise, noise-start, column, row-value, share, shares, key, key-length}
 use Rattle.scheme.specs.Laws.{Laws}
 use Rattle.scheme.proofs.Tests.{both}
-use Rattle.scheme.proofs.Lists.{map-same, map-span-length, map-span-at, members-in, rows-same, rows-length, span-in}
+use Rattle.scheme.proofs.Lists.{map-same, map-span-length, map-span-at, members-in, rows-same, span-in}
 use Rattle.scheme.proofs.Sums.{el-same, sum-el, row-value-el, row-value-small}
 use Rattle.scheme.proofs.Sets.{users-in-in, place-lt, mask-lt, noise-lt}
 use Rattle.scheme.proofs.Keys.{each-at, each-append, shares-length}

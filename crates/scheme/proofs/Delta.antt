@@ -4,14 +4,13 @@
 --   delta-mask, delta-column     the masks and the columns of the translation
 --   delta-share                  a share that a row does not see is 0
 -- Assumes nothing.
-use mathlib.Core.Path.{_≡_, refl, sym, ap, ap₂, _∙_}
+use mathlib.Core.Path.{_≡_, sym, ap, ap₂, _∙_}
 use mathlib.Core.Bool.{true, _&&_}
-use mathlib.Core.List.{List, _++_}
-use Prim.Native.Nat.{ℕ, suc, _+_, _*_, _-_, _/_, _%_, _^_, _≤_, _<_}
+use mathlib.Core.List.{List}
+use Prim.Native.Nat.{ℕ, suc, _+_, _*_, _-_, _^_, _≤_, _<_}
 use native.Mathlib.Nat.{zero-add as n-zero-add}
 use native.Mathlib.Decide.{decLe}
 use native.Mathlib.Omega.{arith}
-use lib.Dec.{ltb, leb}
 use lib.ListN.{length, getD}
 use borrow.Author.Tests.{le-leb, lt-leb, lt-ltb, le-ltb}
 use Rattle.algebra.specs.Field.{Field}
@@ -20,7 +19,7 @@ use Rattle.algebra.specs.Cauchy.{coefficient, value, System, weight, solution}
 use Rattle.algebra.proofs.Field.{add-neg, zero-add, mul-zero}
 use Rattle.algebra.proofs.Sums.{sum-same, sum-append, sum-zero}
 use Rattle.algebra.proofs.Cauchy.{solves}
-use Rattle.scheme.specs.Scheme.{span, members, rank, Arithmetic, Plan, items, places, in-set, ones, usable, users-in, usable-sets, list-length, mask, noise, noise-start, column, share}
+use Rattle.scheme.specs.Scheme.{span, rank, Arithmetic, Plan, items, places, in-set, ones, usable, users-in, usable-sets, list-length, mask, noise, noise-start, column, share}
 use Rattle.scheme.specs.Laws.{Laws}
 use Rattle.scheme.specs.Delta.{colluders-in, kept, given, shift, delta, translation}
 use Rattle.scheme.proofs.Lists.{span-append, span-in, span-once, span-length, map-span-at, members-once, rank-at, high, low}

@@ -3,9 +3,7 @@
 --   bad               the test is false where the facts fail
 -- Assumes nothing.
 use mathlib.Core.Path.{_≡_}
-use mathlib.Core.Bool.{Bool, true, false, _&&_}
-use Prim.Native.Nat.{ℕ}
-use lib.Dec.{ltb, leb}
+use mathlib.Core.Bool.{true, false}
 use borrow.Author.Tests.{le-leb, lt-ltb, leb-true, ltb-true}
 use Rattle.scheme.specs.Scheme.{Plan, plan-good}
 use Rattle.scheme.specs.Good.{Good}

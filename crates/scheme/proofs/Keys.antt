@@ -8,9 +8,9 @@
 -- Assumes nothing.
 use mathlib.Core.Path.{_≡_, refl, sym, ap, ap₂, _∙_}
 use mathlib.Core.Logic.{inl, inr}
-use mathlib.Core.Bool.{Bool, true, false, _&&_}
+use mathlib.Core.Bool.{true}
 use mathlib.Core.List.{List, [], _∷_, _++_, map}
-use Prim.Native.Nat.{ℕ, zero, suc, _+_, _*_, _-_, _^_, _≤_, _<_}
+use Prim.Native.Nat.{ℕ, zero, suc, _+_, _*_, _-_, _^_, _<_}
 use native.Mathlib.Nat.{zero-add, suc-add}
 use native.Mathlib.Omega.{arith}
 use lib.Dec.{ltb}
@@ -18,10 +18,10 @@ use lib.ListN.{length, getD, take, drop, length-append, List·getD-append}
 use lib.Seq.{drop-append-add}
 use borrow.Author.Tests.{lt-ltb, ltb-true}
 use Rattle.algebra.specs.Sums.{In}
-use Rattle.scheme.specs.Scheme.{span, members, rank, rows, each, Arithmetic, elements, Plan, places, in-set, usable, usable-with, sets-with, mask, share, shares, key, key-length, reply-start, reply}
+use Rattle.scheme.specs.Scheme.{span, rank, rows, each, Arithmetic, elements, Plan, places, in-set, usable, usable-with, sets-with, mask, share, shares, key, key-length, reply-start, reply}
 use Rattle.scheme.specs.Laws.{Laws}
 use Rattle.scheme.proofs.Tests.{both, joined}
-use Rattle.scheme.proofs.Lists.{map-same, map-span-length, map-span-at, rows-length, rows-at, span-in}
+use Rattle.scheme.proofs.Lists.{map-span-length, map-span-at, rows-length, rows-at}
 use Rattle.scheme.proofs.Sets.{usable-below}
 use Rattle.scheme.proofs.Sums.{zero-small, row-value-small}
 

@@ -1,4 +1,5 @@
--- Tests, lists and refusals; then the proof of demand 3.
+-- Tests, lists and refusals; sums, sets and keys; demand 3 (Add, Delta, Told, Modular); totals and the service (Totals, Held, Well,
+-- Choices, Service); what is sharp (Sharp, Threshold).
 pub mod Tests
 pub mod Good
 pub mod Lists

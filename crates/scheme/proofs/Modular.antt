@@ -7,10 +7,10 @@
 use mathlib.Core.Path.{_≡_, refl, sym, _∙_}
 use mathlib.Core.Logic.{_≢_}
 use mathlib.Core.Bool.{true}
-use Prim.Native.Nat.{ℕ, _+_, _*_, _-_, _%_, _≤_, _<_}
+use Prim.Native.Nat.{ℕ, _+_, _-_, _%_, _≤_, _<_}
 use native.Mathlib.Nat.{mod-lt, mod-eq-of-lt}
 use native.Mathlib.Omega.{arith}
-use Rattle.algebra.specs.Residue.{El, el, Prime, inverse}
+use Rattle.algebra.specs.Residue.{el, Prime}
 use Rattle.algebra.proofs.Residue.{mods, el-path, prime-positive, residues, residue, inverse-right, el-add, el-mul, el-sub, el-mod, el-val, el-inj}
 use Rattle.algebra.proofs.Primes.{prime-65521}
 use Rattle.scheme.specs.Scheme.{modular, sixteen, q, Plan, plan-good}

@@ -1,14 +1,14 @@
 -- The sums of an arithmetic are those of its field.
 --   el-same                     elements with the same residue are the same
 --   sum-el, sum-small           a sum
---   sum-same, sum-append        the same terms; one list behind another
+--   sum-same                    the same terms
 --   coefficient-el              a coefficient
 --   row-value-el, row-value-small    a row times its columns
 -- Assumes nothing.
 use mathlib.Core.Path.{_≡_, refl, sym, ap, ap₂, _∙_}
 use mathlib.Core.Logic.{inl, inr}
 use mathlib.Core.List.{List, [], _∷_}
-use Prim.Native.Nat.{ℕ, _+_, _≤_, _<_}
+use Prim.Native.Nat.{ℕ, _≤_, _<_}
 use native.Mathlib.Omega.{arith}
 use Rattle.algebra.specs.Field.{Field}
 use Rattle.algebra.specs.Sums.{In, sum as field-sum}

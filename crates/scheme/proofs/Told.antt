@@ -4,22 +4,21 @@
 --   each-good, each-undo         partners are random lists, and each list is the partner of exactly one
 --   nothing-told                 demand 3 for one plan
 -- Assumes nothing.
-use mathlib.Core.Path.{_≡_, refl, sym, ap, ap₂, _∙_}
-use mathlib.Core.Bool.{Bool, true, _&&_}
+use mathlib.Core.Path.{_≡_, sym, ap, ap₂, _∙_}
+use mathlib.Core.Bool.{true, _&&_}
 use mathlib.Core.List.{List, _++_, map}
-use Prim.Native.Nat.{ℕ, suc, _+_, _*_, _-_, _^_, _≤_, _<_}
+use Prim.Native.Nat.{ℕ, _+_, _*_, _-_, _^_, _≤_, _<_}
 use native.Mathlib.Decide.{decLe}
 use native.Mathlib.Omega.{arith}
-use lib.Dec.{leb, eqb}
+use lib.Dec.{eqb}
 use lib.ListN.{length, getD}
 use borrow.Author.Tests.{le-leb, lt-leb, eq-eqb, eqb-true}
 use Rattle.algebra.specs.Field.{Field, sub}
 use Rattle.algebra.specs.Sums.{sum as field-sum}
-use Rattle.algebra.specs.Cauchy.{value}
 use Rattle.algebra.proofs.Field.{add-zero, add-comm, add-left-comm, add-sub, sub-add, sub-self}
 use Rattle.algebra.proofs.Sums.{sum-sub}
 use Rattle.scheme.specs.Scheme.{span, each, Arithmetic, elements, Plan, items, places, in-set, ones, usable, usable-with, users-in, sets-with, list-length, mask, share, shares, key, first-message, reply, total-at}
-use Rattle.scheme.specs.Promise.{Table, Shown, list-good, shown, Alike, Matching, Nothing-told}
+use Rattle.scheme.specs.Promise.{Table, list-good, shown, Alike, Nothing-told}
 use Rattle.scheme.specs.Laws.{Laws}
 use Rattle.scheme.specs.Delta.{colluders-in, given, shift, gap-of, table-delta, partner, back}
 use Rattle.scheme.proofs.Tests.{both, joined}

@@ -14,7 +14,7 @@ use mathlib.Core.Logic.{_↔_}
 use mathlib.Core.Bool.{Bool, true, false, _&&_, not, cond}
 use mathlib.Core.List.{List, [], _∷_, map}
 use mathlib.Core.Option.{Option, none, some}
-use Prim.Native.Nat.{ℕ, zero, suc, _+_, _-_, _^_, _≤_, _<_}
+use Prim.Native.Nat.{ℕ, zero, suc, _+_, _-_, _^_, _<_}
 use lib.Dec.{ltb, leb, eqb}
 use Rattle.scheme.specs.Scheme.{span, Arithmetic, sixteen, Plan, plan-good, is-user, places, in-set, ones, usable, total-at, _then_, unless}
 use Rattle.scheme.specs.Promise.{Table, admissible, list-good}

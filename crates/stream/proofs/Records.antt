@@ -5,33 +5,18 @@
 -- Assumes nothing.
 use mathlib.Core.Path.{_≡_, refl, sym, ap, ap₂, _∙_}
 use mathlib.Core.Logic.{_≢_, _⊎_, inl, inr}
-use mathlib.Core.Bool.{Bool, true, false, cond}
 use mathlib.Core.List.{List, [], _∷_, _++_, append-nil}
-use Prim.Native.Nat.{ℕ, zero, suc, _+_, _*_, _-_, _≤_, _<_}
+use Prim.Native.Nat.{ℕ, zero, suc, _+_, _-_, _≤_, _<_}
 use native.Mathlib.Nat.{add-zero}
-use native.Mathlib.Decide.{decLe, ℕ-discrete}
+use native.Mathlib.Decide.{ℕ-discrete}
 use native.Mathlib.Omega.{arith}
-use lib.Dec.{ltb, eqb}
-use lib.ListN.{length, getD, take, drop, length-append, length-drop, List·getD-append}
+use lib.ListN.{length, getD, drop, length-append, length-drop, List·getD-append}
 use lib.Seq.{getD-drop, drop-append-le, drop-drop}
 use borrow.Author.Tests.{eq-eqb, ne-eqb, lt-ltb, le-ltb}
 use Rattle.scheme.specs.Service.{Record, refused}
 use Rattle.service.specs.declared.Service.{Service}
 use Rattle.lines.specs.Text.{line}
-use Rattle.stream.specs.Stream.{record-length, record-at, Item, taken, broken, items-from, items, step, answers, text, lines}
-
-pub record-short : (k : ℕ) → record-length k ≤ 6
-unfolding record-length
-record-short k = go (eqb k 1) (eqb k 2) (eqb k 3) (eqb k 4) (eqb k 5) (eqb k 6)
-  where
-    go : (a b c d e f : Bool) → cond a 5 (cond b 5 (cond c 6 (cond d 1 (cond e 5 (cond f 1 0))))) ≤ 6
-    go true b c d e f = omega arith
-    go false true c d e f = omega arith
-    go false false true d e f = omega arith
-    go false false false true e f = omega arith
-    go false false false false true f = omega arith
-    go false false false false false true = omega arith
-    go false false false false false false = omega arith
+use Rattle.stream.specs.Stream.{record-length, record-at, Item, items-from, items, step, answers, text, lines}
 
 -- more fuel than bytes changes nothing
 fuel : (n m o : ℕ) (b : List ℕ) → length b ≤ n → length b ≤ m → items-from n o b ≡ items-from m o b

@@ -7,14 +7,13 @@ use mathlib.Core.Path.{_≡_, refl, sym, ap, _∙_, subst}
 use mathlib.Core.Logic.{_≢_}
 use mathlib.Core.List.{List}
 use Prim.Native.Nat.{ℕ, _+_, _≤_}
-use native.Mathlib.Omega.{arith}
 use lib.ListN.{length, getD}
 use Rattle.scheme.specs.Service.{Record, first-record, reply-record, silent}
 use Rattle.service.specs.declared.Service.{Service}
 use Rattle.service.specs.Calls.{first-refusal, first-left, first-step, reply-refusal, reply-left, reply-step}
 use Rattle.service.specs.Promise.{told}
 use Rattle.lines.specs.Text.{line}
-use Rattle.lines.specs.Put.{room, Put}
+use Rattle.lines.specs.Put.{Put}
 use Rattle.lines.proofs.Lines.{put-as}
 use Rattle.stream.specs.declared.Stop.{Stop}
 use Rattle.stream.specs.declared.Turned.{Turned}
