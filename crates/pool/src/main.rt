@@ -5,8 +5,9 @@
 //   fill, write, write_from    one read; all of a write, past interruptions
 //   keep           moves the bytes of a record that is not whole to the front
 // No byte of output is made outside the crate stream.
-ghost use Prim.Native.Nat.{_≤_, _<_};
-ghost use lib.ListN.{length};
+ghost use mathlib.Core.Path.{_≡_};
+ghost use Prim.Native.Nat.{ℕ, _+_, _-_, _≤_, _<_};
+ghost use lib.ListN.{length, getD};
 use libc::STDIN_FILENO;
 use libc::STDOUT_FILENO;
 use service::Service;
@@ -94,7 +95,10 @@ fn write(text: &[u8]) -> bool {
 }
 
 // Moves the bytes from `at` to n to the front of buf, and answers how many they are.
-fn keep(buf: &mut [u8], at: usize, n: usize) -> usize {
+fn keep(buf: &mut [u8], at: usize, n: usize) -> usize
+    ensures count { λ r. ⌜ (at ≤ n → n ≤ length (now (buf .entry)) → r ≡ n - at) ⌝ }
+    ensures moved { λ r. ⌜ ((i : ℕ) → i < r → getD (now (buf .exit)) i 0 ≡ getD (now (buf .entry)) (at + i) 0) ⌝ }
+{
     if n < at {
         return 0;
     }

@@ -1,0 +1,2 @@
+-- Moving: bytes moved to the front of a buffer, one more.
+pub mod Moving
