@@ -1,5 +1,6 @@
 //! Safe Rust over the functions that include/cutawheno.h declares; link with libcapi.a.
 //! A slice carries its own length, and the buffer to be written overlaps no other: what the header asks of a caller always holds.
+#![allow(dead_code)] // no program calls all of it
 
 /// K, U, T and M of document 01.
 #[derive(Clone, Copy, Debug, PartialEq, Eq)]
@@ -23,7 +24,7 @@ pub enum Refusal {
     OtherSet = 19,
 }
 
-/// An airfield end: its plan, its user and its stage. It cannot be copied, so each stage is left once.
+/// An airfield end: its plan, its user and its stage. It cannot be copied; resume no stage but the last.
 #[derive(Debug)]
 pub struct End {
     plan: Plan,
@@ -107,6 +108,16 @@ impl End {
     /// A fresh end; a plan or user that does not serve is refused by the first call.
     pub fn new(plan: Plan, user: u32) -> End {
         End { plan, user, stage: 0 }
+    }
+
+    /// An end as it stood at a stage that was kept, by the header's numbers.
+    pub fn resume(plan: Plan, user: u32, stage: u32) -> End {
+        End { plan, user, stage }
+    }
+
+    /// The stage to keep, before anything of a call's answer is sent.
+    pub fn stage(&self) -> u32 {
+        self.stage
     }
 
     /// Writes the first message: figures plus masks, place by place.
