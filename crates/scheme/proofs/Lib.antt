@@ -1,5 +1,5 @@
 -- Tests, lists and refusals; sums, sets and keys; demand 3 (Add, Delta, Told, Modular); totals and the service (Totals, Held, Well,
--- Choices, Service); what is sharp (Sharp, Threshold).
+-- Choices, Service); what is sharp (Sharp, Settled, FirstUsers, Collusion, Threshold).
 pub mod Tests
 pub mod Good
 pub mod Lists
@@ -13,6 +13,9 @@ pub mod Told
 pub mod Modular
 pub mod Totals
 pub mod Sharp
+pub mod Settled
+pub mod FirstUsers
+pub mod Collusion
 pub mod Held
 pub mod Well
 pub mod Choices

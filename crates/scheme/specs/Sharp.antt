@@ -1,7 +1,8 @@
 -- The premises of demands 2 and 3 are sharp: statements whose proofs are owed.
 --   Totals-needed      tables with another total over the set have no matching, whoever colludes
+--   Own-needed         nor have tables that differ for a colluder
+--   Collusion-needed   with one colluder more than T, some tables that are alike have no matching: owed at every good plan, modulo 65521
 --   smallest           the plan with K, U, T and M 3, 2, 1 and 1
---   Collusion-needed   with one colluder more than T, some tables that are alike have no matching
 --   Threshold-needed   with one reply fewer than U, some replies are explained by unknowns with other sums
 --   Sums-open          and all such replies, at every plan, by unknowns with every element as a sum
 -- Assumes nothing: these are definitions.
@@ -9,9 +10,9 @@ use mathlib.Core.Path.{_≡_}
 use mathlib.Core.Logic.{_≢_}
 use mathlib.Core.Bool.{true}
 use mathlib.Core.List.{List}
-use Prim.Native.Nat.{ℕ, _+_, _^_, _<_}
+use Prim.Native.Nat.{ℕ, _+_, _^_, _≤_, _<_}
 use lib.ListN.{getD}
-use Rattle.scheme.specs.Scheme.{Arithmetic, sixteen, Plan, plan-good, places, ones, usable, total-at}
+use Rattle.scheme.specs.Scheme.{Arithmetic, sixteen, Plan, plan-good, places, in-set, ones, usable, total-at}
 use Rattle.scheme.specs.Promise.{Table, admissible, Alike, Matching}
 use Rattle.scheme.specs.Totals.{explains}
 
@@ -21,8 +22,10 @@ Totals-needed =
     (p : Plan) (v c : ℕ) (x y : Table) (i : ℕ) → plan-good p ≡ true → usable p v ≡ true → admissible sixteen p x → admissible sixteen p y →
     i < places p → total-at sixteen p x v i ≢ total-at sixteen p y v i → Matching sixteen p v c x y → ⊥
 
-abbrev pub smallest : Plan
-smallest = record { users = 3; threshold = 2; collusion = 1; blocks = 1 }
+unfoldable pub Own-needed : Type 0
+Own-needed =
+    (p : Plan) (v c k : ℕ) (x y : Table) → plan-good p ≡ true → admissible sixteen p x → admissible sixteen p y →
+    1 ≤ k → k ≤ p .users → in-set c k ≡ true → x k ≢ y k → Matching sixteen p v c x y → ⊥
 
 -- a set, colluders and tables that meet every premise of demand 3 but the number of colluders
 pub record Collusion-needed (A : Arithmetic) (p : Plan) : Type 0 where
@@ -37,6 +40,9 @@ pub record Collusion-needed (A : Arithmetic) (p : Plan) : Type 0 where
   pub y-admissible : admissible A p y
   pub alike : Alike A p v c x y
   pub no-matching : Matching A p v c x y → ⊥
+
+abbrev pub smallest : Plan
+smallest = record { users = 3; threshold = 2; collusion = 1; blocks = 1 }
 
 -- replies of a block by a set r, and two lists of unknowns that explain them and differ in the sum of the block's first item
 pub record Threshold-needed (A : Arithmetic) (p : Plan) : Type 0 where

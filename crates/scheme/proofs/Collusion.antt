@@ -1,0 +1,125 @@
+-- The premises of demand 3 on the colluders are sharp at every good plan.
+--   own-needed          tables that differ for a colluder: no matching
+--   collusion-needed    T + 1 colluders: no matching. Users 1 to T + 1 collude, all users but the last one are the set, and the last one
+--                       has the figure 0 or 1 as the last item of block 0
+-- Assumes nothing.
+use mathlib.Core.Path.{_≡_, refl, sym, ap, _∙_}
+use mathlib.Core.Logic.{_≢_}
+use mathlib.Core.Bool.{Bool, true, false, cond}
+use mathlib.Core.List.{map}
+use Prim.Native.Nat.{ℕ, _+_, _*_, _-_, _<_}
+use native.Mathlib.Nat.{zero-add}
+use native.Mathlib.Omega.{arith}
+use lib.Dec.{eqb}
+use lib.ListN.{getD}
+use borrow.Author.Tests.{eq-eqb, ne-eqb}
+use Rattle.algebra.specs.Sums.{In}
+use Rattle.algebra.proofs.Sums.{sum-same as field-sum-same, sum-pick}
+use Rattle.scheme.specs.Scheme.{span, sixteen, Plan, plan-good, items, places, in-set, users-in, total-at}
+use Rattle.scheme.specs.Promise.{Table, admissible}
+use Rattle.scheme.specs.Good.{Good}
+use Rattle.scheme.specs.Laws.{Laws}
+use Rattle.scheme.specs.Sharp.{Own-needed, Collusion-needed}
+use Rattle.scheme.proofs.Lists.{map-same, map-span-length, map-span-at, members-once}
+use Rattle.scheme.proofs.Sums.{el-same, sum-same, sum-el}
+use Rattle.scheme.proofs.Sets.{users-in-in, place-lt}
+use Rattle.scheme.proofs.Keys.{elements-map}
+use Rattle.scheme.proofs.Good.{good}
+use Rattle.scheme.proofs.Modular.{sixteen-laws}
+use Rattle.scheme.proofs.Sharp.{in-users, zeros, zeros-good}
+use Rattle.scheme.proofs.FirstUsers.{first, first-in, first-out, first-size, first-below, first-usable}
+use Rattle.scheme.proofs.Settled.{own-same, last-total}
+
+pub own-needed : Own-needed
+unfolding Own-needed
+own-needed p v c k x y ok ax ay lo hi e ne m =
+    let L = sixteen-laws p ok in
+    ne (own-same sixteen p L v c x y (zeros p) (m .partner (zeros p)) (m .same (zeros p) (zeros-good sixteen p L)) ax ay k (in-users p c k lo hi e))
+
+module _ (p : Plan) (ok : plan-good p ≡ true) where
+  L : Laws sixteen (p .users) (p .threshold)
+  L = sixteen-laws p ok
+
+  g : Good p
+  g = good p ok
+
+  -- the last item of block 0
+  last : ℕ
+  last = 0 * items p + (items p - 1)
+
+  last-lt : last < places p
+  unfolding last items
+  last-lt = place-lt p 0 (items p) (omega (arith, g .blocks-low)) (omega (arith, g .collusion-high)) (omega arith)
+
+  figure : (n k i : ℕ) → ℕ
+  figure n k i = cond (eqb i last) (cond (eqb k (p .users)) n 0) 0
+
+  table : (n : ℕ) → Table
+  table n k = map (figure n k) (span (places p) 0)
+
+  table-at : (n k i : ℕ) → i < places p → getD (table n k) i 0 ≡ figure n k i
+  unfolding table
+  table-at n k i h = map-span-at (figure n k) (places p) 0 i h ∙ ap (figure n k) (zero-add i)
+
+  figure-small : (n k i : ℕ) → n < 65521 → figure n k i < 65521
+  unfolding figure
+  figure-small n k i h = pick (eqb i last) (eqb k (p .users))
+    where
+      pick : (s t : Bool) → cond s (cond t n 0) 0 < 65521
+      pick true true = h
+      pick true false = omega arith
+      pick false t = omega arith
+
+  table-good : (n : ℕ) → n < 65521 → admissible sixteen p (table n)
+  unfolding admissible table
+  table-good n h k lo hi = (map-span-length (figure n k) (places p) 0, elements-map sixteen (figure n k) (span (places p) 0) (λ i m. figure-small n k i h))
+
+  -- only the last user has another figure, and only there
+  user-same : (k i : ℕ) → k ≢ p .users → figure 0 k i ≡ figure 1 k i
+  unfolding figure
+  user-same k i ne = rw (ne-eqb k (p .users) ne)
+
+  place-same : (k i : ℕ) → i ≢ last → figure 0 k i ≡ figure 1 k i
+  unfolding figure
+  place-same k i ne = rw (ne-eqb i last ne)
+
+  totals-same : (w i : ℕ) → i < places p → ((k : ℕ) → In k (users-in p w) → figure 0 k i ≡ figure 1 k i) → total-at sixteen p (table 0) w i ≡ total-at sixteen p (table 1) w i
+  unfolding total-at
+  totals-same w i h f = sum-same sixteen (users-in p w) _ _ (λ k m. table-at 0 k i h ∙ f k m ∙ sym (table-at 1 k i h))
+
+  total-all : (n : ℕ) → L .el (total-at sixteen p (table n) (first (p .users)) last) ≡ L .el n
+  unfolding total-at figure users-in
+  total-all n =
+      let K = L .K in
+      sum-el sixteen _ _ L (users-in p (first (p .users))) (λ k. getD (table n k) last 0)
+      ∙ field-sum-same K (users-in p (first (p .users))) _ (λ k. L .el (cond (eqb k (p .users)) n 0)) (λ k m.
+      ap (L .el) (table-at n k last last-lt ∙ ap (λ (t : Bool). cond t (cond (eqb k (p .users)) n 0) 0) (eq-eqb last last refl)))
+      ∙ sum-pick K (users-in p (first (p .users))) _ (p .users) (members-once (in-set (first (p .users))) (p .users) 1) (in-users p _ (p .users) (omega (arith, g .users-low)) (omega arith) (first-in (p .users) (p .users) (omega (arith, g .users-low)) (omega arith))) (λ k m ne.
+      ap (λ (t : Bool). L .el (cond t n 0)) (ne-eqb k (p .users) ne) ∙ L .el-zero)
+      ∙ ap (λ (t : Bool). L .el (cond t n 0)) (eq-eqb (p .users) (p .users) refl)
+
+  pub collusion-needed : Collusion-needed sixteen p
+  unfolding last items table
+  collusion-needed = record {
+    v = first (p .users - 1);
+    c = first (p .collusion + 1);
+    x = table 0;
+    y = table 1;
+    usable-set = first-usable p (p .users - 1) (omega arith) (omega (arith, g .threshold-high));
+    below = first-below (p .users) (p .collusion + 1) (omega (arith, g .collusion-high, g .threshold-high));
+    one-more = first-size (p .users) (p .collusion + 1) (omega (arith, g .collusion-high, g .threshold-high));
+    x-admissible = table-good 0 (omega arith);
+    y-admissible = table-good 1 (omega arith);
+    alike = record {
+      own = λ k lo hi e. map-same (figure 0 k) (figure 1 k) (span (places p) 0) (λ i m. user-same k i (λ d. omega (arith, d, first-out (p .collusion + 1) k e, g .collusion-high, g .threshold-high)));
+      totals = λ i h. totals-same (first (p .users - 1)) i h (λ k m. user-same k i (λ d. omega (arith, d, g .users-low, first-out (p .users - 1) k (users-in-in p (first (p .users - 1)) k m .2))));
+    };
+    no-matching = λ m.
+        let settled =
+        last-total sixteen p L (first (p .users - 1)) (first (p .collusion + 1)) (table 0) (table 1) (zeros p) (m .partner (zeros p)) (m .same (zeros p) (zeros-good sixteen p L))
+        (first-size (p .users) (p .collusion + 1) (omega (arith, g .collusion-high, g .threshold-high))) (g .collusion-high) (first (p .users)) 0 (first-usable p (p .users) (omega arith) (omega (arith, g .threshold-high)))
+        (λ k n. let s = users-in-in p (first (p .collusion + 1)) k n in first-in (p .users) k (s .0) (s .1)) (omega (arith, g .blocks-low))
+        (λ j lo hi. totals-same (first (p .users)) _ (place-lt p 0 j (omega (arith, g .blocks-low)) lo (omega arith)) (λ k n. place-same k _ (λ d. omega (arith, d)))) in
+        let e : _≡_ {A = ℕ} 0 1 = el-same sixteen _ _ L (omega arith) (omega arith) (sym (total-all 0) ∙ ap (L .el) settled ∙ total-all 1) in
+        omega arith;
+  }
