@@ -71,16 +71,17 @@ pub fn is_element(x: u16) -> bool
     (x as u32) < Q
 }
 
-// "Test 3 looks through every list lent to be read, whole."
+// "Test 3 looks through every list lent to be read, whole." Without an early end many numbers are tested at a time.
 pub fn all_elements(list: &[u16]) -> bool
     ensures { λ r. ⌜ r ≡ elements sixteen (now (list .entry)) ⌝ }
 {
+    let mut good = true;
     let mut i = 0;
     while i < list.len() {
         if !is_element(list[i]) {
-            return false;
+            good = false;
         }
         i += 1;
     }
-    true
+    good
 }

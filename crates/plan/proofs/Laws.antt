@@ -3,7 +3,7 @@
 --   Counting, counting-start, counting-yes, counting-no, counting-end   a loop that counts the numbers that pass a test
 --   sets-le, places-le, masks-le, shares-le, noise-le   bounds, of a good plan
 --   usable-small, usable-le, with-usable     a usable set is below 2 ^ K, and at most 256
---   list-end, key-end                        the lengths of the random list and of a key, by a rank
+--   list-parts, key-parts                    the lengths of the random list and of a key
 --   masks-inside, reply-inside               the masks and a reply lie inside the key
 -- Assumes nothing.
 use mathlib.Core.Path.{_≡_, refl, sym, ap, _∙_}
@@ -12,6 +12,7 @@ use Prim.Native.Nat.{ℕ, zero, suc, _+_, _*_, _/_, _%_, _^_, _≤_, _<_}
 use native.Mathlib.Nat.{pow-suc, suc-mul, mul-le-mul, mul-le-mul-right}
 use native.Mathlib.Omega.{arith}
 use lib.Count as machine
+use lib.ListN.{length}
 use lib.Pow.{pow-mono}
 use borrow.Author.Tests.{ltb-true}
 use Rattle.scheme.specs.Scheme.{Plan, items, places, rank, ones, usable, usable-with, usable-sets, sets-with, list-length, key-length, reply-start}
@@ -78,13 +79,13 @@ unfolding usable-with
 with-usable p k v e = both _ _ e .0
 
 -- ---- lengths
-pub list-end : (p : Plan) → list-length p ≡ p .users * places p + rank (usable p) (2 ^ p .users) * p .blocks * p .collusion
-unfolding list-length usable-sets rank
-list-end p = refl
+pub list-parts : (p : Plan) → list-length p ≡ p .users * places p + length (usable-sets p) * p .blocks * p .collusion
+unfolding list-length
+list-parts p = refl
 
-pub key-end : (p : Plan) (k : ℕ) → key-length p k ≡ reply-start p k (2 ^ p .users)
-unfolding key-length reply-start sets-with rank
-key-end p k = refl
+pub key-parts : (p : Plan) (k : ℕ) → key-length p k ≡ places p + length (sets-with p k) * p .blocks
+unfolding key-length
+key-parts p k = refl
 
 pub masks-inside : (p : Plan) (k : ℕ) → places p ≤ key-length p k
 unfolding key-length

@@ -1,2 +1,3 @@
 -- What several proofs share, and laws for callers.
 pub mod Laws
+pub mod Counts

@@ -2,14 +2,16 @@
 //   Plan, MOST_USERS ..                               K, U, T and M, as they come; their limits
 //   is_good, start_refusal                            tests 1 and 4
 //   holds, is_usable, is_usable_with                  sets of users
-//   all_sets, count_usable, set_place                 counts of sets
+//   all_sets, count_usable, count_holding, set_place  counts of sets
 //   places_of, list_length, reply_start, key_length   lengths and places
 // Document 01's airfield is a user here. All but the two tests and `holds` are for plans that passed test 1.
 ghost use mathlib.Core.Path.{_≡_};
-ghost use Prim.Native.Nat.{_+_, _*_, _^_, _≤_};
-ghost use Rattle.scheme.specs.Scheme.{plan-good, start-refusal, in-set, usable, usable-with, places, rank, list-length, key-length, reply-start};
+ghost use Prim.Native.Nat.{_+_, _*_, _^_, _≤_, _<_};
+ghost use lib.ListN.{length};
+ghost use Rattle.scheme.specs.Scheme.{plan-good, start-refusal, in-set, usable, usable-with, usable-sets, sets-with, places, rank, list-length, key-length, reply-start};
 ghost use Rattle.scheme.specs.Good.{Good};
 ghost use Rattle.plan.specs.Plan.{plan-of};
+ghost use Rattle.plan.specs.Counts.{usable-rule, holding-rule};
 
 // "K airfields, 3 to 8 .. T at least 1 .. M blocks, 1 to 16 .. L is at most 96"
 pub const LEAST_USERS: u32 = 3;
@@ -112,20 +114,184 @@ pub fn is_usable_with(p: Plan, user: u32, set: u32) -> bool
     holds(set, user)
 }
 
-// How many sets below `end` are usable.
-pub fn count_usable(p: Plan, end: u32) -> usize
-    requires { ⌜ Good (plan-of p) × (end ≤ 256) ⌝ }
-    ensures { λ r. ⌜ (r ≡ rank (usable (plan-of p)) end) × (r ≤ end) ⌝ }
+// How many sets of K users have at least U members, at 8 * K + U.
+const USABLE: [u16; 72] = [
+    1,
+    0,
+    0,
+    0,
+    0,
+    0,
+    0,
+    0,
+    2,
+    1,
+    0,
+    0,
+    0,
+    0,
+    0,
+    0,
+    4,
+    3,
+    1,
+    0,
+    0,
+    0,
+    0,
+    0,
+    8,
+    7,
+    4,
+    1,
+    0,
+    0,
+    0,
+    0,
+    16,
+    15,
+    11,
+    5,
+    1,
+    0,
+    0,
+    0,
+    32,
+    31,
+    26,
+    16,
+    6,
+    1,
+    0,
+    0,
+    64,
+    63,
+    57,
+    42,
+    22,
+    7,
+    1,
+    0,
+    128,
+    127,
+    120,
+    99,
+    64,
+    29,
+    8,
+    1,
+    256,
+    255,
+    247,
+    219,
+    163,
+    93,
+    37,
+    9,
+];
+
+// How many of them hold a given one of the users.
+const HOLDING: [u16; 72] = [
+    0,
+    0,
+    0,
+    0,
+    0,
+    0,
+    0,
+    0,
+    1,
+    1,
+    0,
+    0,
+    0,
+    0,
+    0,
+    0,
+    2,
+    2,
+    1,
+    0,
+    0,
+    0,
+    0,
+    0,
+    4,
+    4,
+    3,
+    1,
+    0,
+    0,
+    0,
+    0,
+    8,
+    8,
+    7,
+    4,
+    1,
+    0,
+    0,
+    0,
+    16,
+    16,
+    15,
+    11,
+    5,
+    1,
+    0,
+    0,
+    32,
+    32,
+    31,
+    26,
+    16,
+    6,
+    1,
+    0,
+    64,
+    64,
+    63,
+    57,
+    42,
+    22,
+    7,
+    1,
+    128,
+    128,
+    127,
+    120,
+    99,
+    64,
+    29,
+    8,
+];
+
+fn usable_at(at: usize) -> u16
+    requires { ⌜ at < 72 ⌝ }
+    ensures { λ r. ⌜ r ≡ usable-rule at ⌝ }
 {
-    let mut count: usize = 0;
-    let mut v: u32 = 0;
-    while v < end {
-        if is_usable(p, v) {
-            count += 1;
-        }
-        v += 1;
-    }
-    count
+    USABLE[at]
+}
+
+fn holding_at(at: usize) -> u16
+    requires { ⌜ at < 72 ⌝ }
+    ensures { λ r. ⌜ r ≡ holding-rule at ⌝ }
+{
+    HOLDING[at]
+}
+
+pub fn count_usable(p: Plan) -> usize
+    requires { ⌜ Good (plan-of p) ⌝ }
+    ensures { λ r. ⌜ (r ≡ length (usable-sets (plan-of p))) × (r ≤ 256) ⌝ }
+{
+    usable_at(p.users as usize * 8 + p.threshold as usize) as usize
+}
+
+pub fn count_holding(p: Plan, user: u32) -> usize
+    requires { ⌜ Good (plan-of p) × (1 ≤ user) × (user ≤ p .users) ⌝ }
+    ensures { λ r. ⌜ (r ≡ length (sets-with (plan-of p) user)) × (r ≤ 256) ⌝ }
+{
+    holding_at(p.users as usize * 8 + p.threshold as usize) as usize
 }
 
 // The place of a set in a user's key: how many smaller usable sets hold the user.
@@ -157,7 +323,7 @@ pub fn list_length(p: Plan) -> usize
     requires { ⌜ Good (plan-of p) ⌝ }
     ensures { λ r. ⌜ (r ≡ list-length (plan-of p)) × (r ≤ 8 * 96 + 256 * 16 * 6) ⌝ }
 {
-    let sets = count_usable(p, all_sets(p));
+    let sets = count_usable(p);
     p.users as usize * places_of(p) + sets * p.blocks as usize * p.collusion as usize
 }
 
@@ -169,10 +335,10 @@ pub fn reply_start(p: Plan, user: u32, set: u32) -> usize
     places_of(p) + set_place(p, user, set) * p.blocks as usize
 }
 
-// The key ends behind the shares for all sets.
+// Its L masks, and M shares for each usable set that holds the user.
 pub fn key_length(p: Plan, user: u32) -> usize
-    requires { ⌜ Good (plan-of p) × (1 ≤ user) × (user ≤ 8) ⌝ }
+    requires { ⌜ Good (plan-of p) × (1 ≤ user) × (user ≤ p .users) ⌝ }
     ensures { λ r. ⌜ (r ≡ key-length (plan-of p) user) × (r ≤ 96 + 256 * 16) ⌝ }
 {
-    reply_start(p, user, all_sets(p))
+    places_of(p) + count_holding(p, user) * p.blocks as usize
 }

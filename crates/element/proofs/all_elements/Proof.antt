@@ -1,7 +1,10 @@
--- `element::all_elements` meets its contract. The loop's invariant: the answer for what is left is the answer for the whole list.
--- The measure is what is left of the length. Assumes nothing.
-use mathlib.Core.Path.{_≡_, sym, _∙_}
-use Prim.Native.Nat.{_-_, _≤_}
+-- `element::all_elements` meets its contract. The loop's invariant: what was tested, and the answer for what is left, are the answer
+-- for the whole list. The measure is what is left of the length. Assumes nothing.
+use mathlib.Core.Path.{_≡_, refl, sym, ap, _∙_}
+use mathlib.Core.Logic.{⊎-elim}
+use mathlib.Core.Bool.{Bool, true, false, _&&_}
+use mathlib.Core.List.{List}
+use Prim.Native.Nat.{ℕ, _+_, _-_, _≤_}
 use lib.ListN.{length, drop}
 use borrow.Author.Needs.{needs}
 use borrow.Author.Tests.{not-true, not-false}
@@ -11,10 +14,18 @@ use Rattle.element.proofs.all_elements.Statement.{statement}
 use Rattle.element.proofs.all_elements.Tie as tie
 
 abbrev Inv-loop : tie.InvT-loop
-Inv-loop list i₀ i = (i ≤ length list) × (elements sixteen (drop i list) ≡ elements sixteen list)
+Inv-loop list good₀ i₀ good i = (i ≤ length list) × ((good && elements sixteen (drop i list)) ≡ elements sixteen list)
 
 abbrev μ-loop : tie.MeasureT-loop
-μ-loop list i₀ i = length list - i
+μ-loop list good₀ i₀ good i = length list - i
+
+and-false : (b : Bool) → (b && false) ≡ false
+and-false true = refl
+and-false false = refl
+
+and-true : (b : Bool) → (b && true) ≡ b
+and-true true = refl
+and-true false = refl
 
 loop-holds : tie.Need-loop-holds Inv-loop μ-loop
 loop-holds c = search needs
@@ -28,11 +39,6 @@ shared-slice-read-is-element c = search needs
 is-element-requires : tie.Need-is-element-requires Inv-loop μ-loop
 is-element-requires c κs = search needs
 
-returns : tie.Need-returns Inv-loop μ-loop
-returns c =
-    let l = c .before .before .before .before in
-    sym (sym (l .loop .inv .1) ∙ elements-stop sixteen _ _ (c .before .before .before .loop-test .taken) (sym (c .before .is-element .ensures) ∙ not-true _ (c .if1 .taken)))
-
 add-i : tie.Need-add-i Inv-loop μ-loop
 add-i c = search needs
 
@@ -41,11 +47,18 @@ loop-less c = search needs
 
 loop-again : tie.Need-loop-again Inv-loop μ-loop
 loop-again c =
-    let l = c .before .before .before .before in
-    (search needs, elements-next sixteen _ _ (c .before .before .before .loop-test .taken) (sym (c .before .is-element .ensures) ∙ not-false _ (c .if1 .left)) ∙ l .loop .inv .1)
+    let l = c .before .before .before .before .loop in
+    let xs = c .before .before .before .before .before .before .args .list .now in
+    let h = c .before .before .before .loop-test .taken in
+    let e = sym (c .before .is-element .ensures) in
+    (search needs,
+    ⊎-elim (λ w. rw (w .1) (sym (and-false (l .good)) ∙ ap (λ (b : Bool). l .good && b) (sym (elements-stop sixteen xs (l .i) h (e ∙ not-true _ (w .0 .taken)))) ∙ l .inv .1))
+    (λ w. rw (w .1) (ap (λ (b : Bool). l .good && b) (elements-next sixteen xs (l .i) h (e ∙ not-false _ (w .0 .left))) ∙ l .inv .1)) (c .if1 .came))
 
-returns-2 : tie.Need-returns-2 Inv-loop μ-loop
-returns-2 c = sym (sym (c .before .loop .inv .1) ∙ elements-end sixteen _ _ (c .loop-test .left))
+returns : tie.Need-returns Inv-loop μ-loop
+returns c =
+    let l = c .before .loop in
+    sym (and-true (l .good)) ∙ ap (λ (b : Bool). l .good && b) (sym (elements-end sixteen _ _ (c .loop-test .left))) ∙ l .inv .1
 
 pub all-elements-spec : {M : Type 1} → statement M
 all-elements-spec =
@@ -57,8 +70,7 @@ all-elements-spec =
     mul-is-element
     shared-slice-read-is-element
     is-element-requires
-    returns
     add-i
     loop-less
     loop-again
-    returns-2)
+    returns)

@@ -1,46 +1,44 @@
--- `plan::count_usable` meets its contract. The loop's invariant: the count is the rank of the set that comes next.
--- The measure is how many sets are left. Assumes nothing.
-use mathlib.Core.Path.{sym, _∙_}
-use mathlib.Core.Logic.{⊎-elim}
-use Prim.Native.Nat.{_-_}
-use borrow.Author.Needs.{needs}
-use Rattle.scheme.specs.Scheme.{usable}
+-- `plan::count_usable` meets its contract, by the table's entry. Assumes nothing.
+use mathlib.Core.Path.{_≡_, _∙_}
+use native.Mathlib.Omega.{arith}
 use Rattle.plan.specs.Plan.{plan-of}
-use Rattle.plan.proofs.Laws.{Counting, counting-start, counting-yes, counting-no, counting-end}
+use Rattle.plan.proofs.Counts.{usable-entry, sets-same, sets-few}
+use borrow.Author.Needs.{needs}
 use Rattle.plan.proofs.count_usable.Statement.{statement}
 use Rattle.plan.proofs.count_usable.Tie as tie
 
-abbrev Inv-loop : tie.InvT-loop
-Inv-loop p end count₀ v₀ count v = Counting (usable (plan-of p)) end v count
+cast-usable-at : tie.Need-cast-usable-at
+cast-usable-at c = search needs
 
-abbrev μ-loop : tie.MeasureT-loop
-μ-loop p end count₀ v₀ count v = end - v
+mul-usable-at : tie.Need-mul-usable-at
+mul-usable-at c = search needs
 
-loop-holds : tie.Need-loop-holds Inv-loop μ-loop
-loop-holds c = counting-start _ _
+cast-usable-at-2 : tie.Need-cast-usable-at-2
+cast-usable-at-2 c = search needs
 
-is-usable-requires : tie.Need-is-usable-requires Inv-loop μ-loop
-is-usable-requires c κs = search needs
+add-usable-at : tie.Need-add-usable-at
+add-usable-at c = search needs
 
-add-count : tie.Need-add-count Inv-loop μ-loop
-add-count c = search needs
+usable-at-requires : tie.Need-usable-at-requires
+usable-at-requires c κs = search needs
 
-add-v : tie.Need-add-v Inv-loop μ-loop
-add-v c = search needs
+cast-result : tie.Need-cast-result
+cast-result c = search needs
 
-loop-less : tie.Need-loop-less Inv-loop μ-loop
-loop-less c = search needs
-
-loop-again : tie.Need-loop-again Inv-loop μ-loop
-loop-again c =
-    let l = c .before .before .before .loop in
-    let h = c .before .before .loop-test .taken in
-    let e = sym (c .before .is-usable .ensures) in
-    ⊎-elim (λ w. rw (w .1) (counting-yes _ _ (l .v) (l .count) (l .inv) h (e ∙ w .0 .taken))) (λ w. rw (w .1) (counting-no _ _ (l .v) (l .count) (l .inv) h (e ∙ w .0 .left)))
-    (c .if1 .came)
-
-returns : tie.Need-returns Inv-loop μ-loop
-returns c = counting-end _ _ _ _ (c .before .loop .inv) (c .loop-test .left)
+returns : tie.Need-returns
+returns c =
+    let a = c .before .before .before in
+    let e = c .usable-at .ensures ∙ usable-entry (a .args .p .users) (a .args .p .threshold) (omega arith) ∙ sets-same (plan-of (a .args .p)) in
+    (e, omega (arith, e, sets-few (plan-of (a .args .p)) (a .pre)))
 
 pub count-usable-spec : {M : Type 1} → statement M
-count-usable-spec = tie.close (tie.spec Inv-loop μ-loop loop-holds is-usable-requires add-count add-v loop-less loop-again returns)
+count-usable-spec =
+    tie.close
+    (tie.spec
+    cast-usable-at
+    mul-usable-at
+    cast-usable-at-2
+    add-usable-at
+    usable-at-requires
+    cast-result
+    returns)

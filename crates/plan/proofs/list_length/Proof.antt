@@ -3,15 +3,12 @@
 use Prim.Native.Nat.{_≤_}
 use native.Mathlib.Omega.{arith}
 use borrow.Author.Needs.{needs}
-use Rattle.plan.proofs.Laws.{masks-le, shares-le, noise-le, list-end}
+use Rattle.plan.proofs.Laws.{masks-le, shares-le, noise-le, list-parts}
 use Rattle.plan.proofs.list_length.Statement.{statement}
 use Rattle.plan.proofs.list_length.Tie as tie
 
 few : (c : tie.After-count-usable) → c .count-usable .result ≤ 256
 few c = omega arith
-
-all-sets-requires : tie.Need-all-sets-requires
-all-sets-requires c κs = search needs
 
 count-usable-requires : tie.Need-count-usable-requires
 count-usable-requires c κs = search needs
@@ -23,7 +20,7 @@ places-of-requires : tie.Need-places-of-requires
 places-of-requires c κs = search needs
 
 mul-result : tie.Need-mul-result
-mul-result c = omega (arith, masks-le (c .before .before .before .before .pre) (c .places-of .ensures .1))
+mul-result c = omega (arith, masks-le (c .before .before .before .pre) (c .places-of .ensures .1))
 
 cast-result-2 : tie.Need-cast-result-2
 cast-result-2 c = search needs
@@ -31,7 +28,7 @@ cast-result-2 c = search needs
 mul-result-2 : tie.Need-mul-result-2
 mul-result-2 c =
     let s = c .before .before .before in
-    omega (arith, shares-le (s .before .before .pre) (few s))
+    omega (arith, shares-le (s .before .pre) (few s))
 
 cast-result-3 : tie.Need-cast-result-3
 cast-result-3 c = search needs
@@ -39,23 +36,22 @@ cast-result-3 c = search needs
 mul-result-3 : tie.Need-mul-result-3
 mul-result-3 c =
     let s = c .before .before .before .before in
-    omega (arith, noise-le (s .before .before .pre) (few s))
+    omega (arith, noise-le (s .before .pre) (few s))
 
 add-result : tie.Need-add-result
 add-result c =
     let s = c .before .before .before .before in
-    omega (arith, masks-le (s .before .before .pre) (c .before .before .places-of .ensures .1), noise-le (s .before .before .pre) (few s))
+    omega (arith, masks-le (s .before .pre) (c .before .before .places-of .ensures .1), noise-le (s .before .pre) (few s))
 
 returns : tie.Need-returns
 returns c =
     let s = c .before .before .before .before in
-    (cc (list-end _), omega (arith, masks-le (s .before .before .pre) (c .before .before .places-of .ensures .1), noise-le (s .before .before .pre) (few s)))
+    (cc (list-parts _), omega (arith, masks-le (s .before .pre) (c .before .before .places-of .ensures .1), noise-le (s .before .pre) (few s)))
 
 pub list-length-spec : {M : Type 1} → statement M
 list-length-spec =
     tie.close
     (tie.spec
-    all-sets-requires
     count-usable-requires
     cast-result
     places-of-requires
