@@ -20,6 +20,14 @@ pub enum Refusal {
     BadUser = 4,
     SetUnusable = 5,
     NotInSet = 6,
+    BadPlace = 8,
+    PlanOrder = 11,
+    OtherPhase = 12,
+    Held = 13,
+    NoSurvivor = 14,
+    TooFew = 15,
+    Unexplained = 16,
+    OldRound = 17,
     OutOfTurn = 18,
     OtherSet = 19,
 }
@@ -30,6 +38,23 @@ pub struct End {
     plan: Plan,
     user: u32,
     stage: u32,
+}
+
+/// The length of a buffer for totals.
+pub const MOST_PLACES: usize = 96;
+
+// Lengths of a service's arrays, and where its head has the number of places in a row.
+const HEAD: usize = 8;
+const FIRSTS: usize = 768;
+const REPLIES: usize = 128;
+const PLACES: usize = 5;
+
+/// A pooling service: the arrays that the header describes.
+#[derive(Clone, Debug, PartialEq, Eq)]
+pub struct Service {
+    head: [u32; HEAD],
+    first: [u16; FIRSTS],
+    reply: [u16; REPLIES],
 }
 
 #[repr(C)]
@@ -44,6 +69,12 @@ struct Part {
     start: u32,
     count: u32,
     stage: u32,
+}
+
+#[repr(C)]
+struct Closed {
+    number: u32,
+    set: u32,
 }
 
 #[link(name = "capi", kind = "static")]
@@ -62,6 +93,17 @@ extern "C" {
         key: *const u16, key_len: usize,
         users: u32, threshold: u32, collusion: u32, blocks: u32, user: u32, stage: u32, set: u32,
     ) -> Part;
+    fn cutawheno_service_plan(
+        head: &mut [u32; HEAD], first: &mut [u16; FIRSTS], reply: &mut [u16; REPLIES],
+        users: u32, threshold: u32, collusion: u32, blocks: u32,
+    ) -> u32;
+    fn cutawheno_service_open(head: &mut [u32; HEAD], first: &mut [u16; FIRSTS], reply: &mut [u16; REPLIES], round: u32) -> u32;
+    fn cutawheno_service_first_element(head: &[u32; HEAD], first: &mut [u16; FIRSTS], user: u32, place: u32, element: u32) -> u32;
+    fn cutawheno_service_close(head: &mut [u32; HEAD], first: &[u16; FIRSTS], reply: &mut [u16; REPLIES]) -> Closed;
+    fn cutawheno_service_reply_element(head: &[u32; HEAD], reply: &mut [u16; REPLIES], user: u32, block: u32, element: u32) -> u32;
+    fn cutawheno_service_finish(
+        head: &mut [u32; HEAD], first: &mut [u16; FIRSTS], reply: &mut [u16; REPLIES], totals: &mut [u16; MOST_PLACES],
+    ) -> u32;
 }
 
 fn outcome(number: u32) -> Result<(), Refusal> {
@@ -73,6 +115,14 @@ fn outcome(number: u32) -> Result<(), Refusal> {
         4 => Err(Refusal::BadUser),
         5 => Err(Refusal::SetUnusable),
         6 => Err(Refusal::NotInSet),
+        8 => Err(Refusal::BadPlace),
+        11 => Err(Refusal::PlanOrder),
+        12 => Err(Refusal::OtherPhase),
+        13 => Err(Refusal::Held),
+        14 => Err(Refusal::NoSurvivor),
+        15 => Err(Refusal::TooFew),
+        16 => Err(Refusal::Unexplained),
+        17 => Err(Refusal::OldRound),
         18 => Err(Refusal::OutOfTurn),
         19 => Err(Refusal::OtherSet),
         _ => unreachable!("the calls have no other refusal"),
@@ -144,5 +194,48 @@ impl End {
         self.stage = part.stage;
         outcome(part.number)?;
         Ok(&key[part.start as usize..][..part.count as usize])
+    }
+}
+
+// SAFETY, of each call below: a reference to an array leads to its length, and what is written is borrowed alone.
+impl Service {
+    /// A new service, without a plan.
+    pub const fn new() -> Service {
+        Service { head: [0; HEAD], first: [0; FIRSTS], reply: [0; REPLIES] }
+    }
+
+    /// Gives a new service its plan.
+    pub fn plan(&mut self, p: Plan) -> Result<(), Refusal> {
+        outcome(unsafe {
+            cutawheno_service_plan(&mut self.head, &mut self.first, &mut self.reply, p.users, p.threshold, p.collusion, p.blocks)
+        })
+    }
+
+    /// Opens a round, in any phase: drops what was held, and begins gathering.
+    pub fn open(&mut self, round: u32) -> Result<(), Refusal> {
+        outcome(unsafe { cutawheno_service_open(&mut self.head, &mut self.first, &mut self.reply, round) })
+    }
+
+    /// Holds an element of a user's first message.
+    pub fn first_element(&mut self, user: u32, place: u32, element: u32) -> Result<(), Refusal> {
+        outcome(unsafe { cutawheno_service_first_element(&self.head, &mut self.first, user, place, element) })
+    }
+
+    /// Closes the round: the set of the survivors.
+    pub fn close(&mut self) -> Result<u32, Refusal> {
+        let closed = unsafe { cutawheno_service_close(&mut self.head, &self.first, &mut self.reply) };
+        outcome(closed.number)?;
+        Ok(closed.set)
+    }
+
+    /// Holds an element of a survivor's reply.
+    pub fn reply_element(&mut self, user: u32, block: u32, element: u32) -> Result<(), Refusal> {
+        outcome(unsafe { cutawheno_service_reply_element(&self.head, &mut self.reply, user, block, element) })
+    }
+
+    /// Finishes the round: the survivors' total, one figure for each place of a row, written into the lent buffer.
+    pub fn finish<'a>(&mut self, totals: &'a mut [u16; MOST_PLACES]) -> Result<&'a [u16], Refusal> {
+        outcome(unsafe { cutawheno_service_finish(&mut self.head, &mut self.first, &mut self.reply, totals) })?;
+        Ok(&totals[..self.head[PLACES] as usize])
     }
 }

@@ -1,46 +1,110 @@
-//! Document 01's example round through the library, from Rust: keys, first messages, the replies to set 5, and some refusals.
-//! Exit status 101 where anything is not as expected.
+//! Document 01's example round through the library, from Rust: keys, first messages, the service, the replies to set 5, the total 40,
+//! and some refusals. Exit status 101 where anything is not as expected.
 mod cutawheno;
 
-use cutawheno::{End, Plan, Refusal};
+use cutawheno::{End, Plan, Refusal, Service, MOST_PLACES};
 
+const PLAN: Plan = Plan { users: 3, threshold: 2, collusion: 1, blocks: 1 };
+const BAD: Plan = Plan { threshold: 3, ..PLAN };
 const LIST: [u16; 7] = [100, 200, 300, 12, 60, 40, 120];
 const KEYS: [[u16; 4]; 3] = [[100, 154, 220, 340], [200, 103, 22017, 230], [300, 112, 133, 174]];
 const FIGURES: [[u16; 1]; 3] = [[10], [20], [30]];
 const MESSAGES: [[u16; 1]; 3] = [[110], [220], [330]];
 const REPLIES: [Result<&[u16], Refusal>; 3] = [Ok(&[220]), Err(Refusal::NotInSet), Ok(&[112])];
 
-fn main() {
-    let plan = Plan { users: 3, threshold: 2, collusion: 1, blocks: 1 };
-    assert_eq!((plan.list_len(), plan.key_len()), (7, 4));
-    let large = Plan { users: 8, blocks: 16, ..plan };
-    assert_eq!((large.list_len(), large.key_len()), (4080, 2048));
-    let bad = Plan { threshold: 3, ..plan };
-    assert_eq!((bad.list_len(), bad.key_len()), (0, 0));
-    for (row, user) in (1..=plan.users).enumerate() {
-        let mut key = vec![0; plan.key_len()];
-        let mut message = [0];
-        let mut end = End::new(plan, user);
-        assert_eq!(plan.make_key(user, &LIST, &mut key), Ok(()));
-        assert_eq!(key, KEYS[row]);
-        assert_eq!(end.reply(&key, 5), Err(Refusal::OutOfTurn));
-        assert_eq!(end.first_message(&key, &FIGURES[row], &mut []), Err(Refusal::BadLength));
-        assert_eq!(end.first_message(&key, &FIGURES[row], &mut message), Ok(()));
-        assert_eq!(message, MESSAGES[row]);
-        assert_eq!(end.first_message(&key, &FIGURES[row], &mut message), Err(Refusal::OutOfTurn));
-        assert_eq!(end.reply(&key, 1), Err(Refusal::SetUnusable));
-        let reply = end.reply(&key, 5);
-        assert_eq!(reply, REPLIES[row]);
-        assert_eq!(end.reply(&key, 5), reply);
-        if reply.is_ok() {
-            assert_eq!(end.reply(&key, 7), Err(Refusal::OtherSet));
-        }
-        eprintln!("key {key:?}, first message {message:?}, reply {reply:?}");
+/// An airfield that has sent.
+struct Airfield {
+    user: u32,
+    end: End,
+    key: Vec<u16>,
+    message: [u16; 1],
+}
+
+fn airfield(user: u32) -> Airfield {
+    let row = user as usize - 1;
+    let mut key = vec![0; PLAN.key_len()];
+    let mut message = [0];
+    let mut end = End::new(PLAN, user);
+    assert_eq!(PLAN.make_key(user, &LIST, &mut key), Ok(()));
+    assert_eq!(key, KEYS[row]);
+    assert_eq!(end.reply(&key, 5), Err(Refusal::OutOfTurn));
+    assert_eq!(end.first_message(&key, &FIGURES[row], &mut []), Err(Refusal::BadLength));
+    assert_eq!(end.first_message(&key, &FIGURES[row], &mut message), Ok(()));
+    assert_eq!(message, MESSAGES[row]);
+    assert_eq!(end.first_message(&key, &FIGURES[row], &mut message), Err(Refusal::OutOfTurn));
+    Airfield { user, end, key, message }
+}
+
+/// Airfields 1 and 3 report, 2 comes too late, and the survivors' figures add up to 40.
+fn run_round(service: &mut Service) {
+    let mut airfields = [1, 2, 3].map(airfield);
+    assert_eq!(service.open(7), Ok(()));
+    for a in [&airfields[0], &airfields[2]] {
+        assert_eq!(service.close(), Err(Refusal::TooFew));
+        assert_eq!(service.first_element(a.user, 0, a.message[0].into()), Ok(()));
+        assert_eq!(service.first_element(a.user, 0, a.message[0].into()), Err(Refusal::Held));
     }
-    let mut untouched = [7; 4];
-    assert_eq!(bad.make_key(1, &LIST, &mut untouched), Err(Refusal::BadPlan));
-    assert_eq!(plan.make_key(4, &LIST, &mut untouched), Err(Refusal::BadUser));
-    assert_eq!(plan.make_key(1, &[65521; 7], &mut untouched), Err(Refusal::BadElement));
-    assert_eq!(untouched, [7; 4]);
+    let set = service.close();
+    assert_eq!(set, Ok(5));
+    assert_eq!(service.first_element(2, 0, airfields[1].message[0].into()), Err(Refusal::OtherPhase));
+    for (a, expected) in airfields.iter_mut().zip(REPLIES) {
+        assert_eq!(a.end.reply(&a.key, 1), Err(Refusal::SetUnusable));
+        let reply = a.end.reply(&a.key, 5);
+        assert_eq!(reply, expected);
+        assert_eq!(a.end.reply(&a.key, 5), reply);
+        eprintln!("key {:?}, first message {:?}, reply {reply:?}", a.key, a.message);
+        if let Ok(shares) = reply {
+            assert_eq!(a.end.reply(&a.key, 7), Err(Refusal::OtherSet));
+            assert_eq!(service.finish(&mut [0; MOST_PLACES]), Err(Refusal::TooFew));
+            assert_eq!(service.reply_element(a.user, 0, shares[0].into()), Ok(()));
+        }
+    }
+    let mut totals = [7; MOST_PLACES];
+    assert_eq!(service.finish(&mut totals), Ok(&[40][..]));
+    assert_eq!(totals[1..], [0; MOST_PLACES - 1]);
+    assert_eq!(service.finish(&mut totals), Err(Refusal::OtherPhase));
+}
+
+/// What is refused changes nothing.
+fn run_refusals() {
+    let mut key = [7; 4];
+    assert_eq!(BAD.make_key(1, &LIST, &mut key), Err(Refusal::BadPlan));
+    assert_eq!(PLAN.make_key(4, &LIST, &mut key), Err(Refusal::BadUser));
+    assert_eq!(PLAN.make_key(1, &[65521; 7], &mut key), Err(Refusal::BadElement));
+    assert_eq!(key, [7; 4]);
+
+    let mut service = Service::new();
+    assert_eq!(service.open(1), Err(Refusal::PlanOrder));
+    assert_eq!(service.plan(BAD), Err(Refusal::BadPlan));
+    assert_eq!(service, Service::new());
+    assert_eq!(service.plan(PLAN), Ok(()));
+    assert_eq!(service.open(1), Ok(()));
+    for (user, message) in [(1, 110), (2, 220), (3, 330)] {
+        assert_eq!(service.first_element(user, 0, message), Ok(()));
+    }
+    assert_eq!(service.close(), Ok(7));
+    for (user, share) in [(1, 340), (2, 230), (3, 175)] {
+        assert_eq!(service.reply_element(user, 0, share), Ok(()));
+    }
+    let held = service.clone();
+    let mut totals = [7; MOST_PLACES];
+    assert_eq!(service.finish(&mut totals), Err(Refusal::Unexplained));
+    assert_eq!(service.plan(PLAN), Err(Refusal::PlanOrder));
+    assert_eq!(service.open(1), Err(Refusal::OldRound));
+    assert_eq!(service.reply_element(0, 0, 1), Err(Refusal::BadUser));
+    assert_eq!(service.reply_element(1, 1, 1), Err(Refusal::BadPlace));
+    assert_eq!(service.reply_element(1, 0, 65536), Err(Refusal::BadElement));
+    assert_eq!((service, totals), (held, [7; MOST_PLACES]));
+}
+
+fn main() {
+    assert_eq!((PLAN.list_len(), PLAN.key_len()), (7, 4));
+    let large = Plan { users: 8, blocks: 16, ..PLAN };
+    assert_eq!((large.list_len(), large.key_len()), (4080, 2048));
+    assert_eq!((BAD.list_len(), BAD.key_len()), (0, 0));
+    let mut service = Service::new();
+    assert_eq!(service.plan(PLAN), Ok(()));
+    run_round(&mut service);
+    run_refusals();
     println!("Rust: the example round, as expected");
 }

@@ -1,4 +1,5 @@
-/* Key maker and airfield end of document 01, for C: the functions that crates/capi exports (rt staticlib capi gives libcapi.a).
+/* Key maker, airfield end and pooling service of document 01, for C: the functions that crates/capi exports (rt staticlib capi
+ * gives libcapi.a).
  *
  * A plan is four numbers: users (K), threshold (U), collusion (T) and blocks (M). A user is an airfield's number, 1 to K; a set of
  * users is a number whose bit k - 1 stands for user k. An element is a number below CUTAWHENO_Q. A row of figures, and a first
@@ -8,10 +9,16 @@
  * after each call its stage is the one in the answer. Whoever lets two calls start from one stage, or sets a stage back, gives up
  * what the stages are for: an end that answers a single set.
  *
+ * A service is three arrays that the caller keeps and lends to each call, all zero for a new service: the head, whose eight numbers
+ * are named below, the first elements and the replies. An element that is held stands there as itself plus 1, and 0 where none is
+ * held: user k's at (k - 1) * CUTAWHENO_MOST_PLACES + place, and at (k - 1) * CUTAWHENO_MOST_BLOCKS + block. The arrays may be read,
+ * copied and stored at any time. Whatever they hold, a call answers; as long as only calls write them, they are a service of document
+ * 01 after the same records.
+ *
  * Each call answers CUTAWHENO_TAKEN or the earliest refusal that applies, in the order that its comment gives. A refused call
- * writes nothing into a lent buffer and hands the stage back as it came. No input makes a call fail in any other way, provided
- * that each pointer leads to as many elements as the length beside it says, and that the buffer to be written overlaps no list. A
- * list of length 0 may have any pointer that is not null and is aligned for uint16_t.
+ * writes nothing into a lent buffer or array and hands the stage back as it came. No input makes a call fail in any other way,
+ * provided that each pointer leads to as many elements as the length beside it or in its brackets says, and that what is to be
+ * written overlaps nothing else that is lent. A list of length 0 may have any pointer that is not null and is aligned for uint16_t.
  */
 #ifndef CUTAWHENO_H
 #define CUTAWHENO_H
@@ -28,7 +35,30 @@ enum {
     CUTAWHENO_LEAST_USERS = 3,
     CUTAWHENO_MOST_USERS = 8,
     CUTAWHENO_MOST_BLOCKS = 16,
-    CUTAWHENO_MOST_PLACES = 96 /* of a row of figures */
+    CUTAWHENO_MOST_PLACES = 96, /* of a row of figures */
+    CUTAWHENO_HEAD = 8,         /* lengths of a service's arrays */
+    CUTAWHENO_FIRSTS = 768,
+    CUTAWHENO_REPLIES = 128
+};
+
+/* What stands where in a service's head. */
+enum {
+    CUTAWHENO_PHASE = 0,
+    CUTAWHENO_USERS = 1,
+    CUTAWHENO_THRESHOLD = 2,
+    CUTAWHENO_COLLUSION = 3,
+    CUTAWHENO_BLOCKS = 4,
+    CUTAWHENO_PLACES = 5,   /* of a row of the plan */
+    CUTAWHENO_ROUND = 6,    /* the last that was opened */
+    CUTAWHENO_SURVIVORS = 7 /* a set; 0 but while replying */
+};
+
+/* The phase of a service; a number above 3, which no call leaves, is read as replying. */
+enum {
+    CUTAWHENO_UNPLANNED = 0,
+    CUTAWHENO_IDLE = 1,
+    CUTAWHENO_GATHERING = 2,
+    CUTAWHENO_REPLYING = 3
 };
 
 /* Why a call is refused. */
@@ -40,6 +70,14 @@ enum {
     CUTAWHENO_BAD_USER = 4,      /* user 0 or above the plan's users */
     CUTAWHENO_SET_UNUSABLE = 5,  /* fewer than the threshold in the set, or a user that the plan has not */
     CUTAWHENO_NOT_IN_SET = 6,    /* the user is not in the set */
+    CUTAWHENO_BAD_PLACE = 8,     /* a place or block that the plan has not */
+    CUTAWHENO_PLAN_ORDER = 11,   /* no plan yet, or a second plan */
+    CUTAWHENO_OTHER_PHASE = 12,  /* not in this phase */
+    CUTAWHENO_HELD = 13,         /* that place or block is held already */
+    CUTAWHENO_NO_SURVIVOR = 14,  /* the user is not a survivor */
+    CUTAWHENO_TOO_FEW = 15,      /* fewer complete users than the threshold */
+    CUTAWHENO_UNEXPLAINED = 16,  /* no sums and noise explain all complete replies */
+    CUTAWHENO_OLD_ROUND = 17,    /* the round is not above the last one opened */
     CUTAWHENO_OUT_OF_TURN = 18,  /* first message already given, or a reply asked of a fresh end */
     CUTAWHENO_OTHER_SET = 19     /* a set other than the one answered */
 };
@@ -66,6 +104,12 @@ typedef struct {
     uint32_t stage;
 } CutawhenoPart;
 
+/* What closing a round answers: the refusal or 0; the survivors' set, 0 after a refusal. */
+typedef struct cutawheno_closed {
+    uint32_t number;
+    uint32_t set;
+} CutawhenoClosed;
+
 /* The length of the random list of a plan; 0 for a plan outside its ranges. */
 uint32_t cutawheno_list_len(uint32_t users, uint32_t threshold, uint32_t collusion, uint32_t blocks);
 
@@ -90,6 +134,34 @@ CutawhenoSent cutawheno_first_message(const uint16_t *key, size_t key_len, const
 CutawhenoPart cutawheno_reply(const uint16_t *key, size_t key_len,
                               uint32_t users, uint32_t threshold, uint32_t collusion, uint32_t blocks, uint32_t user,
                               uint32_t stage, uint32_t set);
+
+/* Gives a new service its plan; it is idle then. Refusals, the earliest: PLAN_ORDER, BAD_PLAN. */
+uint32_t cutawheno_service_plan(uint32_t head[CUTAWHENO_HEAD], uint16_t first[CUTAWHENO_FIRSTS], uint16_t reply[CUTAWHENO_REPLIES],
+                                uint32_t users, uint32_t threshold, uint32_t collusion, uint32_t blocks);
+
+/* Opens a round, in any phase: drops what was held, and begins gathering. Refusals, the earliest: PLAN_ORDER, OLD_ROUND. */
+uint32_t cutawheno_service_open(uint32_t head[CUTAWHENO_HEAD], uint16_t first[CUTAWHENO_FIRSTS], uint16_t reply[CUTAWHENO_REPLIES],
+                                uint32_t round);
+
+/* Holds an element of a user's first message, while gathering.
+ * Refusals, the earliest: PLAN_ORDER, OTHER_PHASE, BAD_USER, BAD_PLACE, BAD_ELEMENT, HELD. */
+uint32_t cutawheno_service_first_element(const uint32_t head[CUTAWHENO_HEAD], uint16_t first[CUTAWHENO_FIRSTS],
+                                         uint32_t user, uint32_t place, uint32_t element);
+
+/* Closes the round, while gathering: the users with all places held survive, and replying begins.
+ * Refusals, the earliest: PLAN_ORDER, OTHER_PHASE, TOO_FEW. */
+CutawhenoClosed cutawheno_service_close(uint32_t head[CUTAWHENO_HEAD], const uint16_t first[CUTAWHENO_FIRSTS],
+                                        uint16_t reply[CUTAWHENO_REPLIES]);
+
+/* Holds an element of a survivor's reply, while replying.
+ * Refusals, the earliest: PLAN_ORDER, OTHER_PHASE, BAD_USER, BAD_PLACE, BAD_ELEMENT, NO_SURVIVOR, HELD. */
+uint32_t cutawheno_service_reply_element(const uint32_t head[CUTAWHENO_HEAD], uint16_t reply[CUTAWHENO_REPLIES],
+                                         uint32_t user, uint32_t block, uint32_t element);
+
+/* Writes the survivors' total, place by place, and 0 behind the places of the plan; the service is idle then, and holds nothing.
+ * Refusals, the earliest: PLAN_ORDER, OTHER_PHASE, TOO_FEW, UNEXPLAINED. */
+uint32_t cutawheno_service_finish(uint32_t head[CUTAWHENO_HEAD], uint16_t first[CUTAWHENO_FIRSTS], uint16_t reply[CUTAWHENO_REPLIES],
+                                  uint16_t totals[CUTAWHENO_MOST_PLACES]);
 
 #ifdef __cplusplus
 }

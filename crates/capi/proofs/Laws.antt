@@ -1,15 +1,11 @@
 -- What the proofs of the calls share.
 --   stage-answered                                           a number from 2 on is the stage of an answered set
---   moved-number                                             a client's answer bears the refusal's number
 --   sent-taken, sent-refused, part-taken, part-refused       what the answers come to
 -- Assumes nothing.
 use mathlib.Core.Path.{_≡_, refl, ap}
 use Prim.Native.Nat.{ℕ, zero, suc, _+_, _-_}
 use native.Mathlib.Omega.{arith}
 use Rattle.scheme.specs.Scheme.{Plan, answered, reply-start}
-use Rattle.client.specs.declared.Stage as client
-use Rattle.client.specs.declared.Client.{Client}
-use Rattle.client.specs.Client.{moved}
 use Rattle.capi.specs.Calls.{stage-of-number, stage-number, sent-answer, part-answer}
 
 pub stage-answered : (s : ℕ) → (s ≡ 0 → ⊥) → (s ≡ 1 → ⊥) → stage-of-number s ≡ answered (s - 2)
@@ -17,11 +13,6 @@ unfolding stage-of-number
 stage-answered zero z o = absurd (z refl)
 stage-answered (suc zero) z o = absurd (o refl)
 stage-answered (suc (suc v)) z o = let e : v ≡ suc (suc v) - 2 = omega arith in ap answered e
-
-pub moved-number : (n : ℕ) (c : Client) (g : client.Stage) → moved n c g .number ≡ n
-unfolding moved
-moved-number zero c g = refl
-moved-number (suc n) c g = refl
 
 pub sent-taken : {n : ℕ} → n ≡ 0 → (s : ℕ) → sent-answer n s ≡ record { number = 0; stage = 1 }
 unfolding sent-answer stage-number

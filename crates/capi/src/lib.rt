@@ -1,8 +1,9 @@
-// Key maker and airfield end for callers in C and Rust: include/cutawheno.h declares these functions.
+// Key maker, airfield end and pooling service for callers in C and Rust: include/cutawheno.h declares these functions.
 //   cutawheno_list_len, cutawheno_key_len   the lengths that a plan fixes, 0 for a plan that test 1 refuses
 //   cutawheno_make_key                      a user's key from the random list
 //   cutawheno_first_message                 figures plus masks
 //   cutawheno_reply                         where in the key the shares for a set lie
+//   pooling                                 the pooling service
 // An end is its plan, its number and its stage, which the caller keeps: 0 fresh, 1 sent, 2 + v has answered the set v. So 1 and 4
 // are tested at each call, ahead of the others. A refused call hands back its number, and leaves stage and buffers as they came.
 // Lists come first: they are pointer and length in registers, as C passes them.
@@ -12,6 +13,9 @@ ghost use lib.ListN.{length};
 ghost use Rattle.scheme.specs.Scheme.{sixteen, key, first-message, key-refusal, message-refusal, reply-refusal, written};
 ghost use Rattle.client.specs.Client.{stage-of};
 ghost use Rattle.capi.specs.Calls.{plan-at, stage-of-number, list-len, key-len, sent-answer, part-answer};
+
+pub mod pooling;
+
 use client::Client;
 use client::Stage;
 use plan::Plan;

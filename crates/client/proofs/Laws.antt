@@ -2,7 +2,7 @@
 --   message-fits, message-written        where a first message is taken: the buffer is no longer than figures and key, and the message fills it
 --   Answers, reply-answers, reply-taken, answers-held    what holds where a reply is taken, and that it is taken
 --   each-next, each-end                  a row written place by place: one place more, and all places
---   start-refused, moved-taken, moved-refused, part-given    what start, first message, reply and part hand back
+--   start-refused, moved-number, moved-taken, moved-refused, part-given    what start, first message, reply and part hand back
 -- Assumes nothing.
 use mathlib.Core.Path.{_≡_, refl, sym, ap, _∙_}
 use mathlib.Core.Bool.{true, false}
@@ -97,6 +97,11 @@ pub start-refused : {n : ℕ} → (n ≡ 0 → ⊥) → (p : Plan) (k : ℕ) →
 unfolding start-answer
 start-refused {n = zero} h p k = absurd (h refl)
 start-refused {n = suc n} h p k = refl
+
+pub moved-number : (n : ℕ) (c : Client) (g : Stage) → moved n c g .number ≡ n
+unfolding moved
+moved-number zero c g = refl
+moved-number (suc n) c g = refl
 
 pub moved-taken : {n : ℕ} → n ≡ 0 → (c : Client) (g : Stage) → moved n c g ≡ record { number = 0; client = record { plan = c .plan; user = c .user; stage = g } }
 unfolding moved

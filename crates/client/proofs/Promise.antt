@@ -6,24 +6,18 @@ use mathlib.Core.Path.{_≡_, refl, sym, ap, _∙_}
 use mathlib.Core.Logic.{_≢_}
 use mathlib.Core.Bool.{Bool, true, false, _&&_, cond}
 use mathlib.Core.List.{List, []}
-use Prim.Native.Nat.{ℕ, zero, suc}
+use Prim.Native.Nat.{ℕ}
 use lib.ListN.{length}
 use borrow.Author.Tests.{eq-eqb, ne-eqb}
 use Rattle.scheme.specs.Scheme as scheme
 use Rattle.scheme.specs.Scheme.{is-fresh, open-to, reply}
 use Rattle.scheme.proofs.Refusals.{written-refused}
 use Rattle.plan.specs.Plan.{plan-of}
-use Rattle.client.specs.declared.Stage.{Stage}
 use Rattle.client.specs.declared.Stage.the-variants.{Sent, Answered}
 use Rattle.client.specs.declared.Client.{Client}
-use Rattle.client.specs.Client.{stage-of, moved, has-answered, answer-refusal, first-refusal, gives, part-of}
+use Rattle.client.specs.Client.{stage-of, has-answered, answer-refusal, first-refusal, gives, part-of}
 use Rattle.client.specs.Promise.{Same-part, First-unchanged, Reply-unchanged, Refused-unchanged}
-use Rattle.client.proofs.Laws.{reply-answers, reply-taken, moved-taken, moved-refused, part-given}
-
-moved-number : (n : ℕ) (c : Client) (g : Stage) → moved n c g .number ≡ n
-unfolding moved
-moved-number zero c g = refl
-moved-number (suc n) c g = refl
+use Rattle.client.proofs.Laws.{reply-answers, reply-taken, moved-number, moved-taken, moved-refused, part-given}
 
 part-refused : (c : Client) (ks : List ℕ) (v : ℕ) → answer-refusal c ks v ≢ 0 → part-of c ks v ≡ []
 unfolding part-of gives

@@ -6,8 +6,9 @@ use denote.Ref.{now}
 use borrow.Author.Needs.{needs}
 use Rattle.scheme.specs.Scheme.{sixteen, Stage, message-refusal}
 use Rattle.client.specs.declared.Answer.{Answer}
+use Rattle.client.proofs.Laws.{moved-number}
 use Rattle.capi.specs.Calls.{plan-at, stage-of-number}
-use Rattle.capi.proofs.Laws.{moved-number, sent-taken, sent-refused}
+use Rattle.capi.proofs.Laws.{sent-taken, sent-refused}
 use Rattle.capi.proofs.cutawheno_first_message.Statement.{statement}
 use Rattle.capi.proofs.cutawheno_first_message.Tie as tie
 

@@ -8,9 +8,9 @@ use Rattle.scheme.specs.Scheme.{sixteen, Stage, reply-refusal}
 use Rattle.plan.proofs.Laws.{usable-le, reply-inside}
 use Rattle.client.specs.declared.Answer.{Answer}
 use Rattle.scheme.proofs.Refusals.{start-taken}
-use Rattle.client.proofs.Laws.{Answers, reply-answers, answers-held}
+use Rattle.client.proofs.Laws.{Answers, reply-answers, answers-held, moved-number}
 use Rattle.capi.specs.Calls.{plan-at, stage-of-number}
-use Rattle.capi.proofs.Laws.{moved-number, part-taken, part-refused}
+use Rattle.capi.proofs.Laws.{part-taken, part-refused}
 use Rattle.capi.proofs.cutawheno_reply.Statement.{statement}
 use Rattle.capi.proofs.cutawheno_reply.Tie as tie
 

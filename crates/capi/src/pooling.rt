@@ -1,0 +1,263 @@
+// The pooling service for callers in C and Rust, over state that the caller lends: include/cutawheno.h declares these functions.
+//   cutawheno_service_plan, cutawheno_service_open       begin
+//   cutawheno_service_first_element, cutawheno_service_reply_element     hold an element: the hot path, which copies no array
+//   cutawheno_service_close, cutawheno_service_finish    the survivors' set, and the total
+// The state is three arrays, all zero for a new service: `head` has the phase (0 unplanned, 1 idle, 2 gathering, 3 replying), users,
+// threshold, collusion, blocks, places, round and survivors; `first` and `reply` hold the elements as crate service does. A refused
+// call hands back its number and leaves every array as it came.
+ghost use mathlib.Core.Path.{_≡_};
+ghost use Rattle.service.specs.Calls.{plan-step, open-step, first-refusal, first-left, close-step, reply-refusal, reply-left};
+ghost use Rattle.finish.specs.Finish.{finish-step};
+ghost use Rattle.capi.specs.Lent.{arrays, state, code-plan, phase-at, phase-number, head-at, numbers, arrays-of, narrowed, plan-left, open-left, closed-answer, close-left, finish-left, finish-totals};
+use plan::MOST_PLACES;
+use plan::Plan;
+use service::FIRSTS;
+use service::Head;
+use service::Phase;
+use service::REPLIES;
+use service::Service;
+
+// The length of `head`.
+pub const NUMBERS: usize = 8;
+
+#[repr(C)]
+pub struct CutawhenoClosed {
+    pub number: u32,
+    pub set: u32,
+}
+
+// A number above 3, which no call leaves, is read as replying.
+fn phase_at(number: u32) -> Phase
+    ensures { λ r. ⌜ r ≡ phase-at number ⌝ }
+{
+    if number == 0 {
+        return Phase::Unplanned;
+    }
+    if number == 1 {
+        return Phase::Idle;
+    }
+    if number == 2 {
+        return Phase::Gathering;
+    }
+    Phase::Replying
+}
+
+fn phase_number(phase: Phase) -> u32
+    ensures { λ r. ⌜ r ≡ phase-number phase ⌝ }
+{
+    match phase {
+        Phase::Unplanned => 0,
+        Phase::Idle => 1,
+        Phase::Gathering => 2,
+        Phase::Replying => 3,
+    }
+}
+
+// What the head's numbers stand for, and back.
+fn head_at(head: &[u32; NUMBERS]) -> Head
+    ensures { λ r. ⌜ r ≡ head-at (now (head .entry)) ⌝ }
+{
+    let phase = phase_at(head[0]);
+    let plan = Plan {
+        users: head[1],
+        threshold: head[2],
+        collusion: head[3],
+        blocks: head[4],
+    };
+    Head {
+        phase,
+        plan,
+        places: head[5],
+        round: head[6],
+        survivors: head[7],
+    }
+}
+
+fn numbers(head: Head) -> [u32; NUMBERS]
+    ensures { λ r. ⌜ r ≡ numbers head ⌝ }
+{
+    let phase = head.phase;
+    let plan = head.plan;
+    let number = phase_number(phase);
+    [
+        number,
+        plan.users,
+        plan.threshold,
+        plan.collusion,
+        plan.blocks,
+        head.places,
+        head.round,
+        head.survivors,
+    ]
+}
+
+// The state that the arrays stand for, and back.
+fn state(head: &[u32; NUMBERS], first: &[u16; FIRSTS], reply: &[u16; REPLIES]) -> Service
+    ensures { λ r. ⌜ r ≡ state (arrays (now (head .entry)) (now (first .entry)) (now (reply .entry))) ⌝ }
+{
+    let head = head_at(head);
+    let first = *first;
+    let reply = *reply;
+    Service { head, first, reply }
+}
+
+fn store(
+    service: Service,
+    head: &mut [u32; NUMBERS],
+    first: &mut [u16; FIRSTS],
+    reply: &mut [u16; REPLIES],
+)
+    ensures { λ r. ⌜ arrays (now (head .exit)) (now (first .exit)) (now (reply .exit)) ≡ arrays-of service ⌝ }
+{
+    let next = service.head;
+    let firsts = service.first;
+    let replies = service.reply;
+    *head = numbers(next);
+    *first = firsts;
+    *reply = replies;
+}
+
+// 11, 1.
+#[no_mangle]
+pub extern "C" fn cutawheno_service_plan(
+    head: &mut [u32; NUMBERS],
+    first: &mut [u16; FIRSTS],
+    reply: &mut [u16; REPLIES],
+    users: u32,
+    threshold: u32,
+    collusion: u32,
+    blocks: u32,
+) -> u32
+    ensures number { λ r. ⌜ r ≡ plan-step (state (arrays (now (head .entry)) (now (first .entry)) (now (reply .entry)))) (code-plan users threshold collusion blocks) .number ⌝ }
+    ensures left { λ r. ⌜ arrays (now (head .exit)) (now (first .exit)) (now (reply .exit)) ≡ plan-left (arrays (now (head .entry)) (now (first .entry)) (now (reply .entry))) (code-plan users threshold collusion blocks) ⌝ }
+{
+    let plan = Plan {
+        users,
+        threshold,
+        collusion,
+        blocks,
+    };
+    let before = state(head, first, reply);
+    let planned = before.plan(plan);
+    let number = planned.number;
+    if number != 0 {
+        return number;
+    }
+    let next = planned.service;
+    store(next, head, first, reply);
+    0
+}
+
+// 11, 17.
+#[no_mangle]
+pub extern "C" fn cutawheno_service_open(
+    head: &mut [u32; NUMBERS],
+    first: &mut [u16; FIRSTS],
+    reply: &mut [u16; REPLIES],
+    round: u32,
+) -> u32
+    ensures number { λ r. ⌜ r ≡ open-step (state (arrays (now (head .entry)) (now (first .entry)) (now (reply .entry)))) round .number ⌝ }
+    ensures left { λ r. ⌜ arrays (now (head .exit)) (now (first .exit)) (now (reply .exit)) ≡ open-left (arrays (now (head .entry)) (now (first .entry)) (now (reply .entry))) round ⌝ }
+{
+    let before = state(head, first, reply);
+    let opened = before.open(round);
+    let number = opened.number;
+    if number != 0 {
+        return number;
+    }
+    let next = opened.service;
+    store(next, head, first, reply);
+    0
+}
+
+// A number that 16 bits do not hold is no element, as 65535 is none.
+fn narrowed(element: u32) -> u16
+    ensures { λ r. ⌜ r ≡ narrowed element ⌝ }
+{
+    if element < 65536 {
+        return element as u16;
+    }
+    65535
+}
+
+// 11, 12, 4, 8, 3, 13.
+#[no_mangle]
+pub extern "C" fn cutawheno_service_first_element(
+    head: &[u32; NUMBERS],
+    first: &mut [u16; FIRSTS],
+    user: u32,
+    place: u32,
+    element: u32,
+) -> u32
+    ensures number { λ r. ⌜ r ≡ first-refusal (head-at (now (head .entry))) (now (first .entry)) user place element ⌝ }
+    ensures left { λ r. ⌜ now (first .exit) ≡ first-left (head-at (now (head .entry))) (now (first .entry)) user place element ⌝ }
+{
+    let held = head_at(head);
+    service::put_first(held, first, user, place, narrowed(element))
+}
+
+// 11, 12, 15.
+#[no_mangle]
+pub extern "C" fn cutawheno_service_close(
+    head: &mut [u32; NUMBERS],
+    first: &[u16; FIRSTS],
+    reply: &mut [u16; REPLIES],
+) -> CutawhenoClosed
+    ensures answer { λ r. ⌜ r ≡ closed-answer (close-step (state (arrays (now (head .entry)) (now (first .entry)) (now (reply .entry))))) ⌝ }
+    ensures left { λ r. ⌜ arrays (now (head .exit)) (now (first .entry)) (now (reply .exit)) ≡ close-left (arrays (now (head .entry)) (now (first .entry)) (now (reply .entry))) ⌝ }
+{
+    let before = state(head, first, reply);
+    let closed = before.close();
+    let number = closed.number;
+    let set = closed.set;
+    if number != 0 {
+        return CutawhenoClosed { number, set };
+    }
+    let next = closed.service;
+    let replying = next.head;
+    let replies = next.reply;
+    *head = numbers(replying);
+    *reply = replies;
+    CutawhenoClosed { number, set }
+}
+
+// 11, 12, 4, 8, 3, 14, 13.
+#[no_mangle]
+pub extern "C" fn cutawheno_service_reply_element(
+    head: &[u32; NUMBERS],
+    reply: &mut [u16; REPLIES],
+    user: u32,
+    block: u32,
+    element: u32,
+) -> u32
+    ensures number { λ r. ⌜ r ≡ reply-refusal (head-at (now (head .entry))) (now (reply .entry)) user block element ⌝ }
+    ensures left { λ r. ⌜ now (reply .exit) ≡ reply-left (head-at (now (head .entry))) (now (reply .entry)) user block element ⌝ }
+{
+    let held = head_at(head);
+    service::put_reply(held, reply, user, block, narrowed(element))
+}
+
+// 11, 12, 15, 16. The totals come in the first L places, with 0 behind them.
+#[no_mangle]
+pub extern "C" fn cutawheno_service_finish(
+    head: &mut [u32; NUMBERS],
+    first: &mut [u16; FIRSTS],
+    reply: &mut [u16; REPLIES],
+    totals: &mut [u16; MOST_PLACES],
+) -> u32
+    ensures number { λ r. ⌜ r ≡ finish-step (state (arrays (now (head .entry)) (now (first .entry)) (now (reply .entry)))) .number ⌝ }
+    ensures left { λ r. ⌜ arrays (now (head .exit)) (now (first .exit)) (now (reply .exit)) ≡ finish-left (arrays (now (head .entry)) (now (first .entry)) (now (reply .entry))) ⌝ }
+    ensures totals { λ r. ⌜ now (totals .exit) ≡ finish-totals (arrays (now (head .entry)) (now (first .entry)) (now (reply .entry))) (now (totals .entry)) ⌝ }
+{
+    let before = state(head, first, reply);
+    let finished = finish::finish(before);
+    let number = finished.number;
+    let sums = finished.totals;
+    if number != 0 {
+        return number;
+    }
+    let next = finished.service;
+    store(next, head, first, reply);
+    *totals = sums;
+    0
+}
