@@ -1,52 +1,25 @@
 -- The promises to callers in C and Rust.
---   same-length          how many usable sets hold a user is computed, for each number of users, threshold and user
+--   same-length          as many usable sets hold each user
 --   stages-numbered      stage by stage
 --   part-is-reply        by the definitions
 --   same-part, one-set   test 19 at the stage that was handed back
 -- Assumes nothing.
 use mathlib.Core.Path.{_≡_, refl, sym, ap, _∙_}
-use mathlib.Core.Bool.{Bool, true, cond, _&&_}
+use mathlib.Core.Bool.{Bool, true, cond}
 use mathlib.Core.List.{List}
-use Prim.Native.Nat.{ℕ, zero, suc, _+_, _*_, _≤_, _<_}
+use Prim.Native.Nat.{ℕ, zero, suc, _+_, _*_}
 use native.Mathlib.Omega.{arith}
-use native.Mathlib.Decide.{ℕ-discrete}
-use lib.Dec.{eqb}
-use lib.ListN.{length}
 use borrow.Author.Tests.{eqb-true, eq-eqb, leb-true}
-use Rattle.scheme.specs.Scheme.{sixteen, Plan, Stage, fresh, sent, answered, places, is-user, in-set, ones, usable, usable-with, sets-with, key-length, reply, is-fresh, open-to, reply-refusal}
+use Rattle.scheme.specs.Scheme.{sixteen, Plan, Stage, fresh, sent, answered, places, is-user, usable, usable-with, sets-with, key-length, reply, is-fresh, open-to, reply-refusal}
 use Rattle.scheme.proofs.Tests.{both}
 use Rattle.scheme.proofs.Good.{good}
 use Rattle.scheme.proofs.Refusals.{then-zero, unless-zero}
+use Rattle.plan.specs.Counts.{holding}
+use Rattle.plan.proofs.Counts.{holding-same}
 use Rattle.client.proofs.Laws.{reply-answers, reply-taken}
 use Rattle.capi.specs.Calls.{stage-of-number, stage-number, key-len, part-answer}
 use Rattle.capi.specs.Promise.{Same-length, Part-is-reply, Same-part, One-set, Stages-numbered}
 use Rattle.capi.proofs.Laws.{part-taken}
-
--- the test holds of every number below n
-all : (n : ℕ) → (ℕ → Bool) → Bool
-all zero t = true
-all (suc n) t = t n && all n t
-
-all-at : (n : ℕ) (t : ℕ → Bool) (i : ℕ) → all n t ≡ true → i < n → t i ≡ true
-unfolding all
-all-at zero t i e h = absurd (omega arith)
-all-at (suc n) t i e h = pick (ℕ-discrete i n) (all-at n t i (both (t n) (all n t) e .1))
-  where
-    pick : Dec (i ≡ n) → (i < n → t i ≡ true) → t i ≡ true
-    pick (yes s) below = ap t s ∙ both (t n) (all n t) e .0
-    pick (no d) below = below (omega arith)
-
--- how many usable sets hold user k
-holding : (users threshold k : ℕ) → ℕ
-holding n u k = length (sets-with (record { users = n; threshold = u; collusion = 0; blocks = 0 }) k)
-
-computed : all 9 (λ n. all 8 (λ u. all n (λ i. eqb (holding n u (suc i)) (holding n u 1)))) ≡ true
-unfolding all holding sets-with usable-with usable in-set ones
-computed = refl
-
-holding-same : (n u k : ℕ) → n < 9 → u < 8 → 1 ≤ k → k ≤ n → holding n u k ≡ holding n u 1
-holding-same n u zero hn hu l h = absurd (omega arith)
-holding-same n u (suc i) hn hu l h = eqb-true _ _ (all-at n _ i (all-at 8 _ u (all-at 9 _ n computed hn) hu) (omega arith))
 
 pub same-length : Same-length
 unfolding Same-length is-user key-length key-len holding sets-with usable-with usable

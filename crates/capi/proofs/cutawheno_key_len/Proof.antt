@@ -17,7 +17,9 @@ unfolding key-len
 returns c = rw (sym (c .before .is-good .ensures) ∙ not-true _ (c .if1 .taken))
 
 key-length-requires : tie.Need-key-length-requires
-key-length-requires c κs = (good _ (sym (c .before .is-good .ensures) ∙ not-false _ (c .if1 .left)), omega arith, omega arith)
+key-length-requires c κs =
+    let g = good _ (sym (c .before .is-good .ensures) ∙ not-false _ (c .if1 .left)) in
+    (g, omega arith, omega (arith, g .users-low))
 
 cast-result : tie.Need-cast-result
 cast-result c = search needs
