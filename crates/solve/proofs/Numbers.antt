@@ -14,7 +14,7 @@ use Rattle.algebra.proofs.Residue.{mods, el-path, residue}
 use Rattle.algebra.proofs.Primes.{prime-65521}
 use Rattle.scheme.specs.Scheme.{q, sixteen}
 use Rattle.scheme.specs.Laws.{Laws}
-use Rattle.scheme.proofs.Modular.{modular-laws}
+use Rattle.scheme.specs.Modular.{modular-laws}
 use Rattle.solve.specs.Solve.{laws16, gap-of}
 open Laws laws16 using (K, el, val)
 open Field K using (F, 𝟙, add as _⊕_, mul as _⊗_, inv)

@@ -19,15 +19,14 @@ use lib.Dec.{eqb, lit<}
 use lib.ListN.{getD, replicate}
 use Rattle.algebra.specs.Residue.{inverse}
 use Rattle.algebra.specs.Cauchy.{weight, solution}
-use Rattle.algebra.proofs.Primes.{prime-65521}
 use Rattle.scheme.specs.Scheme.{span, q, sixteen, sum}
 use Rattle.scheme.specs.Totals.{all-of}
 use Rattle.scheme.specs.Laws.{Laws}
-use Rattle.scheme.proofs.Modular.{modular-laws}
+use Rattle.scheme.specs.Modular.{sixteen-field}
 use Rattle.solve.specs.declared.Explained.{Explained}
 
 unfoldable pub laws16 : Laws sixteen 8 7
-laws16 = modular-laws prime-65521 8 7 (lit< tt)
+laws16 = sixteen-field 8 7 (lit< tt)
 
 open Laws laws16 using (K, el, val)
 
