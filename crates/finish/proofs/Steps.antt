@@ -22,14 +22,15 @@ use Rattle.scheme.proofs.Totals.{Explained, explained, explained-back, settled}
 use Rattle.scheme.proofs.Well.{finishing, steps-well}
 use Rattle.scheme.proofs.Service.{demand-2}
 use Rattle.plan.specs.Plan.{plan-of}
+use Rattle.solve.specs.Solve.{padded}
+use Rattle.solve.proofs.Filled.{padded-take}
 use Rattle.service.specs.declared.Service.{Service}
 use Rattle.service.specs.View.{phase-of, view, Formed}
 use Rattle.service.specs.Calls.{nothing-first, nothing-reply}
 use Rattle.service.specs.Promise.{told, Is-step}
 use Rattle.service.proofs.View.{look-nothing}
-use Rattle.finish.specs.Finish.{padded, choice, finish-refusal, finished, finish-answer, finish-step}
+use Rattle.finish.specs.Finish.{choice, finish-refusal, finished, finish-answer, finish-step}
 use Rattle.finish.specs.Promise.{Finish-steps, Finish-right}
-use Rattle.finish.proofs.Padded.{padded-take}
 use Rattle.finish.proofs.Blocks.{values-small, choice-first}
 use Rattle.finish.proofs.Answers.{Ripe}
 
