@@ -16,7 +16,7 @@ use lib.Dec.{eqb}
 use Rattle.algebra.specs.Field.{Field, sub}
 use Rattle.algebra.specs.Sums.{In, sum}
 use Rattle.algebra.specs.Cauchy.{System, coefficient, value, weight, solution}
-use Rattle.algebra.proofs.Field.{add-comm, add-right-comm, add-zero, mul-assoc, mul-comm, mul-one, one-mul, mul-zero, mul-inv, add-cancel, mul-cancel, add-sub, sub-ne, expand}
+use Rattle.algebra.proofs.Field.{add-last, expand, one-mul, mul-zero, add-cancel, mul-cancel, add-sub, sub-ne}
 use Rattle.algebra.proofs.Sums.{sum-same, sum-zero, sum-add, sum-scale, sum-pair, sum-pick}
 use Rattle.algebra.proofs.Weights.{weights-one}
 
@@ -27,7 +27,7 @@ transposed {K} system = record {
   columns-once = system .rows-once;
   rows-apart = system .columns-apart;
   columns-apart = system .rows-apart;
-  meet = λ i k m n e. system .meet k i n m (add-comm K _ _ ∙ e);
+  meet = λ i k m n e. system .meet k i n m (K .add-comm _ _ ∙ e);
 }
 
 module _ {K : Field} {row col : ℕ → K .F} {rs cs : List ℕ} (system : System K row col rs cs) where
@@ -48,7 +48,7 @@ module _ {K : Field} {row col : ℕ → K .F} {rs cs : List ℕ} (system : Syste
   columns-one = weights-one K col row (transposed system)
 
   transposed-value : (i : ℕ) (w : ℕ → F) → sum K rs (λ k. a k i ⊗ w k) ≡ value K col row rs i w
-  transposed-value i w = sum-same K rs _ _ (λ k m. ap (λ u. inv u ⊗ w k) (add-comm K (row k) (col i)))
+  transposed-value i w = sum-same K rs _ _ (λ k m. ap (λ u. inv u ⊗ w k) (K .add-comm (row k) (col i)))
 
   E : (k l : ℕ) → F
   E k l = value K row col cs l (λ i. a k i ⊗ β i)
@@ -59,7 +59,7 @@ module _ {K : Field} {row col : ℕ → K .F} {rs cs : List ℕ} (system : Syste
       mul-cancel K d (sub-ne K (system .rows-apart l k n m (Ne·symm h)))
       (add-cancel K 𝟙 (ap (λ u. u ⊕ d ⊗ E k l) (sym (columns-one l n))
       ∙ sym (sum-same K cs _ _ each ∙ sum-add K cs _ _ ∙ ap (λ u. value K row col cs l β ⊕ u) (sum-scale K d cs _))
-      ∙ columns-one k m ∙ sym (add-zero K 𝟙) ∙ ap (λ u. 𝟙 ⊕ u) (sym (mul-zero K d))))
+      ∙ columns-one k m ∙ sym (K .add-zero 𝟙) ∙ ap (λ u. 𝟙 ⊕ u) (sym (mul-zero K d))))
     where
       d : F
       d = sub K (row l) (row k)
@@ -74,28 +74,28 @@ module _ {K : Field} {row col : ℕ → K .F} {rs cs : List ℕ} (system : Syste
 
       each : (i : ℕ) → In i cs → a k i ⊗ β i ≡ a l i ⊗ β i ⊕ d ⊗ (a l i ⊗ (a k i ⊗ β i))
       each i o =
-          apart (row k ⊕ col i) (a k i) (a l i) (β i) (mul-inv K _ (system .meet k i m o))
-          (ap (λ u. u ⊗ a l i) (add-right-comm K (row k) (col i) d ∙ ap (λ u. u ⊕ col i) (add-sub K (row l) (row k)))
-          ∙ mul-inv K _ (system .meet l i n o))
+          apart (row k ⊕ col i) (a k i) (a l i) (β i) (K .mul-inv _ (system .meet k i m o))
+          (ap (λ u. u ⊗ a l i) (add-last K (row k) (col i) d ∙ ap (λ u. u ⊕ col i) (add-sub K (row l) (row k)))
+          ∙ K .mul-inv _ (system .meet l i n o))
 
   -- the closed solution, before its weights of the rows
   spread : (g : ℕ → F) (k : ℕ) → In k rs → value K row col cs k (λ i. β i ⊗ sum K rs (λ l. a l i ⊗ g l)) ≡ g k ⊗ E k k
   unfolding E
   spread g k m =
-      sum-same K cs _ _ (λ i n. sym (mul-assoc K (a k i) (β i) _)) ∙ sum-pair K cs rs (λ i l. a l i) (λ i. a k i ⊗ β i) g
+      sum-same K cs _ _ (λ i n. sym (K .mul-assoc (a k i) (β i) _)) ∙ sum-pair K cs rs (λ i l. a l i) (λ i. a k i ⊗ β i) g
       ∙ sum-pick K rs _ k (system .rows-once) m (λ l n h. ap (λ u. g l ⊗ u) (cross k l m n (Ne·symm h)) ∙ mul-zero K (g l))
 
   own : (k : ℕ) → In k rs → α k ⊗ E k k ≡ 𝟙
   own k m =
       sym (spread α k m)
       ∙ sum-same K cs _ _ (λ i n.
-      ap (λ u. a k i ⊗ u) (ap (λ u. β i ⊗ u) (transposed-value i α ∙ weights-one K row col system i n) ∙ mul-one K (β i)))
+      ap (λ u. a k i ⊗ u) (ap (λ u. β i ⊗ u) (transposed-value i α ∙ weights-one K row col system i n) ∙ K .mul-one (β i)))
       ∙ columns-one k m
 
   pub solves : (f : ℕ → F) (k : ℕ) → In k rs → value K row col cs k (solution K row col rs cs f) ≡ f k
   solves f k m =
-      spread (λ l. α l ⊗ f l) k m ∙ ap (λ u. u ⊗ E k k) (mul-comm K (α k) (f k)) ∙ mul-assoc K _ _ _
-      ∙ ap (λ u. f k ⊗ u) (own k m) ∙ mul-one K (f k)
+      spread (λ l. α l ⊗ f l) k m ∙ ap (λ u. u ⊗ E k k) (K .mul-comm (α k) (f k)) ∙ K .mul-assoc _ _ _
+      ∙ ap (λ u. f k ⊗ u) (own k m) ∙ K .mul-one (f k)
 
 module _ {K : Field} {row col : ℕ → K .F} {rs cs : List ℕ} (system : System K row col rs cs) where
   open Field K using (F, 𝟘, 𝟙, mul as _⊗_)
@@ -114,7 +114,7 @@ module _ {K : Field} {row col : ℕ → K .F} {rs cs : List ℕ} (system : Syste
       ∙ sum-same K cs _ (λ j. w j ⊗ unit i j) (λ j n.
       ap (λ u. w j ⊗ u) (transposed-value system j (reading i) ∙ solves (transposed system) (unit i) j n))
       ∙ sum-pick K cs _ i (system .columns-once) m (λ j n h. rw (ne-eqb j i h, mul-zero))
-      ∙ rw (eq-eqb i i refl, mul-one)
+      ∙ rw (eq-eqb i i refl, K .mul-one)
 
   pub unique : (w v : ℕ → F) → ((k : ℕ) → In k rs → value K row col cs k w ≡ value K row col cs k v) → (i : ℕ) → In i cs → w i ≡ v i
   unique w v h i m = sym (read w i m) ∙ sum-same K rs _ _ (λ k n. ap (λ u. reading i k ⊗ u) (h k n)) ∙ read v i m

@@ -10,7 +10,7 @@ use mathlib.Core.List.{List, [], _∷_, _++_}
 use Prim.Native.Nat.{ℕ}
 use Rattle.algebra.specs.Field.{Field, sub}
 use Rattle.algebra.specs.Sums.{In, Distinct, sum, product}
-use Rattle.algebra.proofs.Field.{add-assoc, add-zero, zero-add, add-cancel, add-sub, mul-assoc, mul-comm, mul-add, mul-zero, zero-mul, sums}
+use Rattle.algebra.proofs.Field.{sums, expand, zero-add, mul-zero, zero-mul, add-sub, sub-is}
 
 module _ (K : Field) where
   open Field K using (F, 𝟘, 𝟙, add as _⊕_, mul as _⊗_)
@@ -23,24 +23,23 @@ module _ (K : Field) where
 
   pub sum-zero : (ks : List ℕ) (f : ℕ → F) → ((k : ℕ) → In k ks → f k ≡ 𝟘) → sum K ks f ≡ 𝟘
   sum-zero [] f h = refl
-  sum-zero (k ∷ ks) f h = ap₂ _⊕_ (h k (inl refl)) (sum-zero ks f (λ l m. h l (inr m))) ∙ add-zero K 𝟘
+  sum-zero (k ∷ ks) f h = ap₂ _⊕_ (h k (inl refl)) (sum-zero ks f (λ l m. h l (inr m))) ∙ K .add-zero 𝟘
 
   pub sum-add : (ks : List ℕ) (f g : ℕ → F) → sum K ks (λ k. f k ⊕ g k) ≡ sum K ks f ⊕ sum K ks g
-  sum-add [] f g = sym (add-zero K 𝟘)
+  sum-add [] f g = sym (K .add-zero 𝟘)
   sum-add (k ∷ ks) f g = ap (λ s. f k ⊕ g k ⊕ s) (sum-add ks f g) ∙ simp sums
 
   pub sum-sub : (ks : List ℕ) (f g : ℕ → F) → sum K ks (λ k. sub K (f k) (g k)) ≡ sub K (sum K ks f) (sum K ks g)
   sum-sub ks f g =
-      add-cancel K (sum K ks g)
-      (sym (sum-add ks g (λ k. sub K (f k) (g k))) ∙ sum-same ks _ f (λ k m. add-sub K (f k) (g k)) ∙ sym (add-sub K _ _))
+      sym (sub-is K (sym (sum-add ks g (λ k. sub K (f k) (g k))) ∙ sum-same ks _ f (λ k m. add-sub K (f k) (g k))))
 
   pub sum-scale : (a : F) (ks : List ℕ) (f : ℕ → F) → sum K ks (λ k. a ⊗ f k) ≡ a ⊗ sum K ks f
   sum-scale a [] f = sym (mul-zero K a)
-  sum-scale a (k ∷ ks) f = ap (λ s. a ⊗ f k ⊕ s) (sum-scale a ks f) ∙ sym (mul-add K a _ _)
+  sum-scale a (k ∷ ks) f = ap (λ s. a ⊗ f k ⊕ s) (sum-scale a ks f) ∙ sym (K .mul-add a _ _)
 
   pub sum-append : (ks ls : List ℕ) (f : ℕ → F) → sum K (ks ++ ls) f ≡ sum K ks f ⊕ sum K ls f
   sum-append [] ls f = sym (zero-add K _)
-  sum-append (k ∷ ks) ls f = ap (λ s. f k ⊕ s) (sum-append ks ls f) ∙ sym (add-assoc K _ _ _)
+  sum-append (k ∷ ks) ls f = ap (λ s. f k ⊕ s) (sum-append ks ls f) ∙ sym (K .add-assoc _ _ _)
 
   pub sum-swap : (is ks : List ℕ) (g : ℕ → ℕ → F) → sum K is (λ i. sum K ks (g i)) ≡ sum K ks (λ k. sum K is (λ i. g i k))
   sum-swap [] ks g = sym (sum-zero ks _ (λ k m. refl))
@@ -55,12 +54,12 @@ module _ (K : Field) where
       ∙ sum-swap is ks _ ∙ sum-same ks _ _ (λ k m. sum-scale (u k) is (λ i. a i k ⊗ w i))
     where
       turn : (x y z : F) → x ⊗ (y ⊗ z) ≡ z ⊗ (y ⊗ x)
-      turn x y z = mul-comm K x (y ⊗ z) ∙ ap (λ t. t ⊗ x) (mul-comm K y z) ∙ mul-assoc K z y x
+      turn x y z = simp expand
 
   pub sum-pick : (ks : List ℕ) (f : ℕ → F) (i : ℕ) → Distinct ks → In i ks → ((k : ℕ) → In k ks → k ≢ i → f k ≡ 𝟘) → sum K ks f ≡ f i
   sum-pick [] f i once m h = absurd m
   sum-pick (k ∷ ks) f i once (inl e) h =
-      ap₂ _⊕_ (ap f (sym e)) (sum-zero ks f (λ l m. h l (inr m) (λ d. once .0 (subst (λ n. In n ks) (d ∙ e) m)))) ∙ add-zero K (f i)
+      ap₂ _⊕_ (ap f (sym e)) (sum-zero ks f (λ l m. h l (inr m) (λ d. once .0 (subst (λ n. In n ks) (d ∙ e) m)))) ∙ K .add-zero (f i)
   sum-pick (k ∷ ks) f i once (inr m) h =
       ap₂ _⊕_ (h k (inl refl) (λ d. once .0 (subst (λ n. In n ks) (sym d) m))) (sum-pick ks f i (once .1) m (λ l n. h l (inr n)))
       ∙ zero-add K (f i)

@@ -12,7 +12,7 @@ use lib.ListN.{length}
 use Rattle.algebra.specs.Field.{Field, sub}
 use Rattle.algebra.specs.Sums.{In, Distinct, sum, product}
 use Rattle.algebra.specs.Cauchy.{System, value, gap, weight}
-use Rattle.algebra.proofs.Field.{add-comm, add-assoc, add-right-comm, add-zero, zero-add, neg-add, mul-comm, mul-assoc, mul-one, one-mul, mul-zero, zero-mul, mul-inv, add-cancel, inv-mul, add-sub, sub-self, sub-neg, sub-ne, expand}
+use Rattle.algebra.proofs.Field.{add-swap, add-last, expand, zero-add, one-mul, mul-zero, zero-mul, neg-add, add-sub, sub-is, sub-ne}
 use Rattle.algebra.proofs.Sums.{sum-same, sum-add, sum-scale, product-same, product-zero}
 
 module _ (K : Field) where
@@ -25,16 +25,14 @@ module _ (K : Field) where
   a ⊝ b = sub K a b
 
   unit : {a b : F} → a ≢ b → (a ⊝ b) ⊗ inv (a ⊝ b) ≡ 𝟙
-  unit h = mul-inv K _ (sub-ne K h)
+  unit h = K .mul-inv _ (sub-ne K h)
 
   sub-chain : (a b c : F) → (a ⊝ b) ⊕ (b ⊝ c) ≡ a ⊝ c
-  sub-chain a b c =
-      add-comm K (a ⊝ b) (b ⊝ c)
-      ∙ add-cancel K c (sym (add-assoc K c _ _) ∙ ap (λ u. u ⊕ (a ⊝ b)) (add-sub K b c) ∙ add-sub K a b ∙ sym (add-sub K a c))
+  sub-chain a b c = sym (sub-is K (cc (add-swap K c (a ⊝ b) (b ⊝ c), add-sub K b c, K .add-comm (a ⊝ b) b, add-sub K a b)))
 
   opposite : (d e x y : F) → d ⊗ x ≡ 𝟙 → e ⊗ y ≡ 𝟙 → d ⊕ e ≡ 𝟘 → x ⊕ y ≡ 𝟘
   opposite d e x y dx ey de =
-      x ⊕ y ≡⟨ ap₂ _⊕_ (sym (mul-one K x) ∙ ap (λ u. x ⊗ u) (sym ey)) (sym (mul-one K y) ∙ ap (λ u. y ⊗ u) (sym dx)) ⟩
+      x ⊕ y ≡⟨ ap₂ _⊕_ (sym (K .mul-one x) ∙ ap (λ u. x ⊗ u) (sym ey)) (sym (K .mul-one y) ∙ ap (λ u. y ⊗ u) (sym dx)) ⟩
       x ⊗ (e ⊗ y) ⊕ y ⊗ (d ⊗ x) ≡⟨ (simp expand) ⟩
       (d ⊕ e) ⊗ (x ⊗ y) ≡⟨ (rw (de, zero-mul)) ⟩
       𝟘 ∎
@@ -43,7 +41,7 @@ module _ (K : Field) where
   two-points : (r z c : F) → z ≢ r → (z ⊕ c) ⊗ inv (z ⊝ r) ⊕ (r ⊕ c) ⊗ inv (r ⊝ z) ≡ 𝟙
   two-points r z c h =
       ap (λ u. (u ⊕ c) ⊗ x ⊕ (r ⊕ c) ⊗ y) (sym (add-sub K z r))
-      ∙ split (z ⊝ r) x y (unit h) (opposite (z ⊝ r) (r ⊝ z) x y (unit h) (unit (Ne·symm h)) (sub-chain z r z ∙ sub-self K z))
+      ∙ split (z ⊝ r) x y (unit h) (opposite (z ⊝ r) (r ⊝ z) x y (unit h) (unit (Ne·symm h)) (sub-chain z r z ∙ sub-is K (K .add-zero z)))
     where
       x : F
       x = inv (z ⊝ r)
@@ -54,22 +52,22 @@ module _ (K : Field) where
       split : (d x y : F) → d ⊗ x ≡ 𝟙 → x ⊕ y ≡ 𝟘 → (r ⊕ d ⊕ c) ⊗ x ⊕ (r ⊕ c) ⊗ y ≡ 𝟙
       split d x y dx xy =
           (r ⊕ d ⊕ c) ⊗ x ⊕ (r ⊕ c) ⊗ y ≡⟨ (simp expand) ⟩
-          d ⊗ x ⊕ (r ⊕ c) ⊗ (x ⊕ y) ≡⟨ (rw (dx, xy, mul-zero, add-zero)) ⟩
+          d ⊗ x ⊕ (r ⊕ c) ⊗ (x ⊕ y) ≡⟨ (rw (dx, xy, mul-zero, K .add-zero)) ⟩
           𝟙 ∎
 
   -- (k + c) / (k - r) / (k - z) = (z + c) / (z - r) / (k - z) + (r + c) / (r - z) / (k - r)
   three-points : (r z k c : F) → z ≢ r → k ≢ r → k ≢ z
       → (k ⊕ c) ⊗ inv (k ⊝ r) ⊗ inv (k ⊝ z) ≡ (z ⊕ c) ⊗ inv (z ⊝ r) ⊗ inv (k ⊝ z) ⊕ (r ⊕ c) ⊗ inv (r ⊝ z) ⊗ inv (k ⊝ r)
   three-points r z k c zr kr kz =
-      ap (λ u. u ⊗ inv (k ⊝ r) ⊗ inv (k ⊝ z)) (ap (λ u. u ⊕ c) (sym (add-sub K k z)) ∙ add-right-comm K z (k ⊝ z) c)
-      ∙ split (z ⊕ c) (z ⊝ r) (k ⊝ z) _ _ _ _ (mul-assoc K _ _ _ ∙ ap (λ u. (z ⊕ c) ⊗ u) (inv-mul K _ (sub-ne K zr)) ∙ mul-one K (z ⊕ c))
+      ap (λ u. u ⊗ inv (k ⊝ r) ⊗ inv (k ⊝ z)) (ap (λ u. u ⊕ c) (sym (add-sub K k z)) ∙ add-last K z (k ⊝ z) c)
+      ∙ split (z ⊕ c) (z ⊝ r) (k ⊝ z) _ _ _ _ (K .mul-assoc _ _ _ ∙ ap (λ u. (z ⊕ c) ⊗ u) (K .mul-comm _ _ ∙ unit zr) ∙ K .mul-one (z ⊕ c))
       (two-points r z c zr) (ap (λ u. u ⊗ inv (k ⊝ r)) (sub-chain k z r) ∙ unit kr) (unit kz)
     where
       split : (a d v p q x y : F) → p ⊗ d ≡ a → p ⊕ q ≡ 𝟙 → (v ⊕ d) ⊗ x ≡ 𝟙 → v ⊗ y ≡ 𝟙 → (a ⊕ v) ⊗ x ⊗ y ≡ p ⊗ y ⊕ q ⊗ x
       split a d v p q x y pd one wx vy =
           (a ⊕ v) ⊗ x ⊗ y ≡⟨ ap₂ (λ u w. (u ⊕ w) ⊗ x ⊗ y) (sym pd) (sym (one-mul K v) ∙ ap (λ u. u ⊗ v) (sym one)) ⟩
           (p ⊗ d ⊕ (p ⊕ q) ⊗ v) ⊗ x ⊗ y ≡⟨ (simp expand) ⟩
-          p ⊗ y ⊗ ((v ⊕ d) ⊗ x) ⊕ q ⊗ x ⊗ (v ⊗ y) ≡⟨ (simp (wx, vy, mul-one)) ⟩
+          p ⊗ y ⊗ ((v ⊕ d) ⊗ x) ⊕ q ⊗ x ⊗ (v ⊗ y) ≡⟨ (simp (wx, vy, K .mul-one)) ⟩
           p ⊗ y ⊕ q ⊗ x ∎
 
   module _ (row col : ℕ → F) where
@@ -134,13 +132,13 @@ module _ (K : Field) where
           gather : (p q a b s t : F) → a ⊕ s ≡ 𝟙 → b ⊕ t ≡ 𝟙 → p ⊗ a ⊕ (q ⊗ b ⊕ (p ⊗ s ⊕ q ⊗ t)) ≡ p ⊕ q
           gather p q a b s t e f =
               p ⊗ a ⊕ (q ⊗ b ⊕ (p ⊗ s ⊕ q ⊗ t)) ≡⟨ (simp expand) ⟩
-              p ⊗ (a ⊕ s) ⊕ q ⊗ (b ⊕ t) ≡⟨ (simp (e, f, mul-one)) ⟩
+              p ⊗ (a ⊕ s) ⊕ q ⊗ (b ⊕ t) ≡⟨ (simp (e, f, K .mul-one)) ⟩
               p ⊕ q ∎
 
     partial : (rows columns : List ℕ) → length rows ≡ length columns → Distinct rows
         → ((i k : ℕ) → In i rows → In k rows → i ≢ k → row i ≢ row k) → (z : F) → Away z rows → whole rows columns z ≡ 𝟙
     unfolding top whole
-    partial [] [] e once apart z away = add-zero K _ ∙ mul-one K 𝟙
+    partial [] [] e once apart z away = K .add-zero _ ∙ K .mul-one 𝟙
     partial [] (c ∷ cs) e once apart z away = absurd (omega arith)
     partial (r ∷ rs) [] e once apart z away = absurd (omega arith)
     partial (r ∷ rs) (c ∷ cs) e once apart z away =
@@ -157,7 +155,7 @@ module _ (K : Field) where
     pub weights-one : {rs cs : List ℕ} → System K row col rs cs → (i : ℕ) → In i cs → value K col row rs i (weight K row col rs cs) ≡ 𝟙
     unfolding top whole
     weights-one {rs} {cs} system i m =
-        sum-same K rs _ _ (λ k n. mul-comm K _ _ ∙ ap (λ u. weight K row col rs cs k ⊗ inv u) (minus k))
+        sum-same K rs _ _ (λ k n. K .mul-comm _ _ ∙ ap (λ u. weight K row col rs cs k ⊗ inv u) (minus k))
         ∙ sym (zero-add K _) ∙ ap (λ u. u ⊕ sum K rs (λ k. weight K row col rs cs k ⊗ inv (row k ⊝ z))) (sym none)
         ∙ partial rs cs (system .square) (system .rows-once) (system .rows-apart) z away
       where
@@ -165,10 +163,13 @@ module _ (K : Field) where
         z = neg (col i)
 
         minus : (k : ℕ) → col i ⊕ row k ≡ row k ⊝ z
-        minus k = add-comm K (col i) (row k) ∙ sym (sub-neg K (row k) (col i))
+        minus k = sym (sub-is K (neg-add K (col i) (row k)))
+
+        opposite-col : z ⊕ col i ≡ 𝟘
+        opposite-col = K .add-comm z (col i) ∙ K .add-neg (col i)
 
         away : Away z rs
-        away k n e = system .meet k i n m (ap (λ u. u ⊕ col i) (sym e) ∙ neg-add K (col i))
+        away k n e = system .meet k i n m (ap (λ u. u ⊕ col i) (sym e) ∙ opposite-col)
 
         none : top rs cs z ≡ 𝟘
-        none = ap (λ u. u ⊗ product K rs (λ l. inv (z ⊝ row l))) (product-zero K cs _ i m (neg-add K (col i))) ∙ zero-mul K _
+        none = ap (λ u. u ⊗ product K rs (λ l. inv (z ⊝ row l))) (product-zero K cs _ i m opposite-col) ∙ zero-mul K _

@@ -1,9 +1,8 @@
 -- The table of examples holds: every row by computation, but for the rounds that come after the last number.
 --   cases   THE TABLE
 -- Assumes nothing.
-use mathlib.Core.Path.{_≡_, refl, ap}
+use mathlib.Core.Path.{refl, ap}
 use mathlib.Core.Bool.{Bool}
-use Prim.Native.Nat.{ℕ}
 use borrow.Author.Tests.{le-ltb}
 use Rattle.algebra.specs.Field.{sub}
 use Rattle.algebra.specs.Residue.{inverse, inverse-from}
@@ -13,8 +12,8 @@ use Rattle.scheme.specs.Promise.{shown}
 use Rattle.scheme.specs.Totals as Totals
 use Rattle.scheme.specs.Delta as Delta
 use Rattle.scheme.specs.Service as Service
-use Rattle.scheme.proofs.Modular.{modular-laws, sixteen-laws}
-use Rattle.solve.specs.Solve.{laws16, point, unknown-at}
+use Rattle.scheme.specs.Modular.{modular-laws}
+use Rattle.solve.specs.Solve.{laws16, point, padded, unknown-at}
 use Rattle.client.specs.Client as Client
 use Rattle.service.specs.View as View
 use Rattle.service.specs.Calls as Calls
@@ -23,7 +22,7 @@ use Rattle.cases.specs.Cases.{key-from, key-of, message, part, tried, pl
 
 pub cases : Cases
 unfolding key-from key-of message part tried planned opened firsts replies pooled told told-5 told-7
-    sub inverse inverse-from modular-laws sixteen-laws laws16 point unknown-at shown
+    sub inverse inverse-from modular-laws laws16 point padded unknown-at shown
     Scheme.rank Scheme.elements Scheme.sum Scheme.plan-good Scheme.items Scheme.places Scheme.is-user Scheme.in-set Scheme.ones Scheme.usable Scheme.usable-with
     Scheme.users-in Scheme.usable-sets Scheme.sets-with Scheme.list-length Scheme.mask Scheme.noise-start Scheme.noise Scheme.column Scheme.row-value
     Scheme.share Scheme.shares Scheme.key Scheme.key-length Scheme.first-message Scheme.reply-start Scheme.reply Scheme._then_ unless
@@ -37,7 +36,7 @@ unfolding key-from key-of message part tried planned opened firsts replies poole
     Calls.after Calls.nothing-first Calls.nothing-reply Calls.new-service Calls.plan-refusal Calls.planned Calls.plan-step Calls.open-refusal Calls.opened
     Calls.open-step Calls.first-refusal Calls.first-left Calls.first-step Calls.reply-refusal Calls.reply-left Calls.reply-step Calls.close-refusal
     Calls.closed Calls.close-answer Calls.close-step
-    Finish.padded Finish.rows-of Finish.values-of Finish.choice-of Finish.choice Finish.finish-refusal Finish.finish-answer Finish.finish-step
+    Finish.rows-of Finish.values-of Finish.choice-of Finish.choice Finish.finish-refusal Finish.finish-answer Finish.finish-step
 cases = record {
   inverses = refl;
   key-1 = refl;

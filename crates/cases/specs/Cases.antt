@@ -9,12 +9,13 @@ use mathlib.Core.Path.{_≡_}
 use mathlib.Core.Bool.{true}
 use mathlib.Core.List.{List, [], _∷_, map}
 use Prim.Native.Nat.{ℕ, _≤_}
+use lib.Dec.{lit<}
 use lib.ListN.{getD, take, replicate}
 use Rattle.algebra.specs.Residue.{inverse}
 use Rattle.scheme.specs.Scheme.{span, q, sixteen, plan-good, list-length, key, key-length, start-refusal, key-refusal, written}
 use Rattle.scheme.specs.Promise.{Table, shown}
 use Rattle.scheme.specs.Delta as Delta
-use Rattle.scheme.proofs.Modular.{sixteen-laws}
+use Rattle.scheme.specs.Modular.{sixteen-field}
 use Rattle.plan.specs.declared.Plan.{Plan}
 use Rattle.plan.specs.Plan.{plan-of}
 use Rattle.client.specs.declared.Stage.{Stage}
@@ -124,7 +125,7 @@ pub record Cases : Type 0 where
   pub wrong-5 : told-5 221 113 ≡ 0 ∷ 48 ∷ []
   -- set 5, colluder 1, and the table 10, 25, 30
   pub good : plan-good (plan-of plan) ≡ true
-  pub partner : Delta.partner sixteen (plan-of plan) (sixteen-laws (plan-of plan) good) 1 (figures 10 20 30) (figures 10 25 30) random ≡ partner-list
+  pub partner : Delta.partner sixteen (plan-of plan) (sixteen-field 3 2 (lit< tt)) 1 (figures 10 20 30) (figures 10 25 30) random ≡ partner-list
   pub same-shown : shown sixteen (plan-of plan) 5 1 random (figures 10 20 30) ≡ shown sixteen (plan-of plan) 5 1 partner-list (figures 10 25 30)
   -- elements: 65520 and 1 give 0; 65521 is none, for the key maker, an end and the service
   pub sum-wraps : message 1 (1 ∷ 154 ∷ 220 ∷ 340 ∷ []) (65520 ∷ []) ≡ 0 ∷ []

@@ -1,23 +1,18 @@
 -- What several proofs share.
 --   message-fits, message-written        where a first message is taken: the buffer is no longer than figures and key, and the message fills it
 --   Answers, reply-answers, reply-taken, answers-held    what holds where a reply is taken, and that it is taken
---   each-next, each-end                  a row written place by place: one place more, and all places
 --   start-refused, moved-number, moved-taken, moved-refused, part-given    what start, first message, reply and part hand back
 -- Assumes nothing.
-use mathlib.Core.Path.{_≡_, refl, sym, ap, _∙_}
+use mathlib.Core.Path.{_≡_, refl, ap}
 use mathlib.Core.Bool.{true, false}
-use mathlib.Core.List.{List, [], _∷_, _++_, map, map-append}
-use Prim.Native.Nat.{ℕ, zero, suc, _+_, _≤_, _<_}
-use native.Mathlib.Nat.{zero-add}
-use native.Mathlib.Numerals.{add-one}
+use mathlib.Core.List.{List}
+use Prim.Native.Nat.{ℕ, zero, suc, _≤_}
 use native.Mathlib.Omega.{arith}
-use lib.ListN.{length, getD, take, set}
-use lib.Seq.{take-suc-set, take-all}
+use lib.ListN.{length}
 use borrow.Author.Tests.{eqb-true, eq-eqb}
 use Rattle.scheme.specs.Scheme as scheme
-use Rattle.scheme.specs.Scheme.{span, each, Arithmetic, elements, places, in-set, usable, usable-with, key-length, first-message, reply, is-fresh, open-to, start-refusal, message-refusal, reply-refusal, unless, _then_}
+use Rattle.scheme.specs.Scheme.{each, Arithmetic, elements, places, in-set, usable, usable-with, key-length, first-message, reply, is-fresh, open-to, start-refusal, message-refusal, reply-refusal, unless, _then_}
 use Rattle.scheme.proofs.Tests.{both, joined}
-use Rattle.scheme.proofs.Lists.{span-append}
 use Rattle.scheme.proofs.Refusals.{then-zero, unless-zero}
 use Rattle.plan.specs.declared.Plan.{Plan}
 use Rattle.plan.specs.Plan.{plan-of}
@@ -75,23 +70,6 @@ module _ {A : Arithmetic} {p : scheme.Plan} {k : ℕ} {ks : List ℕ} {v : ℕ} 
   answers-held a = joined (a .whole) (a .member)
 
 -- ---- a row written place by place
-module _ (f : ℕ → ℕ → ℕ) (xs ys : List ℕ) where
-  each-more : (i : ℕ) → each f (i + 1) xs ys ≡ each f i xs ys ++ (f (getD xs i 0) (getD ys i 0) ∷ [])
-  each-more i =
-      let g : ℕ → ℕ = λ i. f (getD xs i 0) (getD ys i 0) in
-      ap (map g) (span-append i 1 0) ∙ map-append g (span i 0) (span 1 (0 + i)) ∙ ap (λ (n : ℕ). map g (span i 0) ++ (g n ∷ [])) (zero-add i)
-
-  pub each-next : (out : List ℕ) (i : ℕ) → i < length out → take i out ≡ each f i xs ys
-      → take (i + 1) (set out i (f (getD xs i 0) (getD ys i 0))) ≡ each f (i + 1) xs ys
-  each-next out i h e =
-      let x = f (getD xs i 0) (getD ys i 0) in
-      ap (λ (n : ℕ). take n (set out i x)) (add-one i) ∙ take-suc-set out i x h ∙ ap (λ (l : List ℕ). l ++ (x ∷ [])) e ∙ sym (each-more i)
-
-  pub each-end : (out : List ℕ) (n i : ℕ) → length out ≡ n → n ≤ i → i ≤ n → take i out ≡ each f i xs ys → out ≡ each f n xs ys
-  each-end out n i l a b h =
-      let e : i ≡ n = omega arith in
-      sym (take-all n out (omega arith)) ∙ rw e at h
-
 -- ---- what is handed back
 pub start-refused : {n : ℕ} → (n ≡ 0 → ⊥) → (p : Plan) (k : ℕ) → start-answer n p k ≡ Refused n
 unfolding start-answer

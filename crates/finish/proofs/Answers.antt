@@ -9,12 +9,13 @@ use Rattle.scheme.specs.Scheme.{sixteen, plan-good, ones, unless, _then_}
 use Rattle.scheme.specs.Service.{has-plan, is-replying, replied, explained-by, totals-by}
 use Rattle.plan.specs.declared.Plan.{Plan}
 use Rattle.plan.specs.Plan.{plan-of}
+use Rattle.solve.specs.Solve.{padded}
 use Rattle.service.specs.declared.Service.{Service}
 use Rattle.service.specs.View.{phase-of, view}
 use Rattle.finish.specs.declared.Users.{Users}
 use Rattle.finish.specs.declared.System.{System}
 use Rattle.finish.specs.declared.Summed.{Summed}
-use Rattle.finish.specs.Finish.{padded, choice, finish-refusal, finished, finish-refused, finish-answer, finish-step}
+use Rattle.finish.specs.Finish.{choice, finish-refusal, finished, finish-refused, finish-answer, finish-step}
 use Rattle.finish.specs.Parts.{Listed, Prepared, Totalled}
 
 -- ---- the users, the system and the totals by the plan and the sets that they hold

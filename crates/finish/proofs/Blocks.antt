@@ -8,7 +8,7 @@
 -- Assumes nothing.
 use mathlib.Core.Path.{_≡_, refl, sym, ap, ap₂, _∙_, subst}
 use mathlib.Core.Bool.{Bool, true, false, _&&_}
-use mathlib.Core.List.{List, _++_, map}
+use mathlib.Core.List.{List, map}
 use Prim.Native.Nat.{ℕ, zero, suc, _+_, _-_, _≤_, _<_}
 use native.Mathlib.Omega.{arith}
 use lib.Dec.{eqb, lit<}
@@ -26,14 +26,15 @@ use Rattle.scheme.proofs.Tests.{both, joined, is-false, holds}
 use Rattle.scheme.proofs.Sets.{users-in-in, users-in-size}
 use Rattle.scheme.proofs.Totals.{all-of-in, at-all-of, in-at, at-apart, Explained}
 use Rattle.plan.specs.Plan.{plan-of}
-use Rattle.solve.specs.Solve.{laws16, Points, Square, Ready, filled, unknown-at, solution-of, fits-of}
+use Rattle.solve.specs.Solve.{laws16, Points, Square, Ready, padded, filled, solution-of, fits-of}
 use Rattle.solve.specs.Solve as solved
 use Rattle.solve.specs.declared.Explained as code
 use Rattle.solve.proofs.Explains.{points-some, Block, explains-first, fits-explains, explains-fits}
-use Rattle.finish.specs.Finish.{padded, rows-of, values-of, columns, choice-of}
+use Rattle.solve.proofs.Filled.{padded-at}
+use Rattle.finish.specs.Finish.{rows-of, values-of, columns, choice-of}
 use Rattle.finish.specs.Parts.{held-in, Prepared, Block-solved}
 use Rattle.finish.specs.declared.System.{System}
-use Rattle.finish.proofs.Padded.{padded-at, map-at, map-by-place}
+use Rattle.finish.proofs.Padded.{map-at, map-by-place}
 
 -- ---- the points
 column-at : (i : ℕ) → i < 7 → getD columns i 0 ≡ i + 1
@@ -128,14 +129,12 @@ module _ (p : Plan) (r : ℕ) (good : Good p) (many : p .threshold ≤ ones (p .
     values-small h a l = rw (value-at a l) (h (getD (users-in p r) a 0))
 
     choice-take : take (p .threshold) (solution-of (rows-of p r) columns (values-of p r y b) (p .threshold)) ≡ choice-of p r y b
-    unfolding solution-of filled choice-of
+    unfolding solution-of filled choice-of padded
     choice-take = take-at _ _ (p .threshold) (map-span-length _ (p .threshold) 0)
 
     choice-unknowns : solution-of (rows-of p r) columns (values-of p r y b) (p .threshold) ≡ padded 8 (choice-of p r y b)
-    unfolding solution-of filled choice-of padded
-    choice-unknowns =
-        ap (λ (n : ℕ). map (unknown-at (rows-of p r) columns (values-of p r y b) (p .threshold)) (span (p .threshold) 0) ++ replicate (8 - n) 0)
-        (sym (map-span-length _ (p .threshold) 0))
+    unfolding solution-of filled choice-of
+    choice-unknowns = refl
 
     module _ (small : (a : ℕ) → a < length (users-in p r) → getD (values-of p r y b) a 0 < q) where
       abbrev users : List ℕ
@@ -169,9 +168,8 @@ module _ (p : Plan) (r : ℕ) (good : Good p) (many : p .threshold ≤ ones (p .
 
 -- the replies of a block by the places of their users
 filled-values : (p : Plan) (r : ℕ) (y : (k block : ℕ) → ℕ) (b : ℕ) → filled (length (users-in p r)) (λ a. y (getD (rows-of p r) a 0) b) ≡ values-of p r y b
-unfolding filled values-of rows-of padded
-filled-values p r y b =
-    sym (ap₂ (λ (l : List ℕ) (n : ℕ). l ++ replicate (8 - n) 0) (map-by-place (λ k. y k b) 8 (users-in p r)) (length-map (users-in p r) (λ k. y k b)))
+unfolding filled values-of rows-of
+filled-values p r y b = ap (padded 8) (sym (map-by-place (λ k. y k b) 8 (users-in p r)))
 
 -- ---- the system of the complete replies, and one block as the code solves it
 module _ (s : System) (h : Prepared (s .plan) (s .users .set) s) where

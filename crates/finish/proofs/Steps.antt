@@ -12,6 +12,7 @@ use lib.ListN.{length, take, length-replicate}
 use Rattle.scheme.specs.Scheme.{sixteen, Plan, places, users-in, _then_, unless}
 use Rattle.scheme.specs.Totals.{totals}
 use Rattle.scheme.specs.Service as scheme
+use Rattle.scheme.specs.ServicePromise as promise
 use Rattle.scheme.specs.Service.{has-plan, replied, values, explained-by, totals-by, finish-record, totalled, refusal, idle-state, Steps, refuses, totals-up, disagrees}
 use Rattle.scheme.proofs.Tests.{holds}
 use Rattle.scheme.proofs.Lists.{map-span-length}
@@ -21,14 +22,15 @@ use Rattle.scheme.proofs.Totals.{Explained, explained, explained-back, settled}
 use Rattle.scheme.proofs.Well.{finishing, steps-well}
 use Rattle.scheme.proofs.Service.{demand-2}
 use Rattle.plan.specs.Plan.{plan-of}
+use Rattle.solve.specs.Solve.{padded}
+use Rattle.solve.proofs.Filled.{padded-take}
 use Rattle.service.specs.declared.Service.{Service}
 use Rattle.service.specs.View.{phase-of, view, Formed}
 use Rattle.service.specs.Calls.{nothing-first, nothing-reply}
 use Rattle.service.specs.Promise.{told, Is-step}
 use Rattle.service.proofs.View.{look-nothing}
-use Rattle.finish.specs.Finish.{padded, choice, finish-refusal, finished, finish-answer, finish-step}
+use Rattle.finish.specs.Finish.{choice, finish-refusal, finished, finish-answer, finish-step}
 use Rattle.finish.specs.Promise.{Finish-steps, Finish-right}
-use Rattle.finish.proofs.Padded.{padded-take}
 use Rattle.finish.proofs.Blocks.{values-small, choice-first}
 use Rattle.finish.proofs.Answers.{Ripe}
 
@@ -127,7 +129,7 @@ told-totalled zero r l m e = (refl, cc)
 told-totalled (suc n) r l m e = let z : _≡_ {A = ℕ} 0 1 = cc in absurd (omega arith)
 
 pub finish-right : Finish-right
-unfolding Finish-right Finish-steps finish-step scheme.Finish-right view
+unfolding Finish-right Finish-steps finish-step promise.Finish-right view
 finish-right s xs x w e ok ax rules =
     let h = finish-steps s w in
     let t = told-totalled _ _ _ _ (demand-2 .finish-right (view s) _ _ xs x (w .well) e ok ax rules (h .step)) in

@@ -17,10 +17,12 @@ use Rattle.scheme.specs.Good.{Good}
 use Rattle.scheme.specs.Totals.{all-of, explains, explains-all, total-of, totals}
 use Rattle.scheme.proofs.Lists.{map-same, high, low}
 use Rattle.plan.proofs.Laws.{places-le}
+use Rattle.solve.specs.Solve.{padded}
 use Rattle.solve.proofs.Turns.{span-start, fits-next, fits-stop, fits-end}
-use Rattle.finish.specs.Finish.{padded, rows-of, choice-of}
+use Rattle.solve.proofs.Filled.{padded-at}
+use Rattle.finish.specs.Finish.{rows-of, choice-of}
 use Rattle.finish.specs.Parts.{held-in, first-of, total-from}
-use Rattle.finish.proofs.Padded.{padded-at, padded-sets, sum-by-place}
+use Rattle.finish.proofs.Padded.{padded-sets, sum-by-place}
 use Rattle.finish.proofs.Blocks.{choice-long}
 
 module _ (p : Plan) (r : ℕ) (xs ys rs : List ℕ) (m : ℕ) where

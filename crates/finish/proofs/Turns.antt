@@ -14,12 +14,12 @@ use lib.Seq.{sets}
 use Rattle.scheme.specs.Scheme.{span, keep, members}
 use Rattle.scheme.specs.Service.{element-of}
 use Rattle.scheme.proofs.Lists.{members-append}
+use Rattle.solve.specs.Solve.{padded}
 use Rattle.solve.proofs.Turns.{span-start, span-next, span-end}
+use Rattle.solve.proofs.Filled.{padded-next}
 use Rattle.service.specs.View.{stored, slot}
 use Rattle.service.proofs.View.{look-at}
-use Rattle.finish.specs.Finish.{padded}
 use Rattle.finish.specs.Parts.{held-in}
-use Rattle.finish.proofs.Padded.{padded-next}
 
 pub held-at : (w : ℕ) (xs : List ℕ) (k i : ℕ) → 1 ≤ k → k ≤ 8 → i < w → held-in w xs k i ≡ getD xs (slot w k i) 0 - 1
 unfolding element-of stored

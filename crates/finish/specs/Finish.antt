@@ -1,28 +1,24 @@
 -- What the finish call answers and leaves, for every state value.
---   padded                        a list in the first places of n
 --   rows-of, values-of, columns   the users of a set, and their replies of a block, in eight places; the columns' points
 --   choice-of, choice             the sums and noise of each block: the closed solution of the first U complete replies
 --   finish-refusal                11, 12, 15, 16; on a well-formed state the plan's test never acts
 --   finished, finish-refused      the state after a finish; what a refused one hands back
 --   finish-step                   the whole answer
 -- Assumes nothing: these are definitions.
-use mathlib.Core.List.{List, [], _∷_, _++_, map}
+use mathlib.Core.List.{List, [], _∷_, map}
 use Prim.Native.Nat.{ℕ, zero, suc, _-_}
 use lib.Dec.{leb}
-use lib.ListN.{length, replicate}
+use lib.ListN.{replicate}
 use Rattle.scheme.specs.Scheme.{span, sixteen, Plan, plan-good, ones, users-in, _then_, unless}
 use Rattle.scheme.specs.Service.{has-plan, is-replying, replied, values, explained-by, totals-by}
 use Rattle.plan.specs.Plan.{plan-of}
-use Rattle.solve.specs.Solve.{unknown-at}
+use Rattle.solve.specs.Solve.{padded, unknown-at}
 use Rattle.service.specs.declared.Phase.the-variants.{Idle}
 use Rattle.service.specs.declared.Head.{Head}
 use Rattle.service.specs.declared.Service.{Service}
 use Rattle.service.specs.View.{phase-of, view}
 use Rattle.service.specs.Calls.{nothing-first, nothing-reply}
 use Rattle.finish.specs.declared.Finished.{Finished}
-
-unfoldable pub padded : (n : ℕ) → List ℕ → List ℕ
-padded n l = l ++ replicate (n - length l) 0
 
 unfoldable pub rows-of : Plan → (set : ℕ) → List ℕ
 rows-of p r = padded 8 (users-in p r)

@@ -17,12 +17,12 @@ use Rattle.scheme.specs.Service.{values}
 use Rattle.plan.specs.declared.Plan as code
 use Rattle.plan.specs.Plan.{plan-of}
 use Rattle.solve.specs.declared.Explained.{Explained}
-use Rattle.solve.specs.Solve.{weights-of}
+use Rattle.solve.specs.Solve.{padded, weights-of}
 use Rattle.service.specs.View.{look}
 use Rattle.finish.specs.declared.Users.{Users}
 use Rattle.finish.specs.declared.System.{System}
 use Rattle.finish.specs.declared.Summed.{Summed}
-use Rattle.finish.specs.Finish.{padded, rows-of, columns, choice-of}
+use Rattle.finish.specs.Finish.{rows-of, columns, choice-of}
 
 abbrev pub held-in : (stride : ℕ) → List ℕ → (k at : ℕ) → ℕ
 held-in w xs = values (look w xs)

@@ -12,10 +12,11 @@ use Rattle.scheme.specs.Promise.{Table, admissible, list-good}
 use Rattle.scheme.specs.Totals.{Follows}
 use Rattle.scheme.specs.Service.{finish-record, totalled, refusal, replied, values}
 use Rattle.plan.specs.Plan.{plan-of}
+use Rattle.solve.specs.Solve.{padded}
 use Rattle.service.specs.declared.Service.{Service}
 use Rattle.service.specs.View.{view, Formed}
 use Rattle.service.specs.Promise.{told, Is-step}
-use Rattle.finish.specs.Finish.{padded, finish-step}
+use Rattle.finish.specs.Finish.{finish-step}
 
 unfoldable pub Finish-steps : Type 0
 Finish-steps =

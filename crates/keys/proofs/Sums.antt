@@ -11,7 +11,7 @@ use native.Mathlib.Nat.{add-comm, add-zero, zero-add, add-suc, add-assoc, mod-ad
 use native.Mathlib.Omega.{arith}
 use lib.Dec.{lit<}
 use Rattle.algebra.specs.Sums.{In}
-use Rattle.algebra.proofs.Residue.{mul-mod-mod}
+use Rattle.algebra.proofs.Residue.{mul-mod}
 use Rattle.scheme.specs.Scheme.{span, keep, members, q, sixteen, sum, row-value}
 use Rattle.scheme.proofs.Lists.{span-append, span-in, members-append}
 use Rattle.scheme.proofs.Sums.{sum-same}
@@ -88,7 +88,7 @@ dot-same k s n f g h =
 
     same : (i : ℕ) → In i (span n 0) → c i * f i % q ≡ c i * g i % q
     same i m =
-        sym (mul-mod-mod (c i) (f i) q) ∙ ap (λ (x : ℕ). c i * x % q) (h i (omega (arith, span-in n 0 i m .1))) ∙ mul-mod-mod (c i) (g i) q
+        sym (mul-mod (c i) (f i) q) ∙ ap (λ (x : ℕ). c i * x % q) (h i (omega (arith, span-in n 0 i m .1))) ∙ mul-mod (c i) (g i) q
 
 -- the first columns and the others
 pub dot-join : (k n m : ℕ) (f : ℕ → ℕ) → row-value sixteen (n + m) k f ≡ (dot k 1 n (λ i. f (1 + i)) + dot k (1 + n) m (λ i. f (1 + n + i))) % q

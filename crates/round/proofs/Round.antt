@@ -14,10 +14,10 @@ use Rattle.scheme.proofs.Lists.{map-span-length}
 use Rattle.scheme.proofs.Well.{Finishing, finishing, replied-survives}
 use Rattle.plan.specs.Plan.{plan-of}
 use Rattle.client.proofs.Shown.{Ready, message-is-sent, part-is-sent}
+use Rattle.solve.specs.Solve.{padded}
+use Rattle.solve.proofs.Filled.{padded-take}
 use Rattle.service.specs.View.{view}
-use Rattle.finish.specs.Finish.{padded}
 use Rattle.finish.specs.Promise.{Finish-right}
-use Rattle.finish.proofs.Padded.{padded-take}
 use Rattle.finish.proofs.Steps.{finish-right}
 use Rattle.round.specs.Round.{Round-right}
 

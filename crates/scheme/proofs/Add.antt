@@ -15,7 +15,7 @@ use borrow.Author.Tests.{le-leb, lt-leb}
 use Rattle.algebra.specs.Field.{Field}
 use Rattle.algebra.specs.Sums.{In}
 use Rattle.algebra.specs.Cauchy.{coefficient, value}
-use Rattle.algebra.proofs.Field.{mul-add, mul-zero}
+use Rattle.algebra.proofs.Field.{mul-zero}
 use Rattle.algebra.proofs.Sums.{sum-same, sum-add, sum-zero}
 use Rattle.scheme.specs.Scheme.{span, rows, each, Arithmetic, Plan, items, places, usable, usable-with, users-in, sets-with, list-length, mask, noise, noise-start, column, row-value, share, shares, key, key-length}
 use Rattle.scheme.specs.Laws.{Laws}
@@ -30,7 +30,7 @@ module _ (K : Field) (row col : ℕ → Field.F K) (cs : List ℕ) (k : ℕ) whe
 
   infixl 65 _⊕_
   pub value-add : (w v : ℕ → F) → value K row col cs k (λ i. w i ⊕ v i) ≡ value K row col cs k w ⊕ value K row col cs k v
-  value-add w v = sum-same K cs _ _ (λ i h. mul-add K _ (w i) (v i)) ∙ sum-add K cs _ _
+  value-add w v = sum-same K cs _ _ (λ i h. K .mul-add _ (w i) (v i)) ∙ sum-add K cs _ _
 
   pub value-zero : (w : ℕ → F) → ((i : ℕ) → In i cs → w i ≡ 𝟘) → value K row col cs k w ≡ 𝟘
   value-zero w h = sum-zero K cs _ (λ i m. ap (K .mul (coefficient K row col k i)) (h i m) ∙ mul-zero K _)

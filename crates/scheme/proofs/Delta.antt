@@ -16,7 +16,7 @@ use borrow.Author.Tests.{le-leb, lt-leb, lt-ltb, le-ltb}
 use Rattle.algebra.specs.Field.{Field}
 use Rattle.algebra.specs.Sums.{In, sum as field-sum}
 use Rattle.algebra.specs.Cauchy.{coefficient, value, System, weight, solution}
-use Rattle.algebra.proofs.Field.{add-neg, zero-add, mul-zero}
+use Rattle.algebra.proofs.Field.{zero-add, mul-zero}
 use Rattle.algebra.proofs.Sums.{sum-same, sum-append, sum-zero}
 use Rattle.algebra.proofs.Cauchy.{solves}
 use Rattle.scheme.specs.Scheme.{span, rank, Arithmetic, Plan, items, places, in-set, ones, usable, users-in, usable-sets, list-length, mask, noise, noise-start, column, share}
@@ -97,7 +97,7 @@ module _ (A : Arithmetic) (p : Plan) (L : Laws A (p .users) (p .threshold)) (c :
         (ap (λ (i : ℕ). value K row col (span (length cs) i) k (shift A p L c d e w b)) one
         ∙ sum-same K solved _ _ (λ j h. ap (K .mul (coefficient K row col k j)) (shift-solved j (omega (arith, span-in (length cs) (suc n) j h .0))))
         ∙ solves system rest k m)
-        ∙ add-neg K _
+        ∙ K .add-neg _
       where
         one : 1 + kept p c w ≡ suc (kept p c w)
         one = omega arith
@@ -111,7 +111,7 @@ module _ (A : Arithmetic) (p : Plan) (L : Laws A (p .users) (p .threshold)) (c :
         pick (yes h) = shift-given j h ∙ z j lo
         pick (no h) =
             shift-solved j (omega arith)
-            ∙ solution-zero K row col cs solved rest (λ k m. ap neg (value-zero K row col (span n 1) k (given A p L c d e w b) (λ i l. z i (span-in n 1 i l .0))) ∙ sym (zero-add K (neg 𝟘)) ∙ add-neg K 𝟘) j
+            ∙ solution-zero K row col cs solved rest (λ k m. ap neg (value-zero K row col (span n 1) k (given A p L c d e w b) (λ i l. z i (span-in n 1 i l .0))) ∙ sym (zero-add K (neg 𝟘)) ∙ K .add-neg 𝟘) j
 
   -- ---- the translation at a mask, at a noise element and in a column
   abbrev Δ : List ℕ

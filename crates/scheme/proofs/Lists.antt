@@ -4,19 +4,19 @@
 --   members-append, members-in, in-members, members-once, members-fewer, members-le     those that pass a test
 --   rank-zero, rank-step, rank-le, rank-at, rank-lt             how many below v pass
 --   rows-same, rows-append, rows-length, rows-at                        one list for each number
---   sets-append                                                 one list written behind another
+--   sets-append, sets-more, sets-whole                          lists written one behind the other; one word more of a map; all of a list
 --   high, low, digits-lt                                        a number of two digits
 -- Assumes nothing.
 use mathlib.Core.Path.{_≡_, refl, sym, ap, ap₂, _∙_}
 use mathlib.Core.Logic.{_⊎_, inl, inr, ⊎-elim}
 use mathlib.Core.Bool.{Bool, true, false, _&&_, cond}
-use mathlib.Core.List.{List, [], _∷_, _++_, map, append-assoc}
+use mathlib.Core.List.{List, [], _∷_, _++_, map, map-append, append-assoc, append-nil}
 use Prim.Native.Nat.{ℕ, zero, suc, _+_, _*_, _-_, _/_, _%_, _≤_, _<_}
 use native.Mathlib.Nat.{add-zero, zero-add, add-suc, suc-add, suc-mul, zero-mul, mul-le-mul-right, mul-add-div-right, mul-add-mod-self-right, mod-eq-of-lt, div-eq-of-lt}
 use native.Mathlib.Decide.{ℕ-discrete}
 use native.Mathlib.Omega.{arith}
-use lib.ListN.{length, getD, take, drop, set, length-append}
-use lib.Seq.{sets, take-at, drop-at, getD-at}
+use lib.ListN.{length, getD, take, drop, set, length-append, drop-of-length-le}
+use lib.Seq.{sets, sets-eq, take-at, drop-at, getD-at}
 use Rattle.algebra.specs.Sums.{In, Distinct}
 use Rattle.scheme.specs.Scheme.{span, keep, members, rank, rows}
 use Rattle.scheme.proofs.Tests.{holds}
@@ -195,6 +195,16 @@ sets-append o at [] ys = ap (λ (k : ℕ). sets o k ys) (add-zero at)
 sets-append o at (x ∷ xs) ys =
     let e : at + suc (length xs) ≡ suc at + length xs = omega arith in
     ap (λ (k : ℕ). sets (sets (set o at x) (suc at) xs) k ys) e ∙ sets-append (set o at x) (suc at) xs ys
+
+pub sets-more : (o : List ℕ) (at i : ℕ) (f : ℕ → ℕ) → set (sets o at (map f (span i 0))) (at + i) (f i) ≡ sets o at (map f (span (i + 1) 0))
+sets-more o at i f =
+    ap₂ (λ (n x : ℕ). set (sets o at (map f (span i 0))) (at + n) x) (sym (map-span-length f i 0)) (ap f (sym (zero-add i)))
+    ∙ sets-append o at (map f (span i 0)) (map f (span 1 (0 + i)))
+    ∙ ap (sets o at) (sym (ap (map f) (span-append i 1 0) ∙ map-append f (span i 0) (span 1 (0 + i))))
+
+pub sets-whole : (o ws : List ℕ) → length ws ≡ length o → sets o 0 ws ≡ ws
+sets-whole o ws e =
+    sets-eq ws o 0 (omega arith) ∙ ap (λ (l : List ℕ). ws ++ l) (drop-of-length-le o {i = 0 + length ws} (omega arith)) ∙ append-nil ws
 
 -- ---- a number a * n + b with b below n
 pub high : (a b n : ℕ) → b < n → (a * n + b) / n ≡ a

@@ -1,55 +1,26 @@
--- The integers modulo a prime as an arithmetic, and demand 3 there.
---   apart, modular-laws   the laws, for a prime above n + m
+-- Demand 3 modulo a prime.
 --   nothing-told-prime    demand 3 for every prime above K + U
 --   sixteen-laws          the laws modulo 65521, for a good plan
 --   demand-3              THE THIRD DEMAND
 -- Assumes nothing.
-use mathlib.Core.Path.{_≡_, refl, sym, _∙_}
-use mathlib.Core.Logic.{_≢_}
+use mathlib.Core.Path.{_≡_}
 use mathlib.Core.Bool.{true}
-use Prim.Native.Nat.{ℕ, _+_, _-_, _%_, _≤_, _<_}
-use native.Mathlib.Nat.{mod-lt, mod-eq-of-lt}
+use Prim.Native.Nat.{ℕ, _+_, _≤_, _<_}
 use native.Mathlib.Omega.{arith}
-use Rattle.algebra.specs.Residue.{el, Prime}
-use Rattle.algebra.proofs.Residue.{mods, el-path, prime-positive, residues, residue, inverse-right, el-add, el-mul, el-sub, el-mod, el-val, el-inj}
+use Rattle.algebra.specs.Residue.{Prime}
 use Rattle.algebra.proofs.Primes.{prime-65521}
-use Rattle.scheme.specs.Scheme.{modular, sixteen, q, Plan, plan-good}
+use Rattle.scheme.specs.Scheme.{modular, sixteen, Plan, plan-good}
 use Rattle.scheme.specs.Promise.{Nothing-told, Demand-3}
 use Rattle.scheme.specs.Laws.{Laws}
+use Rattle.scheme.specs.Modular.{modular-laws, sixteen-field}
 use Rattle.scheme.proofs.Good.{good}
 use Rattle.scheme.proofs.Told.{nothing-told}
 
-module _ {q : ℕ} (prime : Prime q) where
-  pub apart : {a b : ℕ} → a < q → b < q → a ≢ b → residue prime a ≢ residue prime b
-  apart h l ne e = ne (el-inj prime h l e)
-
-  unfoldable pub modular-laws : (n m : ℕ) → n + m < q → Laws (modular q) n m
-  modular-laws n m large = record {
-    K = residues q prime;
-    el = residue prime;
-    val = λ x. x .val;
-    val-small = λ x. x .small;
-    el-val = el-val prime;
-    val-el = λ a h. mod-eq-of-lt h;
-    add-small = λ a b. mod-lt _ (prime-positive prime);
-    subtract-small = λ a b. mod-lt _ (prime-positive prime);
-    el-zero = refl;
-    el-add = λ a b. el-mod prime (a + b) ∙ el-add prime a b;
-    el-subtract = λ a b. el-mod prime (a + (q - b % q)) ∙ el-sub prime a b;
-    el-multiply = el-mul prime;
-    row = residue prime;
-    col = residue prime;
-    coefficient-right = λ k j h l. el-path (simp mods (inverse-right prime (omega (arith, h .0)) (omega (arith, h .1, l .1)) ∙ sym (mod-eq-of-lt (prime .two))));
-    rows-apart = λ i k h l. apart (omega (arith, h .1)) (omega (arith, l .1));
-    columns-apart = λ i j h l. apart (omega (arith, h .1)) (omega (arith, l .1));
-    meet = λ k j h l e. apart (omega (arith, h .1, l .1)) (prime-positive prime) (omega (arith, h .0)) (el-add prime k j ∙ e);
-  }
-
-  pub nothing-told-prime : (p : Plan) → p .collusion ≤ p .threshold → p .users + p .threshold < q → Nothing-told (modular q) p
-  nothing-told-prime p more large = nothing-told (modular q) p (modular-laws (p .users) (p .threshold) large) more
+pub nothing-told-prime : {q : ℕ} → Prime q → (p : Plan) → p .collusion ≤ p .threshold → p .users + p .threshold < q → Nothing-told (modular q) p
+nothing-told-prime {q} prime p more large = nothing-told (modular q) p (modular-laws prime (p .users) (p .threshold) large) more
 
 unfoldable pub sixteen-laws : (p : Plan) → plan-good p ≡ true → Laws sixteen (p .users) (p .threshold)
-sixteen-laws p h = let g = good p h in modular-laws prime-65521 (p .users) (p .threshold) (omega arith)
+sixteen-laws p h = let g = good p h in sixteen-field (p .users) (p .threshold) (omega arith)
 
 pub demand-3 : Demand-3
 unfolding Demand-3

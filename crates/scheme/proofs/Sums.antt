@@ -13,7 +13,7 @@ use native.Mathlib.Omega.{arith}
 use Rattle.algebra.specs.Field.{Field}
 use Rattle.algebra.specs.Sums.{In, sum as field-sum}
 use Rattle.algebra.specs.Cauchy.{value}
-use Rattle.algebra.proofs.Field.{mul-cancel, mul-inv}
+use Rattle.algebra.proofs.Field.{mul-cancel}
 use Rattle.algebra.proofs.Sums.{sum-same as field-sum-same}
 use Rattle.scheme.specs.Scheme.{span, Arithmetic, sum, row-value}
 use Rattle.scheme.specs.Laws.{Laws}
@@ -48,7 +48,7 @@ module _ (A : Arithmetic) (n m : ℕ) (L : Laws A n m) where
 
   pub coefficient-el : (k j : ℕ) → (1 ≤ k) × (k ≤ n) → (1 ≤ j) × (j ≤ m) → el (A .coefficient k j) ≡ inv (row k ⊕ col j)
   coefficient-el k j h l =
-      mul-cancel K (row k ⊕ col j) (L .meet k j h l) (L .coefficient-right k j h l ∙ sym (mul-inv K (row k ⊕ col j) (L .meet k j h l)))
+      mul-cancel K (row k ⊕ col j) (L .meet k j h l) (L .coefficient-right k j h l ∙ sym (K .mul-inv (row k ⊕ col j) (L .meet k j h l)))
 
   pub row-value-el : (u k : ℕ) (f : ℕ → ℕ) → (1 ≤ k) × (k ≤ n) → u ≤ m
       → el (row-value A u k f) ≡ value K row col (span u 1) k (λ j. el (f j))

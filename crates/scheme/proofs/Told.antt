@@ -15,7 +15,7 @@ use lib.ListN.{length, getD}
 use borrow.Author.Tests.{le-leb, lt-leb, eq-eqb, eqb-true}
 use Rattle.algebra.specs.Field.{Field, sub}
 use Rattle.algebra.specs.Sums.{sum as field-sum}
-use Rattle.algebra.proofs.Field.{add-zero, add-comm, add-left-comm, add-sub, sub-add, sub-self}
+use Rattle.algebra.proofs.Field.{add-swap, add-sub, sub-is}
 use Rattle.algebra.proofs.Sums.{sum-sub}
 use Rattle.scheme.specs.Scheme.{span, each, Arithmetic, elements, Plan, items, places, in-set, ones, usable, usable-with, users-in, sets-with, list-length, mask, share, shares, key, first-message, reply, total-at}
 use Rattle.scheme.specs.Promise.{Table, list-good, shown, Alike, Nothing-told}
@@ -61,14 +61,14 @@ module _ (A : Arithmetic) (p : Plan) (L : Laws A (p .users) (p .threshold)) wher
   z = zero-small A _ _ L
 
   add-none : (a b : ℕ) → a < A .size → el b ≡ 𝟘 → A .add a b ≡ a
-  add-none a b h e = el-same A _ _ L (L .add-small a b) h (L .el-add a b ∙ ap (λ x. el a ⊕ x) e ∙ add-zero K (el a))
+  add-none a b h e = el-same A _ _ L (L .add-small a b) h (L .el-add a b ∙ ap (λ x. el a ⊕ x) e ∙ K .add-zero (el a))
 
   subtract-add : (a b : ℕ) → a < A .size → A .subtract (A .add a b) b ≡ a
-  subtract-add a b h = el-same A _ _ L (L .subtract-small _ b) h (L .el-subtract _ b ∙ ap (λ x. sub K x (el b)) (L .el-add a b) ∙ sub-add K (el a) (el b))
+  subtract-add a b h = el-same A _ _ L (L .subtract-small _ b) h (L .el-subtract _ b ∙ ap (λ x. sub K x (el b)) (L .el-add a b) ∙ sub-is K (K .add-comm (el b) (el a)))
 
   add-subtract : (a b : ℕ) → a < A .size → A .add (A .subtract a b) b ≡ a
   add-subtract a b h =
-      el-same A _ _ L (L .add-small _ b) h (L .el-add _ b ∙ ap (λ x. x ⊕ el b) (L .el-subtract a b) ∙ add-comm K _ (el b) ∙ add-sub K (el a) (el b))
+      el-same A _ _ L (L .add-small _ b) h (L .el-add _ b ∙ ap (λ x. x ⊕ el b) (L .el-subtract a b) ∙ K .add-comm _ (el b) ∙ add-sub K (el a) (el b))
 
   module _ (v c : ℕ) (x y : Table) (more : p .collusion ≤ p .threshold) (few : ones (p .users) c ≤ p .collusion) (u : usable p v ≡ true) (al : Alike A p v c x y) where
     d : (k place : ℕ) → F
@@ -94,7 +94,7 @@ module _ (A : Arithmetic) (p : Plan) (L : Laws A (p .users) (p .threshold)) wher
             (sum-sub K (users-in p v) (λ k. el (getD (x k) i 0)) (λ k. el (getD (y k) i 0))
             ∙ ap (λ a. sub K a (field-sum K (users-in p v) (λ k. el (getD (y k) i 0))))
             (sym (sum-el A _ _ L (users-in p v) (λ k. getD (x k) i 0)) ∙ ap el (al .totals i (place-lt p b j h lo l)) ∙ sum-el A _ _ L (users-in p v) (λ k. getD (y k) i 0))
-            ∙ sub-self K _)
+            ∙ sub-is K (K .add-zero _))
         pick (no l) = let s : items p < j = omega arith in rw (lt-leb j (items p) s)
 
     -- a share to V, and one of a colluder, does not move
@@ -129,8 +129,8 @@ module _ (A : Arithmetic) (p : Plan) (L : Laws A (p .users) (p .threshold)) wher
           let b : F = el (getD (y k) i 0) in
           ap (A .add (getD (x k) i 0)) (key-mask A p xs k i h)
           ∙ el-same A _ _ L (L .add-small _ _) (L .add-small _ _)
-          (L .el-add (getD (x k) i 0) (mask p xs k i) ∙ add-comm K a _ ∙ ap (λ s. el (mask p xs k i) ⊕ s) (sym (add-sub K a b))
-          ∙ add-left-comm K (el (mask p xs k i)) b _ ∙ ap (λ s. b ⊕ s) (sym (mask-moved k i lo hi h)) ∙ sym (L .el-add (getD (y k) i 0) (mask p ys k i)))
+          (L .el-add (getD (x k) i 0) (mask p xs k i) ∙ K .add-comm a _ ∙ ap (λ s. el (mask p xs k i) ⊕ s) (sym (add-sub K a b))
+          ∙ add-swap K (el (mask p xs k i)) b _ ∙ ap (λ s. b ⊕ s) (sym (mask-moved k i lo hi h)) ∙ sym (L .el-add (getD (y k) i 0) (mask p ys k i)))
           ∙ sym (ap (A .add (getD (y k) i 0)) (key-mask A p ys k i h)))
 
       shares-same : (k w : ℕ) → 1 ≤ k → k ≤ p .users → usable p w ≡ true → ((b : ℕ) → b < p .blocks → share A p Δ k w b ≡ 0) → shares A p xs k w ≡ shares A p ys k w
@@ -149,7 +149,7 @@ module _ (A : Arithmetic) (p : Plan) (L : Laws A (p .users) (p .threshold)) wher
       mask-same k i lo hi own h =
           el-same A _ _ L (elements-at A z xs ((k - 1) * places p + i) (list-elements A p xs ok))
           (elements-at A z ys ((k - 1) * places p + i) (list-elements A p ys (each-good A p (A .add) (L .add-small) xs Δ)))
-          (sym (mask-moved k i lo hi h ∙ ap (λ a. el (mask p xs k i) ⊕ a) (ap (λ (l : List ℕ). sub K (el (getD l i 0)) (el (getD (y k) i 0))) (al .own k lo hi own) ∙ sub-self K _) ∙ add-zero K _))
+          (sym (mask-moved k i lo hi h ∙ ap (λ a. el (mask p xs k i) ⊕ a) (ap (λ (l : List ℕ). sub K (el (getD l i 0)) (el (getD (y k) i 0))) (al .own k lo hi own) ∙ sub-is K (K .add-zero _)) ∙ K .add-zero _))
 
       key-same : (k : ℕ) → 1 ≤ k → k ≤ p .users → in-set c k ≡ true → key A p xs k ≡ key A p ys k
       unfolding key sets-with usable-with

@@ -22,7 +22,7 @@ use borrow.Author.Tests.{le-leb, eq-eqb, eqb-true}
 use Rattle.algebra.specs.Field.{sub}
 use Rattle.algebra.specs.Sums.{In, Distinct}
 use Rattle.algebra.specs.Cauchy.{System, coefficient, value, solution}
-use Rattle.algebra.proofs.Field.{sub-add}
+use Rattle.algebra.proofs.Field.{sub-is}
 use Rattle.algebra.proofs.Sums.{sum-same as field-sum-same, sum-add}
 use Rattle.algebra.proofs.Cauchy.{solves, unique}
 use Rattle.scheme.specs.Scheme.{span, Arithmetic, elements, sum, Plan, items, places, in-set, ones, usable, users-in, mask, noise, column, row-value, share, shares, key, first-message, total-at}
@@ -241,7 +241,7 @@ module _ (A : Arithmetic) (p : Plan) (L : Laws A (p .users) (p .threshold)) wher
         ∙ ap₂ (sub K)
         (sum-el A _ _ L l _ ∙ field-sum-same K l _ _ (λ k m. L .el-add _ _) ∙ sum-add K l (λ k. el (getD (x k) i 0)) (λ k. el (mask p xs k i)))
         (sum-el A _ _ L l (λ k. mask p xs k i))
-        ∙ sub-add K _ _ ∙ sym (sum-el A _ _ L l (λ k. getD (x k) i 0)))
+        ∙ sub-is K (K .add-comm _ _) ∙ sym (sum-el A _ _ L l (λ k. getD (x k) i 0)))
 
   pub totals-right : Totals-right A p
   unfolding Totals-right totals

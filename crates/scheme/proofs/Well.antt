@@ -12,7 +12,8 @@ use Prim.Native.Nat.{ℕ, suc, _≤_, _<_}
 use native.Mathlib.Omega.{arith}
 use borrow.Author.Tests.{lt-ltb, ltb-true, leb-true}
 use Rattle.scheme.specs.Scheme.{Arithmetic, Plan, plan-good, places, in-set, ones, usable, _then_, unless}
-use Rattle.scheme.specs.Service.{Phase, has-plan, is-replying, State, nothing, new-state, is-held, element-of, gathered, replied, Record, plan-record, open-record, first-record, close-record, reply-record, finish-record, Answer, refusal, planned-state, opened-state, idle-state, next-state, is-finish, Steps, refuses, accepts, totals-up, disagrees, Runs, done, more, Well, Stays-well}
+use Rattle.scheme.specs.Service.{Phase, has-plan, is-replying, State, nothing, new-state, is-held, element-of, gathered, replied, Record, plan-record, open-record, first-record, close-record, reply-record, finish-record, Answer, refusal, planned-state, opened-state, idle-state, next-state, is-finish, Steps, refuses, accepts, totals-up, disagrees, Runs, done, more, Well}
+use Rattle.scheme.specs.ServicePromise.{Stays-well}
 use Rattle.scheme.proofs.Tests.{holds, joined}
 use Rattle.scheme.proofs.Good.{good}
 use Rattle.scheme.proofs.Refusals.{then-zero, unless-zero}

@@ -1,9 +1,12 @@
--- Read Scheme, then Promise: the definitions of document 01 and the promise of demand 3. Laws and Delta serve its proof.
+-- Read Scheme, then Promise: the definitions of document 01 and the promise of demand 3. Laws and Delta serve its proof, and Modular is
+-- the arithmetic with its laws. Totals, Service and ServicePromise are demands 1 and 2.
 pub mod Scheme
 pub mod Promise
 pub mod Good
 pub mod Totals
 pub mod Service
+pub mod ServicePromise
 pub mod Laws
+pub mod Modular
 pub mod Delta
 pub mod Sharp

@@ -6,19 +6,15 @@
 --   next-state, answer-of          of an accepted record other than finish
 --   Steps, Runs                    one record, by a relation: finish goes by what explains the replies; and a list of records
 --   Well                           what holds of every state that records lead to
---   One-answer, Always-answers, Refused-unchanged, As-new, Finish-right, Sixteen-exactly, Never-sixteen, Stays-well     the promises of demands 1 and 2
---   Demand-2                       all of them modulo 65521
 -- Assumes nothing: these are definitions.
 use mathlib.Core.Path.{_≡_}
-use mathlib.Core.Logic.{_↔_}
 use mathlib.Core.Bool.{Bool, true, false, _&&_, not, cond}
-use mathlib.Core.List.{List, [], _∷_, map}
+use mathlib.Core.List.{List, [], _∷_}
 use mathlib.Core.Option.{Option, none, some}
 use Prim.Native.Nat.{ℕ, zero, suc, _+_, _-_, _^_, _<_}
 use lib.Dec.{ltb, leb, eqb}
-use Rattle.scheme.specs.Scheme.{span, Arithmetic, sixteen, Plan, plan-good, is-user, places, in-set, ones, usable, total-at, _then_, unless}
-use Rattle.scheme.specs.Promise.{Table, admissible, list-good}
-use Rattle.scheme.specs.Totals.{all-of, explains-all, totals, Follows}
+use Rattle.scheme.specs.Scheme.{span, Arithmetic, Plan, plan-good, is-user, places, in-set, ones, usable, _then_, unless}
+use Rattle.scheme.specs.Totals.{all-of, explains-all, totals}
 
 -- no plan yet; idle, gathering, replying
 pub data Phase : Type 0 where
@@ -195,63 +191,3 @@ pub record Well (A : Arithmetic) (s : State) : Type 0 where
   pub replies-small : (k b : ℕ) → values (s .replies) k b < A .size
   pub replies-own : (k b : ℕ) → is-held (s .replies k b) ≡ true → in-set (s .survivors) k ≡ true
   pub survive : is-replying (s .phase) ≡ true → usable (s .plan) (s .survivors) ≡ true
-
--- ---- THE PROMISES
--- each record has at most one answer
-unfoldable pub One-answer : Arithmetic → Type 0
-One-answer A = (r : Record) (s t u : State) (a b : Answer) → Well A s → Steps A r s a t → Steps A r s b u → (a ≡ b) × (t ≡ u)
-
--- and it has one, and leads to a state of the same kind
-pub record Answered (A : Arithmetic) (r : Record) (s : State) : Type 0 where
-  pub answer : Answer
-  pub state : State
-  pub step : Steps A r s answer state
-  pub well : Well A state
-
-unfoldable pub Always-answers : Arithmetic → Type 0
-Always-answers A = (r : Record) (s : State) → Well A s → Answered A r s
-
-unfoldable pub Refused-unchanged : Arithmetic → Type 0
-Refused-unchanged A = (r : Record) (s t : State) (n : ℕ) → Steps A r s (refused n) t → t ≡ s
-
--- a round keeps nothing but the plan of what was before: a run that begins with an accepted open is a run of a new service with the same plan
-unfoldable pub As-new : Arithmetic → Type 0
-As-new A =
-    (r : ℕ) (rs : List Record) (s t : State) (l : List Answer) → Runs A (open-record r ∷ rs) s (opened r ∷ l) t →
-    Runs A (open-record r ∷ rs) (planned-state (s .plan)) (opened r ∷ l) t
-
--- complete replies that follow the rules give the survivors' total, whatever else was sent
-unfoldable pub Finish-right : Arithmetic → Type 0
-Finish-right A =
-    (s t : State) (a : Answer) (xs : List ℕ) (x : Table) → Well A s → refusal A finish-record s ≡ 0 → list-good A (s .plan) xs ≡ true →
-    admissible A (s .plan) x → Follows A (s .plan) xs x (s .survivors) (replied s) (values (s .firsts)) (values (s .replies)) →
-    Steps A finish-record s a t → a ≡ totalled (s .round) (map (total-at A (s .plan) x (s .survivors)) (span (places (s .plan)) 0))
-
--- 16 is the answer to a finish of enough complete replies that nothing explains, and to nothing else
-pub record Unexplained (A : Arithmetic) (r : Record) (s t : State) : Type 0 where
-  pub finish : r ≡ finish-record
-  pub unchanged : t ≡ s
-  pub enough : refusal A finish-record s ≡ 0
-  pub no-choice : (f : (block : ℕ) → List ℕ) → explained-by A s f ≡ true → ⊥
-
-unfoldable pub Sixteen-exactly : Arithmetic → Type 0
-Sixteen-exactly A = (r : Record) (s t : State) → Steps A r s (refused 16) t ↔ Unexplained A r s t
-
--- U complete replies and no more agree, whatever they are
-unfoldable pub Never-sixteen : Arithmetic → Type 0
-Never-sixteen A = (r : Record) (s t : State) → Well A s → ones (s .plan .users) (replied s) ≡ s .plan .threshold → Steps A r s (refused 16) t → ⊥
-
--- whatever records come to a new service, it is in a state of the kind
-unfoldable pub Stays-well : Arithmetic → Type 0
-Stays-well A = (rs : List Record) (l : List Answer) (s : State) → Runs A rs new-state l s → Well A s
-
--- THE SECOND DEMAND, modulo 65521
-pub record Demand-2 : Type 0 where
-  pub stays-well : Stays-well sixteen
-  pub one-answer : One-answer sixteen
-  pub always-answers : Always-answers sixteen
-  pub refused-unchanged : Refused-unchanged sixteen
-  pub as-new : As-new sixteen
-  pub finish-right : Finish-right sixteen
-  pub sixteen-exactly : Sixteen-exactly sixteen
-  pub never-sixteen : Never-sixteen sixteen

@@ -19,7 +19,7 @@ use Rattle.scheme.proofs.Lists.{span-in, in-span, map-span-length}
 use Rattle.scheme.proofs.Keys.{elements-map}
 use Rattle.scheme.proofs.Sums.{sum-same}
 use Rattle.scheme.proofs.Totals.{all-of-in, at-all-of, in-at, at-apart, Enough, unknown, Explained}
-use Rattle.solve.specs.Solve.{laws16, Points, Square, filled, unknown-at, solution-of, dot-of, fits-of}
+use Rattle.solve.specs.Solve.{laws16, Points, Square, padded, filled, unknown-at, solution-of, dot-of, fits-of}
 use Rattle.solve.proofs.Right.{dot-row, solve-right}
 
 pub points-some : {most more n m : ℕ} {xs : List ℕ} → Points most m xs → most ≤ more → n ≤ m → Points more n xs
@@ -57,7 +57,7 @@ module _ (p : Plan) (users : List ℕ) (m : ℕ) (y : (k : ℕ) → ℕ) (rs cs 
     W = solution-of rs cs vs n
 
     first : take n W ≡ map (unknown-at rs cs vs n) (span n 0)
-    unfolding solution-of filled
+    unfolding solution-of filled padded
     first = take-at _ _ n (map-span-length _ n 0)
 
     row-of : (a : ℕ) → a < m → row-value sixteen n (getD users a 0) (unknown (take n W)) ≡ dot-of (getD rs a 0) cs W n

@@ -1,33 +1,40 @@
--- Eight entries, the first n by a rule and the others 0.
---   Filling, filling-start, filling-more, filling-end    a loop that writes them in order
+-- Lists of a fixed length: a list and 0 behind it, and eight entries, the first n by a rule.
+--   padded-at, padded-take, padded-next                  an entry; the list again; one entry more
+--   span-more                                            one entry more of a rule
+--   Filling, filling-start, filling-more, filling-end    a loop that writes eight entries in order
 --   filled-at, filled-small                              the entry at a position; entries below q
 -- Assumes nothing.
 use mathlib.Core.Path.{_≡_, refl, sym, ap, ap₂, _∙_}
-use mathlib.Core.List.{List, _∷_, _++_, map}
+use mathlib.Core.List.{List, [], _∷_, _++_, map, map-append, append-assoc}
 use Prim.Native.Nat.{ℕ, zero, suc, _+_, _-_, _≤_, _<_}
-use native.Mathlib.Nat.{zero-add, add-zero}
-use native.Mathlib.Numerals.{add-one}
+use native.Mathlib.Nat.{zero-add}
 use native.Mathlib.Decide.{decLt}
 use native.Mathlib.Omega.{arith}
 use lib.Dec.{lit<}
-use lib.ListN.{length, getD, set, replicate, List·getD-append}
-use lib.Seq.{getD-append-add}
+use lib.ListN.{length, getD, take, set, replicate, length-append, List·getD-append}
+use lib.Seq.{getD-append-add, set-append-seam, take-append-seam}
 use Rattle.scheme.specs.Scheme.{span, q}
-use Rattle.scheme.proofs.Lists.{map-span-length, map-span-at}
-use Rattle.solve.specs.Solve.{filled}
+use Rattle.scheme.proofs.Lists.{span-append, map-span-length, map-span-at}
+use Rattle.solve.specs.Solve.{padded, filled}
 
-next : (f : ℕ → ℕ) (n k m : ℕ) → set (map f (span n k) ++ replicate (suc m) 0) n (f (k + n)) ≡ map f (span (suc n) k) ++ replicate m 0
-next f zero k m = ap (λ (i : ℕ). f i ∷ replicate m 0) (add-zero k)
-next f (suc n) k m =
-    let e : k + suc n ≡ suc k + n = omega arith in
-    ap (λ (l : List ℕ). f k ∷ l) (ap (λ (i : ℕ). set (map f (span n (suc k)) ++ replicate (suc m) 0) n (f i)) e ∙ next f n (suc k) m)
+module _ (n : ℕ) (l : List ℕ) where
+  pub padded-at : (i : ℕ) → i < length l → getD (padded n l) i 0 ≡ getD l i 0
+  unfolding padded
+  padded-at i h = List·getD-append l _ 0 i h
 
-more : (f : ℕ → ℕ) (n : ℕ) → n < 8 → set (filled n f) n (f n) ≡ filled (n + 1) f
-unfolding filled
-more f n h =
-    let e : 8 - n ≡ suc (8 - (n + 1)) = omega arith in
-    ap₂ (λ (m i : ℕ). set (map f (span n 0) ++ replicate m 0) n (f i)) e (sym (zero-add n)) ∙ next f n 0 (8 - (n + 1))
-    ∙ ap (λ (i : ℕ). map f (span i 0) ++ replicate (8 - (n + 1)) 0) (sym (add-one n))
+  pub padded-take : take (length l) (padded n l) ≡ l
+  unfolding padded
+  padded-take = take-append-seam l _
+
+  pub padded-next : (x i : ℕ) → length l ≡ i → i < n → set (padded n l) i x ≡ padded n (l ++ (x ∷ []))
+  unfolding padded
+  padded-next x i e h =
+      let d : n - length l ≡ suc (n - suc i) = omega arith in
+      let r : n - length (l ++ (x ∷ [])) ≡ n - suc i = omega (arith, length-append l (x ∷ [])) in
+      rw (d, r, ← e) (set-append-seam l 0 (replicate (n - suc (length l)) 0) x ∙ sym (append-assoc l (x ∷ []) (replicate (n - suc (length l)) 0)))
+
+pub span-more : (f : ℕ → ℕ) (n : ℕ) → map f (span (n + 1) 0) ≡ map f (span n 0) ++ (f n ∷ [])
+span-more f n = ap (map f) (span-append n 1 0) ∙ map-append f (span n 0) (span 1 (0 + n)) ∙ ap (λ (i : ℕ). map f (span n 0) ++ (f i ∷ [])) (zero-add n)
 
 -- i of n entries are written
 pub record Filling (f : ℕ → ℕ) (n i : ℕ) (out : List ℕ) : Type 0 where
@@ -36,36 +43,41 @@ pub record Filling (f : ℕ → ℕ) (n i : ℕ) (out : List ℕ) : Type 0 where
 
 module _ (f : ℕ → ℕ) (n : ℕ) where
   pub filling-start : Filling f n 0 (replicate 8 0)
-  unfolding filled
+  unfolding filled padded
   filling-start = record { inside = omega arith; done = refl }
 
   pub filling-more : (i x : ℕ) (out : List ℕ) → n ≤ 8 → i < n → x ≡ f i → Filling f n i out → Filling f n (i + 1) (set out i x)
-  filling-more i x out h l e s = record { inside = omega arith; done = ap₂ (λ (o : List ℕ) (y : ℕ). set o i y) (s .done) e ∙ more f i (omega arith) }
+  unfolding filled
+  filling-more i x out h l e s = record {
+    inside = omega arith;
+    done =
+        ap₂ (λ (o : List ℕ) (y : ℕ). set o i y) (s .done) e
+        ∙ padded-next 8 (map f (span i 0)) (f i) i (map-span-length f i 0) (omega arith) ∙ ap (padded 8) (sym (span-more f i));
+  }
 
   pub filling-end : (i : ℕ) (out : List ℕ) → n ≤ i → Filling f n i out → out ≡ filled n f
   filling-end i out h s = let e : i ≡ n = omega arith in s .done ∙ ap (λ (k : ℕ). filled k f) e
 
 pub filled-at : (f : ℕ → ℕ) (n i : ℕ) → i < n → getD (filled n f) i 0 ≡ f i
 unfolding filled
-filled-at f n i h =
-    List·getD-append (map f (span n 0)) (replicate (8 - n) 0) 0 i (omega (arith, map-span-length f n 0)) ∙ map-span-at f n 0 i h
-    ∙ ap f (zero-add i)
+filled-at f n i h = padded-at 8 (map f (span n 0)) i (omega (arith, map-span-length f n 0)) ∙ map-span-at f n 0 i h ∙ ap f (zero-add i)
 
 zeros-at : (m i : ℕ) → _≡_ {A = ℕ} (getD (replicate m 0) i 0) 0
 zeros-at zero i = refl
 zeros-at (suc m) zero = refl
 zeros-at (suc m) (suc i) = zeros-at m i
 
-behind : (f : ℕ → ℕ) (n i : ℕ) → n ≤ i → getD (filled n f) i 0 ≡ 0
-unfolding filled
-behind f n i h =
-    let e : i ≡ length (map f (span n 0)) + (i - n) = omega (arith, map-span-length f n 0) in
-    ap (λ (k : ℕ). getD (map f (span n 0) ++ replicate (8 - n) 0) k 0) e ∙ getD-append-add (map f (span n 0)) (replicate (8 - n) 0) (i - n) 0
-    ∙ zeros-at (8 - n) (i - n)
+behind : (n : ℕ) (l : List ℕ) (i : ℕ) → length l ≤ i → getD (padded n l) i 0 ≡ 0
+unfolding padded
+behind n l i h =
+    let e : i ≡ length l + (i - length l) = omega arith in
+    ap (λ (k : ℕ). getD (l ++ replicate (n - length l) 0) k 0) e ∙ getD-append-add l (replicate (n - length l) 0) (i - length l) 0
+    ∙ zeros-at (n - length l) (i - length l)
 
 pub filled-small : (f : ℕ → ℕ) (n i : ℕ) → ((k : ℕ) → f k < q) → getD (filled n f) i 0 < q
+unfolding filled
 filled-small f n i h = go (decLt i n)
   where
     go : Dec (i < n) → getD (filled n f) i 0 < q
     go (yes l) = rw (filled-at f n i l) (h i)
-    go (no l) = rw (behind f n i (omega arith)) (lit< tt)
+    go (no l) = rw (behind 8 (map f (span n 0)) i (omega (arith, map-span-length f n 0))) (lit< tt)

@@ -10,11 +10,11 @@ use native.Mathlib.Nat.{mod-lt, mod-eq-of-lt}
 use lib.Dec.{eqb, lit<}
 use Rattle.algebra.specs.Field.{Field, sub}
 use Rattle.algebra.specs.Residue.{inverse}
-use Rattle.algebra.proofs.Residue.{residue, el-add, el-mod}
+use Rattle.algebra.proofs.Residue.{mods, el-path, residue}
 use Rattle.algebra.proofs.Primes.{prime-65521}
 use Rattle.scheme.specs.Scheme.{q, sixteen}
 use Rattle.scheme.specs.Laws.{Laws}
-use Rattle.scheme.proofs.Modular.{modular-laws}
+use Rattle.scheme.specs.Modular.{modular-laws}
 use Rattle.solve.specs.Solve.{laws16, gap-of}
 open Laws laws16 using (K, el, val)
 open Field K using (F, 𝟙, add as _⊕_, mul as _⊗_, inv)
@@ -27,11 +27,11 @@ el-one = refl
 
 pub el-plus : (a b : ℕ) → el (a + b) ≡ el a ⊕ el b
 unfolding laws16 modular-laws
-el-plus = el-add prime-65521
+el-plus a b = el-path (simp mods)
 
 pub el-rest : (a : ℕ) → el (a % q) ≡ el a
 unfolding laws16 modular-laws
-el-rest = el-mod prime-65521
+el-rest a = el-path (simp mods)
 
 pub el-times : (a b : ℕ) → el (a * b % q) ≡ el a ⊗ el b
 el-times a b = el-rest (a * b) ∙ laws16 .el-multiply a b

@@ -15,7 +15,6 @@ use lib.ListN.{getD}
 use Rattle.algebra.specs.Field.{Field}
 use Rattle.algebra.specs.Sums.{In, sum as field-sum}
 use Rattle.algebra.specs.Cauchy.{weight}
-use Rattle.algebra.proofs.Field.{add-comm}
 use Rattle.algebra.proofs.Sums.{sum-same as field-sum-same}
 use Rattle.scheme.specs.Scheme.{span, q, sixteen}
 use Rattle.scheme.specs.Laws.{Laws}
@@ -67,7 +66,7 @@ module _ (rs cs vs : List ℕ) (n i : ℕ) (h : i < n) where
       ∙ ap₂ _⊗_ (weight-el cs rs n i h)
       (dot-el (getD cs i 0) rs _ n (near (square .rows-good) (omega (arith, square .columns-good .inside i h)))
       ∙ field-sum-same K (span n 0) _ _ (λ k m.
-      ap₂ _⊗_ (ap inv (add-comm K _ _)) (scaled-el _ vs n k (below n k m) ∙ ap (λ u. u ⊗ point vs k) (weight-el rs cs n k (below n k m))))))
+      ap₂ _⊗_ (ap inv (K .add-comm _ _)) (scaled-el _ vs n k (below n k m) ∙ ap (λ u. u ⊗ point vs k) (weight-el rs cs n k (below n k m))))))
 
   pub unknown-right : (α β weighed : List ℕ) (d r : ℕ) → Ready rs cs α β n → weighed ≡ scaled α vs n → d ≡ dot-of (getD cs i 0) rs weighed n
       → r ≡ sixteen .multiply (getD β i 0) d % q → r ≡ unknown-at rs cs vs n i

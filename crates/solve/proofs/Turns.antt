@@ -17,7 +17,7 @@ use lib.Dec.{eqb, lit<}
 use lib.ListN.{getD}
 use Rattle.algebra.specs.Field.{Field, sub}
 use Rattle.algebra.specs.Cauchy.{gap, weight}
-use Rattle.algebra.proofs.Field.{mul-assoc, mul-one, one-mul, expand}
+use Rattle.algebra.proofs.Field.{expand, one-mul}
 use Rattle.algebra.proofs.Residue.{mods}
 use Rattle.scheme.specs.Scheme.{span, q, sixteen, sum}
 use Rattle.scheme.specs.Totals.{all-of}
@@ -90,7 +90,7 @@ module _ (own other : List ℕ) (n a : ℕ) where
   unfolding weight-at
   weighing-end i w h s =
       val-of w _ (s .small)
-      (sym (mul-one K _ ∙ mul-one K _) ∙ mul-assoc K _ _ _ ∙ ap (λ l. el w ⊗ over l) (sym (span-end n i h)) ∙ s .rest)
+      (sym (K .mul-one _ ∙ K .mul-one _) ∙ K .mul-assoc _ _ _ ∙ ap (λ l. el w ⊗ over l) (sym (span-end n i h)) ∙ s .rest)
 
 -- ---- SUMS
 module _ (f : ℕ → ℕ) (n : ℕ) where

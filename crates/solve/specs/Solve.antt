@@ -2,7 +2,7 @@
 -- columns[i], and the coefficient is 1 / (rows[a] + columns[i]).
 --   laws16, point              the field, shut; the number at a position as its element
 --   Points, Near, Square       the first n points are in range and different; sums with them are below 16; such rows and columns
---   filled, scaled             eight entries, the first n by a rule and the others 0; two lists multiplied place by place
+--   padded, filled, scaled     a list in the first of n places, and 0 behind it; n of eight entries by a rule; two lists multiplied place by place
 --   gap-of                     1 / (x - y), and 1 where they are the same
 --   weight-at, weights-of      the weights of algebra's closed solution
 --   Ready                      a system with its weights
@@ -16,18 +16,17 @@ use mathlib.Core.Bool.{Bool, cond}
 use mathlib.Core.List.{List, _++_, map}
 use Prim.Native.Nat.{ℕ, _+_, _-_, _%_, _≤_, _<_}
 use lib.Dec.{eqb, lit<}
-use lib.ListN.{getD, replicate}
+use lib.ListN.{length, getD, replicate}
 use Rattle.algebra.specs.Residue.{inverse}
 use Rattle.algebra.specs.Cauchy.{weight, solution}
-use Rattle.algebra.proofs.Primes.{prime-65521}
 use Rattle.scheme.specs.Scheme.{span, q, sixteen, sum}
 use Rattle.scheme.specs.Totals.{all-of}
 use Rattle.scheme.specs.Laws.{Laws}
-use Rattle.scheme.proofs.Modular.{modular-laws}
+use Rattle.scheme.specs.Modular.{sixteen-field}
 use Rattle.solve.specs.declared.Explained.{Explained}
 
 unfoldable pub laws16 : Laws sixteen 8 7
-laws16 = modular-laws prime-65521 8 7 (lit< tt)
+laws16 = sixteen-field 8 7 (lit< tt)
 
 open Laws laws16 using (K, el, val)
 
@@ -47,9 +46,12 @@ pub record Square (rows columns : List ℕ) (n : ℕ) : Type 0 where
   pub rows-good : Points 8 n rows
   pub columns-good : Points 7 n columns
 
--- ---- LISTS OF EIGHT
+-- ---- LISTS OF A FIXED LENGTH
+unfoldable pub padded : (n : ℕ) → List ℕ → List ℕ
+padded n l = l ++ replicate (n - length l) 0
+
 unfoldable pub filled : (n : ℕ) → (ℕ → ℕ) → List ℕ
-filled n f = map f (span n 0) ++ replicate (8 - n) 0
+filled n f = padded 8 (map f (span n 0))
 
 unfoldable pub scaled : (weights values : List ℕ) → (n : ℕ) → List ℕ
 scaled ws vs n = filled n (λ i. sixteen .multiply (getD ws i 0) (getD vs i 0) % q)

@@ -1,24 +1,27 @@
--- `client::add_masks` meets its contract. The loop's invariant: the first i places are written.
+-- `client::add_masks` meets its contract. The loop's invariant: what is written so far is the first i places (Lists.sets-more).
 -- The measure is how many places are left. Assumes nothing.
-use mathlib.Core.Path.{_≡_}
-use Prim.Native.Nat.{_-_, _≤_}
+use mathlib.Core.Path.{_≡_, refl, sym, ap, ap₂, _∙_}
+use mathlib.Core.List.{List}
+use Prim.Native.Nat.{ℕ, _-_, _≤_}
+use native.Mathlib.Nat.{zero-add}
 use native.Mathlib.Omega.{arith}
-use lib.ListN.{length, take}
+use lib.ListN.{length, getD, set}
+use lib.Seq.{sets}
 use denote.Ref.{now}
 use borrow.Author.Needs.{needs}
 use Rattle.scheme.specs.Scheme.{each, sixteen}
-use Rattle.client.proofs.Laws.{each-next, each-end}
+use Rattle.scheme.proofs.Lists.{map-span-length, sets-more, sets-whole}
 use Rattle.client.proofs.add_masks.Statement.{statement}
 use Rattle.client.proofs.add_masks.Tie as tie
 
 abbrev Inv-loop : tie.InvT-loop
-Inv-loop figures key out₀ i₀ out i = (length out ≡ length out₀) × (i ≤ length out₀) × (take i out ≡ each (sixteen .add) i figures key)
+Inv-loop figures key out₀ i₀ out i = (length out ≡ length out₀) × (i ≤ length out₀) × (out ≡ sets out₀ 0 (each (sixteen .add) i figures key))
 
 abbrev μ-loop : tie.MeasureT-loop
 μ-loop figures key out₀ i₀ out i = length out₀ - i
 
 loop-holds : tie.Need-loop-holds Inv-loop μ-loop
-loop-holds c = search needs
+loop-holds c = (search needs, search needs, refl)
 
 mul-add : tie.Need-mul-add Inv-loop μ-loop
 mul-add c = search needs
@@ -51,7 +54,12 @@ loop-again : tie.Need-loop-again Inv-loop μ-loop
 loop-again c =
     let l = c .before .before .before .before in
     let a = l .before .before .before .before .args in
-    (search needs, search needs, rw (c .add .ensures) (each-next (sixteen .add) (now (a .figures)) (now (a .key)) (l .loop .out) (l .loop .i) (omega arith) (l .loop .inv .2)))
+    let sum : ℕ → ℕ = λ j. sixteen .add (getD (now (a .figures)) j 0) (getD (now (a .key)) j 0) in (
+      search needs,
+      search needs,
+      rw (c .add .ensures)
+          (ap₂ (λ (o : List ℕ) (n : ℕ). set o n (sum (l .loop .i))) (l .loop .inv .2) (sym (zero-add (l .loop .i))) ∙ sets-more (now (a .out)) 0 (l .loop .i) sum),
+    )
 
 same-length : tie.Need-same-length Inv-loop μ-loop
 same-length c = search needs
@@ -60,7 +68,10 @@ returns : tie.Need-returns Inv-loop μ-loop
 returns c =
     let l = c .before in
     let a = l .before .before .before .before .args in
-    each-end (sixteen .add) (now (a .figures)) (now (a .key)) (l .loop .out) _ (l .loop .i) (l .loop .inv .0) (omega arith) (omega arith) (l .loop .inv .2)
+    let whole : List ℕ = each (sixteen .add) (length (now (a .out))) (now (a .figures)) (now (a .key)) in
+    let e : l .loop .i ≡ length (now (a .out)) = omega arith in
+    l .loop .inv .2 ∙ ap (λ (n : ℕ). sets (now (a .out)) 0 (each (sixteen .add) n (now (a .figures)) (now (a .key)))) e
+    ∙ sets-whole (now (a .out)) whole (map-span-length _ (length (now (a .out))) 0)
 
 pub add-masks-spec : {M : Type 1} → statement M
 add-masks-spec =

@@ -8,7 +8,7 @@ use borrow.Author.Tests.{not-true, not-false}
 use Rattle.scheme.specs.Scheme.{items}
 use Rattle.scheme.proofs.Tests.{holds}
 use Rattle.plan.specs.Plan.{plan-of}
-use Rattle.finish.specs.Finish.{padded}
+use Rattle.solve.specs.Solve.{padded}
 use Rattle.finish.proofs.Blocks.{listed-few, listed-points}
 use Rattle.finish.proofs.Totalling.{Totalling, totalling-start, totalling-room, totalling-stop, totalling-more, totalling-end, totals-same}
 use Rattle.finish.proofs.all_blocks.Statement.{statement}

@@ -15,10 +15,11 @@ use Rattle.scheme.proofs.Held.{complete-below}
 use Rattle.scheme.proofs.Refusals.{unless-held, unless-failed}
 use Rattle.plan.specs.Plan.{plan-of}
 use Rattle.plan.proofs.Laws.{ones-same}
+use Rattle.solve.specs.Solve.{padded}
 use Rattle.service.specs.declared.Service.{Service}
 use Rattle.service.specs.View.{phase-of, view}
 use Rattle.service.proofs.Refused.{past-phase, stopped}
-use Rattle.finish.specs.Finish.{padded, choice, finish-refusal}
+use Rattle.finish.specs.Finish.{choice, finish-refusal}
 use Rattle.finish.proofs.Answers.{refused-right, finished-right, Ripe, ripe-refusal, totalled-right}
 use Rattle.finish.proofs.finish.Statement.{statement}
 use Rattle.finish.proofs.finish.Tie as tie

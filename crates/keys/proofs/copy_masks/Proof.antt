@@ -1,4 +1,4 @@
--- `keys::copy_masks` meets its contract: what is written so far is the masks so far (Writing.sets-more).
+-- `keys::copy_masks` meets its contract: what is written so far is the masks so far (Lists.sets-more).
 use mathlib.Core.Path.{_≡_, refl, sym, ap, ap₂, _∙_}
 use mathlib.Core.List.{List, map}
 use Prim.Native.Nat.{ℕ, _+_, _*_, _-_, _≤_}
@@ -8,9 +8,9 @@ use lib.ListN.{length, getD, set}
 use lib.Seq.{sets, length-sets}
 use borrow.Author.Needs.{needs}
 use Rattle.scheme.specs.Scheme.{span, mask}
+use Rattle.scheme.proofs.Lists.{sets-more}
 use Rattle.plan.specs.Plan.{plan-of}
 use Rattle.keys.proofs.Places.{rows-in, row-in}
-use Rattle.keys.proofs.Writing.{sets-more}
 use Rattle.keys.proofs.copy_masks.Statement.{statement}
 use Rattle.keys.proofs.copy_masks.Tie as tie
 

@@ -8,7 +8,7 @@ use lib.ListN.{length}
 use lib.Seq.{sets}
 use borrow.Author.Needs.{needs}
 use Rattle.scheme.specs.Scheme.{span, rows, sixteen, Plan, places, sets-with, mask, shares, key, key-length, key-refusal, written}
-use Rattle.scheme.proofs.Lists.{map-span-length}
+use Rattle.scheme.proofs.Lists.{map-span-length, sets-whole}
 use Rattle.scheme.proofs.Refusals.{written-taken, written-refused}
 use Rattle.scheme.proofs.Keys.{key-is-long}
 use Rattle.plan.specs.Plan.{plan-of}
@@ -16,7 +16,6 @@ use Rattle.plan.proofs.Laws.{masks-inside}
 use Rattle.keys.specs.Parts.{Ready}
 use Rattle.keys.proofs.Accepted.{accepted}
 use Rattle.scheme.proofs.Lists.{sets-append}
-use Rattle.keys.proofs.Writing.{sets-whole}
 use Rattle.keys.proofs.make_key.Statement.{statement}
 use Rattle.keys.proofs.make_key.Tie as tie
 

@@ -1,4 +1,4 @@
--- `keys::write_shares` meets its contract: what is written so far is the shares so far; places and noise advance with the block (Shares.share-right, Writing.sets-more).
+-- `keys::write_shares` meets its contract: what is written so far is the shares so far; places and noise advance with the block (Shares.share-right, Lists.sets-more).
 use mathlib.Core.Path.{_≡_, refl, sym, ap, ap₂, _∙_}
 use mathlib.Core.Bool.{true}
 use mathlib.Core.List.{List, map}
@@ -10,11 +10,11 @@ use lib.Seq.{sets, length-sets}
 use borrow.Author.Needs.{needs}
 use Rattle.scheme.specs.Scheme.{span, sixteen, Plan, items, places, usable, noise-start, share, shares}
 use Rattle.scheme.proofs.Sets.{noise-lt}
+use Rattle.scheme.proofs.Lists.{sets-more}
 use Rattle.plan.specs.Plan.{plan-of}
 use Rattle.keys.specs.Parts.{Ready, Summed, share-at}
 use Rattle.keys.proofs.Places.{row-in, row-next, rows-in, noise-next}
 use Rattle.keys.proofs.Shares.{share-right}
-use Rattle.keys.proofs.Writing.{sets-more}
 use Rattle.keys.proofs.write_shares.Statement.{statement}
 use Rattle.keys.proofs.write_shares.Tie as tie
 
