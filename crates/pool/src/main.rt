@@ -6,8 +6,11 @@
 //   keep           moves the bytes of a record that is not whole to the front
 // No byte of output is made outside the crate stream.
 ghost use mathlib.Core.Path.{_≡_};
-ghost use Prim.Native.Nat.{ℕ, _+_, _-_, _≤_, _<_};
-ghost use lib.ListN.{length, getD};
+ghost use Prim.Native.Nat.{_≤_};
+ghost use lib.ListN.{length, take, drop};
+ghost use lib.Seq.{sets};
+ghost use Rattle.stream.specs.Stream.{cut-left};
+ghost use Rattle.pool.specs.Pool.{kept-count, ended, Takes};
 use libc::STDIN_FILENO;
 use libc::STDOUT_FILENO;
 use service::Service;
@@ -94,10 +97,10 @@ fn write(text: &[u8]) -> bool {
     false
 }
 
-// Moves the bytes from `at` to n to the front of buf, and answers how many they are.
+// Moves the bytes from `at` to n to the front of buf, and answers how many they are: none of a buf with fewer than n.
 fn keep(buf: &mut [u8], at: usize, n: usize) -> usize
-    ensures count { λ r. ⌜ (at ≤ n → n ≤ length (now (buf .entry)) → r ≡ n - at) ⌝ }
-    ensures moved { λ r. ⌜ ((i : ℕ) → i < r → getD (now (buf .exit)) i 0 ≡ getD (now (buf .entry)) (at + i) 0) ⌝ }
+    ensures count { λ r. ⌜ r ≡ kept-count at n (length (now (buf .entry))) ⌝ }
+    ensures left { λ r. ⌜ now (buf .exit) ≡ sets (now (buf .entry)) 0 (take r (drop at (now (buf .entry)))) ⌝ }
 {
     if n < at {
         return 0;
@@ -114,7 +117,9 @@ fn keep(buf: &mut [u8], at: usize, n: usize) -> usize
     left
 }
 
-fn stopped(service: Service, offset: u64) -> Live {
+fn stopped(service: Service, offset: u64) -> Live
+    ensures { λ r. ⌜ r ≡ ended service offset ⌝ }
+{
     Live {
         service,
         have: 0,
@@ -125,7 +130,10 @@ fn stopped(service: Service, offset: u64) -> Live {
 }
 
 // The line of refusal 7, and the end of the run.
-fn refuse(service: Service, offset: u64, out: &mut [u8]) -> Live {
+fn refuse(service: Service, offset: u64, out: &mut [u8]) -> Live
+    ensures result { λ r. ⌜ r ≡ ended service offset ⌝ }
+    ensures left { λ r. ⌜ now (out .exit) ≡ cut-left offset (now (out .entry)) ⌝ }
+{
     let n = stream::cut(offset, out);
     if n <= out.len() {
         write(&out[..n]);
@@ -134,7 +142,9 @@ fn refuse(service: Service, offset: u64, out: &mut [u8]) -> Live {
 }
 
 // Feeds the first n bytes of buf, and writes the lines.
-fn take(service: Service, buf: &mut [u8], n: usize, offset: u64, out: &mut [u8]) -> Live {
+fn take(service: Service, buf: &mut [u8], n: usize, offset: u64, out: &mut [u8]) -> Live
+    ensures { λ r. ⌜ Takes service (now (buf .entry)) (now (buf .exit)) n offset (length (now (out .entry))) r ⌝ }
+{
     if buf.len() < n {
         return stopped(service, offset);
     }
