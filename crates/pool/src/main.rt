@@ -6,11 +6,12 @@
 //   keep           moves the bytes of a record that is not whole to the front
 // No byte of output is made outside the crate stream.
 ghost use mathlib.Core.Path.{_≡_};
+ghost use mathlib.Core.Bool.{false};
 ghost use Prim.Native.Nat.{_≤_};
 ghost use lib.ListN.{length, take, drop};
 ghost use lib.Seq.{sets};
 ghost use Rattle.stream.specs.Stream.{cut-left};
-ghost use Rattle.pool.specs.Pool.{kept-count, ended, Takes};
+ghost use Rattle.pool.specs.Pool.{kept-count, ended, Fills, Takes, Goes-on};
 use libc::STDIN_FILENO;
 use libc::STDOUT_FILENO;
 use service::Service;
@@ -41,7 +42,9 @@ pub struct Wrote {
 }
 
 // One read into buf behind its first `have` bytes: how many bytes are there then.
-fn fill(buf: &mut [u8], have: usize) -> Read {
+fn fill(buf: &mut [u8], have: usize) -> Read
+    ensures { λ r. ⌜ Fills (now (buf .entry)) (now (buf .exit)) have r ⌝ }
+{
     if buf.len() <= have {
         return Read::Failed;
     }
@@ -197,7 +200,9 @@ fn take(service: Service, buf: &mut [u8], n: usize, offset: u64, out: &mut [u8])
 }
 
 // One turn: a read where more bytes are needed, and the records that are whole.
-fn turn(live: Live, buf: &mut [u8], out: &mut [u8]) -> Live {
+fn turn(live: Live, buf: &mut [u8], out: &mut [u8]) -> Live
+    ensures { λ r. ⌜ (r .done ≡ false → Goes-on live (now (buf .entry)) (now (buf .exit)) (length (now (out .entry))) r) ⌝ }
+{
     let service = live.service;
     let have = live.have;
     let offset = live.offset;
