@@ -1,2 +1,3 @@
--- Moving: bytes moved to the front of a buffer, one more.
+-- Moving: bytes moved to the front of a buffer. Taking: what a feed leaves for the next turn.
 pub mod Moving
+pub mod Taking

@@ -6,8 +6,12 @@
 //   keep           moves the bytes of a record that is not whole to the front
 // No byte of output is made outside the crate stream.
 ghost use mathlib.Core.Path.{_≡_};
-ghost use Prim.Native.Nat.{ℕ, _+_, _-_, _≤_, _<_};
-ghost use lib.ListN.{length, getD};
+ghost use mathlib.Core.Bool.{false};
+ghost use Prim.Native.Nat.{_≤_};
+ghost use lib.ListN.{length, take, drop};
+ghost use lib.Seq.{sets};
+ghost use Rattle.stream.specs.Stream.{cut-left};
+ghost use Rattle.pool.specs.Pool.{kept-count, ended, Fills, Takes, Goes-on};
 use libc::STDIN_FILENO;
 use libc::STDOUT_FILENO;
 use service::Service;
@@ -38,7 +42,9 @@ pub struct Wrote {
 }
 
 // One read into buf behind its first `have` bytes: how many bytes are there then.
-fn fill(buf: &mut [u8], have: usize) -> Read {
+fn fill(buf: &mut [u8], have: usize) -> Read
+    ensures { λ r. ⌜ Fills (now (buf .entry)) (now (buf .exit)) have r ⌝ }
+{
     if buf.len() <= have {
         return Read::Failed;
     }
@@ -94,10 +100,10 @@ fn write(text: &[u8]) -> bool {
     false
 }
 
-// Moves the bytes from `at` to n to the front of buf, and answers how many they are.
+// Moves the bytes from `at` to n to the front of buf, and answers how many they are: none of a buf with fewer than n.
 fn keep(buf: &mut [u8], at: usize, n: usize) -> usize
-    ensures count { λ r. ⌜ (at ≤ n → n ≤ length (now (buf .entry)) → r ≡ n - at) ⌝ }
-    ensures moved { λ r. ⌜ ((i : ℕ) → i < r → getD (now (buf .exit)) i 0 ≡ getD (now (buf .entry)) (at + i) 0) ⌝ }
+    ensures count { λ r. ⌜ r ≡ kept-count at n (length (now (buf .entry))) ⌝ }
+    ensures left { λ r. ⌜ now (buf .exit) ≡ sets (now (buf .entry)) 0 (take r (drop at (now (buf .entry)))) ⌝ }
 {
     if n < at {
         return 0;
@@ -114,7 +120,9 @@ fn keep(buf: &mut [u8], at: usize, n: usize) -> usize
     left
 }
 
-fn stopped(service: Service, offset: u64) -> Live {
+fn stopped(service: Service, offset: u64) -> Live
+    ensures { λ r. ⌜ r ≡ ended service offset ⌝ }
+{
     Live {
         service,
         have: 0,
@@ -125,7 +133,10 @@ fn stopped(service: Service, offset: u64) -> Live {
 }
 
 // The line of refusal 7, and the end of the run.
-fn refuse(service: Service, offset: u64, out: &mut [u8]) -> Live {
+fn refuse(service: Service, offset: u64, out: &mut [u8]) -> Live
+    ensures result { λ r. ⌜ r ≡ ended service offset ⌝ }
+    ensures left { λ r. ⌜ now (out .exit) ≡ cut-left offset (now (out .entry)) ⌝ }
+{
     let n = stream::cut(offset, out);
     if n <= out.len() {
         write(&out[..n]);
@@ -134,7 +145,9 @@ fn refuse(service: Service, offset: u64, out: &mut [u8]) -> Live {
 }
 
 // Feeds the first n bytes of buf, and writes the lines.
-fn take(service: Service, buf: &mut [u8], n: usize, offset: u64, out: &mut [u8]) -> Live {
+fn take(service: Service, buf: &mut [u8], n: usize, offset: u64, out: &mut [u8]) -> Live
+    ensures { λ r. ⌜ Takes service (now (buf .entry)) (now (buf .exit)) n offset (length (now (out .entry))) r ⌝ }
+{
     if buf.len() < n {
         return stopped(service, offset);
     }
@@ -187,7 +200,9 @@ fn take(service: Service, buf: &mut [u8], n: usize, offset: u64, out: &mut [u8])
 }
 
 // One turn: a read where more bytes are needed, and the records that are whole.
-fn turn(live: Live, buf: &mut [u8], out: &mut [u8]) -> Live {
+fn turn(live: Live, buf: &mut [u8], out: &mut [u8]) -> Live
+    ensures { λ r. ⌜ (r .done ≡ false → Goes-on live (now (buf .entry)) (now (buf .exit)) (length (now (out .entry))) r) ⌝ }
+{
     let service = live.service;
     let have = live.have;
     let offset = live.offset;

@@ -1,5 +1,5 @@
--- Records: the lines of an input, record by record. Feeding, Turns: what holds at each turn of feed. Promise: the theorems of specs/Promise.antt.
+-- Records: the records of an input. Turns: one record's answer and line. Feeding: what holds at each turn of feed. Promise: the theorems of specs/Promise.antt.
 pub mod Records
-pub mod Feeding
 pub mod Turns
+pub mod Feeding
 pub mod Promise

@@ -1,20 +1,20 @@
 -- That the lines of the record stream are those of document 01's service.
---   step-right, answers-run, lines-right, cut-free, opens-as-new, seven-ends     the statements of specs/Promise.antt
+--   step-right, answers-run, lines-right, cut-free, fed-right, opens-as-new, seven-ends     the statements of specs/Promise.antt
 -- Assumes nothing.
-use mathlib.Core.Path.{_≡_, refl, sym, ap, _∙_}
+use mathlib.Core.Path.{_≡_, refl, sym, ap, ap₂, _∙_, subst}
 use mathlib.Core.Logic.{_≢_}
 use mathlib.Core.Bool.{true}
 use mathlib.Core.List.{List, [], _∷_, _++_, append-assoc}
-use Prim.Native.Nat.{ℕ, zero, suc, _+_, _≤_}
-use native.Mathlib.Nat.{add-zero, zero-add}
+use Prim.Native.Nat.{ℕ, zero, suc, _+_, _-_, _^_, _≤_}
 use native.Mathlib.Decide.{decLe, ℕ-discrete}
 use native.Mathlib.Omega.{arith}
-use lib.ListN.{length, getD, drop, length-drop}
-use borrow.Author.Tests.{eq-eqb, ne-eqb, lt-ltb, le-ltb, ltb-true}
+use lib.ListN.{length, getD, take, drop, take-append-drop}
+use lib.Seq.{length-take-le}
+use borrow.Author.Tests.{ne-eqb, ltb-true}
 use Rattle.scheme.specs.Service.{plan-record, open-record, first-record, close-record, reply-record, finish-record, refused, done, more}
 use Rattle.scheme.proofs.Tests.{holds}
 use Rattle.service.specs.declared.Service.{Service}
-use Rattle.service.specs.View.{view}
+use Rattle.service.specs.View.{view, Formed}
 use Rattle.service.specs.Promise.{Plan-steps, Open-steps, First-steps, Reply-steps, Close-steps}
 use Rattle.service.specs.Promise as service
 use Rattle.service.proofs.Steps.{plan-steps, open-steps, first-steps, reply-steps, close-steps}
@@ -22,9 +22,14 @@ use Rattle.service.proofs.Steps as calls
 use Rattle.finish.specs.Promise.{Finish-steps}
 use Rattle.finish.proofs.Steps.{finish-steps}
 use Rattle.lines.specs.Text.{line}
-use Rattle.stream.specs.Stream.{record-length, record-at, Item, taken, broken, items-from, items, plan-from, step, answers, text, lines}
-use Rattle.stream.specs.Promise.{Step-right, records-of, answers-of, all-taken, last-state, Answers-run, whole-of, ending, Lines-right, Cut-free, Opens-as-new, breaks-off, Seven-ends}
-use Rattle.stream.proofs.Records.{lines-broken, lines-turn}
+use Rattle.lines.specs.Put.{room}
+use Rattle.stream.specs.declared.Stop.{Stop}
+use Rattle.stream.specs.declared.Stop.the-variants.{Used, Unknown, Partial, Full, Far}
+use Rattle.stream.specs.Stream.{record-length, record-at, Item, taken, broken, items, plan-from, step, answers, text, lines, halt, fed-from, fed}
+use Rattle.stream.specs.Promise.{Step-right, records-of, answers-of, all-taken, last-state, Answers-run, whole-of, ending, Lines-right, Cut-free, Stops, Fed-says, Fed-right, Opens-as-new, breaks-off, Seven-ends}
+use Rattle.stream.proofs.Records.{items-append, text-append, lines-broken}
+use Rattle.stream.proofs.Turns.{line-short}
+use Rattle.stream.proofs.Feeding.{Along, along-start, along-next, fed-used, fed-unknown, fed-partial, fed-full, fed-more, fed-far, fed-near}
 
 pub step-right : Step-right
 unfolding Step-right step Plan-steps Open-steps First-steps Reply-steps Close-steps Finish-steps
@@ -65,50 +70,56 @@ unfolding Lines-right Answers-run lines
 lines-right s o b w = record { steps = answers-run s (whole-of (items o b)) w (whole-taken (items o b)); said = whole-then s (items o b) }
 
 -- ---- the input cut in two after whole records
-module _ (c : List ℕ) where
-  abbrev Cut : Service → (o : ℕ) → (a : List ℕ) → List Item → Type 0
-  Cut s o a l = all-taken l ≡ true → lines s o (a ++ c) ≡ text (answers s l) ++ lines (last-state s l) (o + length a) c
-
-  cut-none : (s : Service) (o : ℕ) → Cut s o [] []
-  unfolding last-state answers text
-  cut-none s o e = ap (λ (i : ℕ). lines s i c) (sym (add-zero o))
-
-  cut-more : (s : Service) (o : ℕ) (a : List ℕ) (l : List Item) → record-length (getD a 0 0) ≢ 0 → record-length (getD a 0 0) ≤ length a
-      → Cut (step s (record-at a 0) .service) (o + record-length (getD a 0 0)) (drop (record-length (getD a 0 0)) a) l → Cut s o a (taken o (record-at a 0) ∷ l)
-  unfolding all-taken last-state answers text
-  cut-more s o a l ne h rest e =
-      let m : ℕ = record-length (getD a 0 0) in
-      let x : List ℕ = line o (step s (record-at a 0) .answer) in
-      let t : Service = step s (record-at a 0) .service in
-      let far : o + record-length (getD a 0 0) + length (drop (record-length (getD a 0 0)) a) ≡ o + length a = omega (arith, length-drop (record-length (getD a 0 0)) a) in
-      lines-turn a c 0 s o ne (omega arith)
-      ∙ ap (λ (i : ℕ). x ++ lines t (o + m) (drop i a ++ c)) (zero-add m)
-      ∙ ap (λ (y : List ℕ). x ++ y) (rest e)
-      ∙ sym (append-assoc x (text (answers t l)) (lines (last-state t l) (o + m + length (drop m a)) c))
-      ∙ ap (λ (i : ℕ). (x ++ text (answers t l)) ++ lines (last-state t l) i c) far
-
-  cut-from : (n : ℕ) (s : Service) (o : ℕ) (a : List ℕ) → length a ≤ n → Cut s o a (items-from n o a)
-  unfolding items-from all-taken
-  cut-from zero s o [] l = cut-none s o
-  cut-from zero s o (k ∷ b) l = absurd (omega arith)
-  cut-from (suc n) s o [] l = cut-none s o
-  cut-from (suc n) s o (k ∷ b) l =
-      one (ℕ-discrete (record-length k) 0) (decLe (record-length k) (length (k ∷ b)))
-      (λ p. cut-from n (step s (record-at (k ∷ b) 0) .service) (o + record-length k) (drop (record-length k) (k ∷ b)) (omega (arith, length-drop (record-length k) (k ∷ b))))
-    where
-      one : Dec (record-length k ≡ 0) → Dec (record-length k ≤ length (k ∷ b))
-          → (1 ≤ record-length k → Cut (step s (record-at (k ∷ b) 0) .service) (o + record-length k) (drop (record-length k) (k ∷ b)) (items-from n (o + record-length k) (drop (record-length k) (k ∷ b))))
-          → Cut s o (k ∷ b) (items-from (suc n) o (k ∷ b))
-      one (yes z) d ih = rw (eq-eqb (record-length k) 0 z) (λ e. absurd (holds e))
-      one (no ne) (no h) ih = rw (ne-eqb (record-length k) 0 ne, lt-ltb (length (k ∷ b)) (record-length k) (omega arith)) (λ e. absurd (holds e))
-      one (no ne) (yes h) ih =
-          rw (ne-eqb (record-length k) 0 ne, le-ltb (length (k ∷ b)) (record-length k) h)
-          (cut-more s o (k ∷ b) (items-from n (o + record-length k) (drop (record-length k) (k ∷ b))) ne h (ih (omega arith)))
-
 pub cut-free : Cut-free
-unfolding Cut-free items lines
-cut-free s o a c e = cut-from c (length a) s o a (omega arith) e
+unfolding Cut-free lines
+cut-free s o a c e =
+    ap (λ (l : List Item). text (answers s l)) (items-append o a c e) ∙ text-append s (items o a) (items (o + length a) c) e
 
+-- ---- a chunk at a time
+module _ (s : Service) (b : List ℕ) (o n : ℕ) where
+  halted : (t : Service) (at w : ℕ) (e : Stop) → Along s b o t at w → w ≤ n → Stops e b o n at w → Fed-says s b o n (halt t at w e)
+  unfolding Cut-free Answers-run
+  halted t at w e g h y =
+      record {
+        inside = g .inside;
+        fits = h;
+        whole = g .whole;
+        state = g .state;
+        formed = λ f. subst Formed (sym (g .state)) (answers-run s (items o (take at b)) f (g .whole) .formed);
+        written = g .written;
+        same = λ rest.
+            ap (λ (l : List ℕ). lines s o (l ++ rest)) (sym (take-append-drop at b)) ∙ ap (lines s o) (append-assoc (take at b) (drop at b) rest)
+            ∙ cut-free s o (take at b) (drop at b ++ rest) (g .whole)
+            ∙ ap₂ (λ (u : Service) (i : ℕ). lines s o (take at b) ++ lines u (o + i) (drop at b ++ rest)) (sym (g .state)) (length-take-le at b (g .inside));
+        why = y;
+      }
+
+  says-from : (m : ℕ) (t : Service) (at w : ℕ) → Along s b o t at w → w ≤ n → length b ≤ at + m → Fed-says s b o n (fed-from m t b o n at w)
+  unfolding Stops
+  says-from zero t at w g h l = rw (fed-used zero t b o n at w (omega arith)) (halted t at w Used g h (omega (arith, g .inside)))
+  says-from (suc m) t at w g h l =
+      one (decLe (length b) at) (ℕ-discrete (record-length (getD b at 0)) 0) (decLe (record-length (getD b at 0)) (length b - at)) (decLe room (n - w))
+      (λ ne i f. says-from m _ _ _ (along-next g ne i) f (omega arith))
+    where
+      one : Dec (length b ≤ at) → Dec (record-length (getD b at 0) ≡ 0) → Dec (record-length (getD b at 0) ≤ length b - at) → Dec (room ≤ n - w)
+          → (record-length (getD b at 0) ≢ 0 → at + record-length (getD b at 0) ≤ length b → w + length (line (o + at) (step t (record-at b at) .answer)) ≤ n
+          → Fed-says s b o n (fed-from m (step t (record-at b at) .service) b o n (at + record-length (getD b at 0)) (w + length (line (o + at) (step t (record-at b at) .answer)))))
+          → Fed-says s b o n (fed-from (suc m) t b o n at w)
+      one (yes a) d p f ih = rw (fed-used (suc m) t b o n at w a) (halted t at w Used g h (omega (arith, g .inside)))
+      one (no a) (yes z) p f ih = rw (fed-unknown m t b o n at w (omega arith) z) (halted t at w Unknown g h (omega arith, z))
+      one (no a) (no z) (no p) f ih = rw (fed-partial m t b o n at w (omega arith) z (omega arith)) (halted t at w Partial g h (omega arith, omega arith))
+      one (no a) (no z) (yes p) (no f) ih = rw (fed-full m t b o n at w (omega arith) z p (omega arith)) (halted t at w Full g h (omega arith, omega arith))
+      one (no a) (no z) (yes p) (yes f) ih = rw (fed-more m t b o n at w (omega arith) z p f) (ih z (omega arith) (omega (arith, line-short (o + at) t (record-at b at))))
+
+pub fed-right : Fed-right
+unfolding Fed-right Stops
+fed-right s b o n = pick (decLe (2 ^ 64) (o + length b))
+  where
+    pick : Dec (2 ^ 64 ≤ o + length b) → Fed-says s b o n (fed s b o n)
+    pick (yes h) = rw (← fed-far s b o n h) (halted s b o n s 0 0 Far (along-start s b o) (omega arith) (h, refl))
+    pick (no h) = rw (← fed-near s b o n (omega arith)) (says-from s b o n (length b) s 0 0 (along-start s b o) (omega arith) (omega arith))
+
+-- ---- a new round; refusal 7
 pub opens-as-new : Opens-as-new
 unfolding Opens-as-new service.Opens-as-new
 opens-as-new s r o b w e = ap (λ t. lines (t .service) o b) (calls.opens-as-new s r w e)

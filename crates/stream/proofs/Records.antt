@@ -1,23 +1,79 @@
--- The lines of an input, record by record.
---   lines-none, lines-broken, lines-whole     no byte left; an unknown kind or a cut record; a whole record
---   record-within                             a record within a chunk does not depend on what follows
---   lines-turn                                the same at a place of a chunk, whatever follows it
+-- The records of an input, and its lines record by record.
+--   record-same                   a record's bytes alone say which record it is
+--   items-append                  of an input cut in two after whole records
+--   items-next                    one record further in a chunk
+--   taken-append, state-append, text-append     of two lists of records, the first all whole
+--   lines-broken                  an unknown kind or a cut record
 -- Assumes nothing.
 use mathlib.Core.Path.{_≡_, refl, sym, ap, ap₂, _∙_}
-use mathlib.Core.Logic.{_≢_, _⊎_, inl, inr}
-use mathlib.Core.List.{List, [], _∷_, _++_, append-nil}
-use Prim.Native.Nat.{ℕ, zero, suc, _+_, _-_, _≤_, _<_}
-use native.Mathlib.Nat.{add-zero}
-use native.Mathlib.Decide.{ℕ-discrete}
+use mathlib.Core.Logic.{_≢_}
+use mathlib.Core.Bool.{true}
+use mathlib.Core.List.{List, [], _∷_, _++_, append-nil, append-assoc}
+use Prim.Native.Nat.{ℕ, zero, suc, _+_, _≤_, _<_}
+use native.Mathlib.Nat.{add-zero, zero-add}
+use native.Mathlib.Decide.{decLe, ℕ-discrete}
 use native.Mathlib.Omega.{arith}
-use lib.ListN.{length, getD, drop, length-append, length-drop, List·getD-append}
-use lib.Seq.{getD-drop, drop-append-le, drop-drop}
+use lib.ListN.{length, getD, take, drop, length-append, length-drop, List·getD-append}
+use lib.Seq.{getD-take, getD-drop, drop-append-le, drop-length, take-add, length-take-le}
 use borrow.Author.Tests.{eq-eqb, ne-eqb, lt-ltb, le-ltb}
 use Rattle.scheme.specs.Service.{Record, refused}
+use Rattle.scheme.proofs.Tests.{holds}
 use Rattle.service.specs.declared.Service.{Service}
 use Rattle.lines.specs.Text.{line}
-use Rattle.stream.specs.Stream.{record-length, record-at, Item, items-from, items, step, answers, text, lines}
+use Rattle.stream.specs.Stream.{record-length, record-at, Item, taken, broken, items-from, items, step, answers, text, lines}
+use Rattle.stream.specs.Promise.{all-taken, last-state}
 
+-- ---- a record by its bytes
+-- a byte that is the kind of a record
+data Kind : ℕ → Type 0 where
+  plan : Kind 1
+  opening : Kind 2
+  first : Kind 3
+  close : Kind 4
+  reply : Kind 5
+  finish : Kind 6
+
+past : (k : ℕ) → 6 < k → record-length k ≡ 0
+unfolding record-length
+past k h =
+    rw (ne-eqb k 1 (λ e. omega arith), ne-eqb k 2 (λ e. omega arith), ne-eqb k 3 (λ e. omega arith), ne-eqb k 4 (λ e. omega arith), ne-eqb k 5 (λ e. omega arith), ne-eqb k 6 (λ e. omega arith))
+
+kind : (k : ℕ) → record-length k ≢ 0 → Kind k
+unfolding record-length
+kind zero h = absurd (h refl)
+kind (suc zero) h = plan
+kind (suc (suc zero)) h = opening
+kind (suc (suc (suc zero))) h = first
+kind (suc (suc (suc (suc zero)))) h = close
+kind (suc (suc (suc (suc (suc zero))))) h = reply
+kind (suc (suc (suc (suc (suc (suc zero)))))) h = finish
+kind (suc (suc (suc (suc (suc (suc (suc k))))))) h = absurd (h (past (suc (suc (suc (suc (suc (suc (suc k))))))) (omega arith)))
+
+module _ (a b : List ℕ) (i j : ℕ) (same : (k : ℕ) → k < record-length (getD a i 0) → getD a (i + k) 0 ≡ getD b (j + k) 0) where
+  byte : (k p q : ℕ) → k < record-length (getD a i 0) → i + k ≡ p → j + k ≡ q → getD a p 0 ≡ getD b q 0
+  byte k p q h e f = ap (λ (n : ℕ). getD a n 0) (sym e) ∙ same k h ∙ ap (λ (n : ℕ). getD b n 0) f
+
+  record-kind : (k : ℕ) → getD a i 0 ≡ k → getD b j 0 ≡ k → Kind k → record-at a i ≡ record-at b j
+  unfolding record-at record-length
+  record-kind k d e plan =
+      let n : record-length (getD a i 0) ≡ 5 = ap record-length d in
+      rw (d, e, byte 1 (i + 1) (j + 1) (omega arith) refl refl, byte 2 (i + 2) (j + 2) (omega arith) refl refl, byte 3 (i + 3) (j + 3) (omega arith) refl refl, byte 4 (i + 4) (j + 4) (omega arith) refl refl)
+  record-kind k d e opening =
+      let n : record-length (getD a i 0) ≡ 5 = ap record-length d in
+      rw (d, e, byte 1 (i + 1) (j + 1) (omega arith) refl refl, byte 2 (i + 1 + 1) (j + 1 + 1) (omega arith) (omega arith) (omega arith), byte 3 (i + 1 + 2) (j + 1 + 2) (omega arith) (omega arith) (omega arith), byte 4 (i + 1 + 2 + 1) (j + 1 + 2 + 1) (omega arith) (omega arith) (omega arith))
+  record-kind k d e first =
+      let n : record-length (getD a i 0) ≡ 6 = ap record-length d in
+      rw (d, e, byte 1 (i + 1) (j + 1) (omega arith) refl refl, byte 2 (i + 2) (j + 2) (omega arith) refl refl, byte 3 (i + 2 + 1) (j + 2 + 1) (omega arith) (omega arith) (omega arith), byte 4 (i + 4) (j + 4) (omega arith) refl refl, byte 5 (i + 4 + 1) (j + 4 + 1) (omega arith) (omega arith) (omega arith))
+  record-kind k d e close = rw (d, e)
+  record-kind k d e reply =
+      let n : record-length (getD a i 0) ≡ 5 = ap record-length d in
+      rw (d, e, byte 1 (i + 1) (j + 1) (omega arith) refl refl, byte 2 (i + 2) (j + 2) (omega arith) refl refl, byte 3 (i + 3) (j + 3) (omega arith) refl refl, byte 4 (i + 3 + 1) (j + 3 + 1) (omega arith) (omega arith) (omega arith))
+  record-kind k d e finish = rw (d, e)
+
+  pub record-same : record-length (getD a i 0) ≢ 0 → record-at a i ≡ record-at b j
+  record-same ne = record-kind (getD a i 0) refl (sym (byte 0 i j (omega arith) (add-zero i) (add-zero j))) (kind (getD a i 0) ne)
+
+-- ---- an input cut in two
 -- more fuel than bytes changes nothing
 fuel : (n m o : ℕ) (b : List ℕ) → length b ≤ n → length b ≤ m → items-from n o b ≡ items-from m o b
 unfolding items-from
@@ -34,113 +90,94 @@ fuel (suc n) (suc m) o (k ∷ b) h l = go (ℕ-discrete (record-length k) 0) (λ
     go (yes e) ih = rw (eq-eqb (record-length k) 0 e)
     go (no e) ih = rw (ih (omega arith))
 
-module _ (s : Service) (o : ℕ) where
-  pub lines-none : lines s o [] ≡ []
-  unfolding lines items items-from answers text
-  lines-none = refl
+module _ (c : List ℕ) where
+  abbrev Joins : (n m o : ℕ) → (a : List ℕ) → Type 0
+  Joins n m o a = all-taken (items-from n o a) ≡ true → items-from m o (a ++ c) ≡ items-from n o a ++ items (o + length a) c
 
-  -- at an unknown kind, or a record that is not whole
-  pub lines-broken : (b : List ℕ) → 0 < length b → (record-length (getD b 0 0) ≢ 0 → length b < record-length (getD b 0 0)) → lines s o b ≡ line o (refused 7)
-  unfolding lines items items-from answers text
-  lines-broken [] h l = absurd (omega arith)
-  lines-broken (k ∷ b) h l = pick (ℕ-discrete (record-length k) 0)
+  joins-none : (n m o : ℕ) → length c ≤ m → Joins n m o []
+  unfolding items-from items
+  joins-none zero m o h e = fuel m (length c) o c h (omega arith) ∙ ap (λ (i : ℕ). items-from (length c) i c) (sym (add-zero o))
+  joins-none (suc n) m o h e = fuel m (length c) o c h (omega arith) ∙ ap (λ (i : ℕ). items-from (length c) i c) (sym (add-zero o))
+
+  joins : (n m o : ℕ) (a : List ℕ) → length a ≤ n → length (a ++ c) ≤ m → Joins n m o a
+  unfolding items-from all-taken
+  joins zero m o [] h l = joins-none zero m o l
+  joins zero m o (k ∷ b) h l = absurd (omega arith)
+  joins (suc n) m o [] h l = joins-none (suc n) m o l
+  joins (suc n) zero o (k ∷ b) h l = absurd (omega arith)
+  joins (suc n) (suc m) o (k ∷ b) h l =
+      one (ℕ-discrete (record-length k) 0) (decLe (record-length k) (length (k ∷ b)))
+      (λ p. joins n m (o + record-length k) (drop (record-length k) (k ∷ b)) (omega (arith, length-drop (record-length k) (k ∷ b)))
+      (omega (arith, length-drop (record-length k) (k ∷ b), length-append b c, length-append (drop (record-length k) (k ∷ b)) c)))
     where
-      pick : Dec (record-length k ≡ 0) → lines s o (k ∷ b) ≡ line o (refused 7)
-      pick (yes e) = rw (eq-eqb (record-length k) 0 e) (append-nil (line o (refused 7)))
-      pick (no e) = rw (ne-eqb (record-length k) 0 e, lt-ltb (length (k ∷ b)) (record-length k) (l e)) (append-nil (line o (refused 7)))
+      one : Dec (record-length k ≡ 0) → Dec (record-length k ≤ length (k ∷ b)) → (1 ≤ record-length k → Joins n m (o + record-length k) (drop (record-length k) (k ∷ b)))
+          → Joins (suc n) (suc m) o (k ∷ b)
+      one (yes z) d ih = rw (eq-eqb (record-length k) 0 z) (λ e. absurd (holds e))
+      one (no ne) (no h) ih = rw (ne-eqb (record-length k) 0 ne, lt-ltb (length (k ∷ b)) (record-length k) (omega arith)) (λ e. absurd (holds e))
+      one (no ne) (yes h) ih =
+          let far : o + record-length k + length (drop (record-length k) (k ∷ b)) ≡ o + length (k ∷ b) = omega (arith, length-drop (record-length k) (k ∷ b)) in
+          rw (ne-eqb (record-length k) 0 ne, le-ltb (length (k ∷ b)) (record-length k) h, le-ltb (length (k ∷ (b ++ c))) (record-length k) (omega (arith, length-append b c)))
+          (λ e. ap₂ (λ (r : Record) (l : List Item). taken o r ∷ l)
+          (sym (record-same (k ∷ b) (k ∷ (b ++ c)) 0 0 (λ i l. sym (List·getD-append (k ∷ b) c 0 (0 + i) (omega arith))) ne))
+          (ap (items-from m (o + record-length k)) (drop-append-le (record-length k) (k ∷ b) c h) ∙ ih (omega arith) e
+          ∙ ap (λ (i : ℕ). items-from n (o + record-length k) (drop (record-length k) (k ∷ b)) ++ items i c) far))
 
-  pub lines-whole : (b : List ℕ) → record-length (getD b 0 0) ≢ 0 → record-length (getD b 0 0) ≤ length b
-      → lines s o b ≡ line o (step s (record-at b 0) .answer) ++ lines (step s (record-at b 0) .service) (o + record-length (getD b 0 0)) (drop (record-length (getD b 0 0)) b)
-  unfolding lines items items-from answers text
-  lines-whole [] h l = absurd (h (omega arith))
-  lines-whole (k ∷ b) h l =
-      rw (ne-eqb (record-length k) 0 h, le-ltb (length (k ∷ b)) (record-length k) l)
-      (ap (λ (i : List Item). line o (step s (record-at (k ∷ b) 0) .answer) ++ text (answers (step s (record-at (k ∷ b) 0) .service) i))
-      (fuel (length b) (length (drop (record-length k) (k ∷ b))) (o + record-length k) (drop (record-length k) (k ∷ b)) (omega (arith, length-drop (record-length k) (k ∷ b))) (omega arith)))
+pub items-append : (o : ℕ) (a c : List ℕ) → all-taken (items o a) ≡ true → items o (a ++ c) ≡ items o a ++ items (o + length a) c
+unfolding items
+items-append o a c e = joins c (length a) (length (a ++ c)) o a (omega arith) (omega arith) e
 
--- ---- at a place of a chunk, whatever follows it
-module _ (b rest : List ℕ) (at : ℕ) where
-  byte : (j i : ℕ) → at + j ≡ i → i < length b → getD (drop at b ++ rest) j 0 ≡ getD b i 0
-  byte j i e h =
-      List·getD-append (drop at b) rest 0 j (omega (arith, length-drop at b)) ∙ getD-drop at b j 0 ∙ ap (λ (n : ℕ). getD b n 0) e
+-- ---- one record
+items-one : (o : ℕ) (c : List ℕ) → record-length (getD c 0 0) ≢ 0 → record-length (getD c 0 0) ≡ length c → items o c ≡ taken o (record-at c 0) ∷ []
+unfolding items items-from
+items-one o [] h l = absurd (h l)
+items-one o (k ∷ b) h l =
+    rw (ne-eqb (record-length k) 0 h, le-ltb (length (k ∷ b)) (record-length k) (omega arith))
+    (ap (λ (x : List Item). taken o (record-at (k ∷ b) 0) ∷ x)
+    (ap (λ (x : List ℕ). items-from (length b) (o + record-length k) x) (ap (λ (i : ℕ). drop i (k ∷ b)) l ∙ drop-length (k ∷ b))
+    ∙ fuel (length b) 0 (o + record-length k) [] (omega arith) (omega arith)))
 
-  kind-within : at < length b → getD (drop at b ++ rest) 0 0 ≡ getD b at 0
-  kind-within h = byte 0 at (add-zero at) h
+pub items-next : (o : ℕ) (b : List ℕ) (at : ℕ) → record-length (getD b at 0) ≢ 0 → at + record-length (getD b at 0) ≤ length b
+    → all-taken (items o (take at b)) ≡ true → items o (take (at + record-length (getD b at 0)) b) ≡ items o (take at b) ++ (taken (o + at) (record-at b at) ∷ [])
+items-next o b at ne l e =
+    let n = record-length (getD b at 0) in
+    let c = take (record-length (getD b at 0)) (drop at b) in
+    let here : (k : ℕ) → k < record-length (getD b at 0) → getD b (at + k) 0 ≡ getD (take (record-length (getD b at 0)) (drop at b)) (0 + k) 0
+    = λ k h. sym (ap (λ (i : ℕ). getD c i 0) (zero-add k) ∙ getD-take n (drop at b) k 0 h ∙ getD-drop at b k 0) in
+    let long : length (take (record-length (getD b at 0)) (drop at b)) ≡ record-length (getD b at 0) = length-take-le n (drop at b) (omega (arith, length-drop at b)) in
+    let first : getD b at 0 ≡ getD c 0 0 = ap (λ (i : ℕ). getD b i 0) (sym (add-zero at)) ∙ here 0 (omega arith) in
+    ap (items o) (take-add at n b) ∙ items-append o (take at b) c e
+    ∙ ap (λ (i : ℕ). items o (take at b) ++ items (o + i) c) (length-take-le at b (omega arith))
+    ∙ ap (λ (l : List Item). items o (take at b) ++ l)
+    (items-one (o + at) c (λ z. ne (ap record-length first ∙ z)) (sym (ap record-length first) ∙ sym long) ∙ ap (λ (r : Record). taken (o + at) r ∷ []) (sym (record-same b c at 0 here ne)))
 
-  plan-within : at + 5 ≤ length b → getD b at 0 ≡ 1 → record-at (drop at b ++ rest) 0 ≡ record-at b at
-  unfolding record-at
-  plan-within l e =
-      rw (kind-within (omega arith), e, byte 1 (at + 1) refl (omega arith), byte 2 (at + 2) refl (omega arith), byte 3 (at + 3) refl (omega arith), byte 4 (at + 4) refl (omega arith))
+-- ---- two lists of records
+pub taken-append : (l m : List Item) → all-taken l ≡ true → all-taken (l ++ m) ≡ all-taken m
+unfolding all-taken
+taken-append [] m e = refl
+taken-append (taken o r ∷ l) m e = taken-append l m e
+taken-append (broken o ∷ l) m e = absurd (holds e)
 
-  open-within : at + 5 ≤ length b → getD b at 0 ≡ 2 → record-at (drop at b ++ rest) 0 ≡ record-at b at
-  unfolding record-at
-  open-within l e =
-      rw (kind-within (omega arith), e, byte 1 (at + 1) refl (omega arith), byte 2 (at + 1 + 1) (omega arith) (omega arith), byte 3 (at + 1 + 2) (omega arith) (omega arith), byte 4 (at + 1 + 2 + 1) (omega arith) (omega arith))
+pub state-append : (s : Service) (l m : List Item) → all-taken l ≡ true → last-state s (l ++ m) ≡ last-state (last-state s l) m
+unfolding all-taken last-state
+state-append s [] m e = refl
+state-append s (taken o r ∷ l) m e = state-append (step s r .service) l m e
+state-append s (broken o ∷ l) m e = absurd (holds e)
 
-  first-within : at + 6 ≤ length b → getD b at 0 ≡ 3 → record-at (drop at b ++ rest) 0 ≡ record-at b at
-  unfolding record-at
-  first-within l e =
-      rw (kind-within (omega arith), e, byte 1 (at + 1) refl (omega arith), byte 2 (at + 2) refl (omega arith), byte 3 (at + 2 + 1) (omega arith) (omega arith), byte 4 (at + 4) refl (omega arith), byte 5 (at + 4 + 1) (omega arith) (omega arith))
+pub text-append : (s : Service) (l m : List Item) → all-taken l ≡ true → text (answers s (l ++ m)) ≡ text (answers s l) ++ text (answers (last-state s l) m)
+unfolding all-taken last-state answers text
+text-append s [] m e = refl
+text-append s (taken o r ∷ l) m e =
+    let t = step s r .service in
+    ap (λ (x : List ℕ). line o (step s r .answer) ++ x) (text-append t l m e)
+    ∙ sym (append-assoc (line o (step s r .answer)) (text (answers t l)) (text (answers (last-state t l) m)))
+text-append s (broken o ∷ l) m e = absurd (holds e)
 
-  reply-within : at + 5 ≤ length b → getD b at 0 ≡ 5 → record-at (drop at b ++ rest) 0 ≡ record-at b at
-  unfolding record-at
-  reply-within l e =
-      rw (kind-within (omega arith), e, byte 1 (at + 1) refl (omega arith), byte 2 (at + 2) refl (omega arith), byte 3 (at + 3) refl (omega arith), byte 4 (at + 3 + 1) (omega arith) (omega arith))
-
-  bare-within : (k : ℕ) → getD b at 0 ≡ k → at < length b → (k ≡ 4) ⊎ (k ≡ 6) → record-at (drop at b ++ rest) 0 ≡ record-at b at
-  unfolding record-at
-  bare-within k e h (inl f) = rw (kind-within h, e, f)
-  bare-within k e h (inr f) = rw (kind-within h, e, f)
-
-  -- a record that lies within the chunk
-  pub record-within : record-length (getD b at 0) ≢ 0 → at + record-length (getD b at 0) ≤ length b → record-at (drop at b ++ rest) 0 ≡ record-at b at
-  unfolding record-length
-  record-within ne l = one (ℕ-discrete (getD b at 0) 1)
-    where
-      k : ℕ
-      k = getD b at 0
-
-      room : (n m : ℕ) → k ≡ n → record-length n ≡ m → at + m ≤ length b
-      room n m e f = let g : record-length (getD b at 0) ≡ m = ap record-length e ∙ f in omega arith
-
-      six : Dec (k ≡ 6) → k ≢ 1 → k ≢ 2 → k ≢ 3 → k ≢ 4 → k ≢ 5 → record-at (drop at b ++ rest) 0 ≡ record-at b at
-      six (yes e) n1 n2 n3 n4 n5 = bare-within 6 e (let r = room 6 1 e refl in omega arith) (inr refl)
-      six (no n6) n1 n2 n3 n4 n5 = absurd (ne (rw (ne-eqb k 1 n1, ne-eqb k 2 n2, ne-eqb k 3 n3, ne-eqb k 4 n4, ne-eqb k 5 n5, ne-eqb k 6 n6)))
-
-      five : Dec (k ≡ 5) → k ≢ 1 → k ≢ 2 → k ≢ 3 → k ≢ 4 → record-at (drop at b ++ rest) 0 ≡ record-at b at
-      five (yes e) n1 n2 n3 n4 = reply-within (room 5 5 e refl) e
-      five (no n5) n1 n2 n3 n4 = six (ℕ-discrete k 6) n1 n2 n3 n4 n5
-
-      four : Dec (k ≡ 4) → k ≢ 1 → k ≢ 2 → k ≢ 3 → record-at (drop at b ++ rest) 0 ≡ record-at b at
-      four (yes e) n1 n2 n3 = bare-within 4 e (let r = room 4 1 e refl in omega arith) (inl refl)
-      four (no n4) n1 n2 n3 = five (ℕ-discrete k 5) n1 n2 n3 n4
-
-      three : Dec (k ≡ 3) → k ≢ 1 → k ≢ 2 → record-at (drop at b ++ rest) 0 ≡ record-at b at
-      three (yes e) n1 n2 = first-within (room 3 6 e refl) e
-      three (no n3) n1 n2 = four (ℕ-discrete k 4) n1 n2 n3
-
-      two : Dec (k ≡ 2) → k ≢ 1 → record-at (drop at b ++ rest) 0 ≡ record-at b at
-      two (yes e) n1 = open-within (room 2 5 e refl) e
-      two (no n2) n1 = three (ℕ-discrete k 3) n1 n2
-
-      one : Dec (k ≡ 1) → record-at (drop at b ++ rest) 0 ≡ record-at b at
-      one (yes e) = plan-within (room 1 5 e refl) e
-      one (no n1) = two (ℕ-discrete k 2) n1
-
-  pub lines-turn : (s : Service) (o : ℕ) → record-length (getD b at 0) ≢ 0 → at + record-length (getD b at 0) ≤ length b
-      → lines s o (drop at b ++ rest)
-      ≡ line o (step s (record-at b at) .answer) ++ lines (step s (record-at b at) .service) (o + record-length (getD b at 0)) (drop (at + record-length (getD b at 0)) b ++ rest)
-  lines-turn s o ne l =
-      let n = record-length (getD b at 0) in
-      let first : at < length b = positive n ne l in
-      let k : getD (drop at b ++ rest) 0 0 ≡ getD b at 0 = kind-within first in
-      let m : record-length (getD (drop at b ++ rest) 0 0) ≡ record-length (getD b at 0) = ap record-length k in
-      let fits : record-length (getD b at 0) ≤ length (drop at b) = omega (arith, length-drop at b) in
-      lines-whole s o (drop at b ++ rest) (λ e. ne (sym m ∙ e)) (omega (arith, m, length-append (drop at b) rest))
-      ∙ ap₂ (λ (r : Record) (i : ℕ). line o (step s r .answer) ++ lines (step s r .service) (o + i) (drop i (drop at b ++ rest))) (record-within ne l) m
-      ∙ ap (λ (t : List ℕ). line o (step s (record-at b at) .answer) ++ lines (step s (record-at b at) .service) (o + n) t)
-      (drop-append-le n (drop at b) rest fits ∙ ap (λ (t : List ℕ). t ++ rest) (drop-drop n at b))
-    where
-      positive : (n : ℕ) → n ≢ 0 → at + n ≤ length b → at < length b
-      positive zero h l = absurd (h refl)
-      positive (suc n) h l = omega arith
+-- ---- an unknown kind, or a record that is not whole
+pub lines-broken : (s : Service) (o : ℕ) (b : List ℕ) → 0 < length b → (record-length (getD b 0 0) ≢ 0 → length b < record-length (getD b 0 0)) → lines s o b ≡ line o (refused 7)
+unfolding lines items items-from answers text
+lines-broken s o [] h l = absurd (omega arith)
+lines-broken s o (k ∷ b) h l = pick (ℕ-discrete (record-length k) 0)
+  where
+    pick : Dec (record-length k ≡ 0) → lines s o (k ∷ b) ≡ line o (refused 7)
+    pick (yes e) = rw (eq-eqb (record-length k) 0 e) (append-nil (line o (refused 7)))
+    pick (no e) = rw (ne-eqb (record-length k) 0 e, lt-ltb (length (k ∷ b)) (record-length k) (l e)) (append-nil (line o (refused 7)))

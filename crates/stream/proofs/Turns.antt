@@ -1,54 +1,159 @@
--- One turn of feed for each way through its loop.
---   going-first, going-reply      an element, held by the service's leaf on the lent array
---   going-other                   every other record
---   going-says                    where feed stops
+-- One record: its answer and its line.
+--   told-taken, told-refused                  what a number answers
+--   turn-taken, turn-refused, turns-as        the call's answer decides the line
+--   record-plan .. record-finish              which record stands at a place
+--   finish-good                               an accepted finish has a good plan
+--   line-short                                every line fits into the room for one
 -- Assumes nothing.
 use mathlib.Core.Path.{_≡_, refl, sym, ap, _∙_, subst}
 use mathlib.Core.Logic.{_≢_}
-use mathlib.Core.List.{List}
-use Prim.Native.Nat.{ℕ, _+_, _≤_}
-use lib.ListN.{length, getD}
-use Rattle.scheme.specs.Service.{Record, first-record, reply-record, silent}
+use mathlib.Core.List.{List, [], _∷_, map}
+use Prim.Native.Nat.{ℕ, zero, suc, _+_, _*_, _^_, _≤_, _<_}
+use native.Mathlib.Nat.{mod-lt, lt-trans}
+use native.Mathlib.Omega.{arith}
+use lib.Dec.{lit<}
+use lib.ListN.{length, getD, take, length-append}
+use borrow.Author.Tests.{ne-eqb}
+use Rattle.scheme.specs.Scheme.{span, sixteen, Plan, places, plan-good}
+use Rattle.scheme.specs.Good.{Good}
+use Rattle.scheme.specs.Totals.{total-of, totals}
+use Rattle.scheme.specs.Service.{Record, plan-record, open-record, first-record, close-record, reply-record, finish-record, Answer, planned, opened, closed, totalled, refused, totals-by}
+use Rattle.scheme.proofs.Good.{good}
+use Rattle.scheme.proofs.Lists.{map-span-length, span-length}
+use Rattle.scheme.proofs.Refusals.{then-zero, unless-zero}
+use Rattle.plan.specs.Plan.{plan-of}
+use Rattle.plan.proofs.Laws.{places-le}
 use Rattle.service.specs.declared.Service.{Service}
-use Rattle.service.specs.Calls.{first-refusal, first-left, first-step, reply-refusal, reply-left, reply-step}
+use Rattle.service.specs.View.{view}
 use Rattle.service.specs.Promise.{told}
-use Rattle.lines.specs.Text.{line}
-use Rattle.lines.specs.Put.{Put}
+use Rattle.finish.specs.Finish.{padded, choice, finish-refusal, finish-answer, finish-step}
+use Rattle.finish.proofs.Padded.{padded-take}
+use Rattle.lines.specs.Text.{decimal, numbers, line}
+use Rattle.lines.specs.Put.{room, Put}
+use Rattle.lines.proofs.Decimals.{decimal-twenty, decimal-five}
 use Rattle.lines.proofs.Lines.{put-as}
-use Rattle.stream.specs.declared.Stop.{Stop}
 use Rattle.stream.specs.declared.Turned.{Turned}
-use Rattle.stream.specs.Stream.{record-length, two-bytes, record-at, step, Turns, Stops, Fed-says}
-use Rattle.stream.proofs.Feeding.{Going, going-next, record-first, record-reply}
+use Rattle.stream.specs.Stream.{two-bytes, four-bytes, record-at, step, Turns}
 
-module _ (s : Service) (b : List ℕ) (o : ℕ) (out₀ : List ℕ) (t : Service) (at wrote : ℕ) (out : List ℕ) (g : Going s b o out₀ t at wrote out)
-    (n next : ℕ) (out′ : List ℕ) (e : n ≡ record-length (getD b at 0)) (ne : n ≢ 0) (l : at + n ≤ length b) (fits : next ≤ length out) where
-  -- the record at the place is r, and its outcome is u
-  going-as : (r : Record) (u : Service) → record-at b at ≡ r → step t r .service ≡ u → Put out out′ wrote next (line (o + at) (step t r .answer)) → Going s b o out₀ u (at + n) next out′
-  going-as r u d f p =
-      subst (λ (x : Service). Going s b o out₀ x (at + n) next out′) (ap (λ (r : Record). step t r .service) d ∙ f)
-      (going-next s b o out₀ t at wrote out g n next out′ e ne l (put-as p (ap (λ (r : Record). line (o + at) (step t r .answer)) (sym d))) fits)
+-- ---- what a number answers
+pub told-taken : {n : ℕ} → n ≡ 0 → (a : Answer) → told n a ≡ a
+unfolding told
+told-taken e a = ap (λ (n : ℕ). told n a) e
 
-  pub going-first : (k i x m : ℕ) (held : List ℕ) → getD b at 0 ≡ 3 → k ≡ getD b (at + 1) 0 → i ≡ two-bytes b (at + 2) → x ≡ two-bytes b (at + 4)
-      → m ≡ first-refusal (t .head) (t .first) k i x → held ≡ first-left (t .head) (t .first) k i x
-      → Put out out′ wrote next (line (o + at) (told m silent)) → Going s b o out₀ (record { head = t .head; first = held; reply = t .reply }) (at + n) next out′
-  unfolding step first-step
-  going-first k i x m held kind ek ei ex em eh p =
-      going-as (first-record k i x) _ (record-first b at kind ∙ (cc)) (ap (λ (l : List ℕ). record { head = t .head; first = l; reply = t .reply }) (sym eh))
-      (put-as p (ap (λ (m : ℕ). line (o + at) (told m silent)) em))
+pub told-refused : {n : ℕ} → (n ≡ 0 → ⊥) → (a : Answer) → told n a ≡ refused n
+unfolding told
+told-refused {n = zero} h a = absurd (h refl)
+told-refused {n = suc n} h a = refl
 
-  pub going-reply : (k i x m : ℕ) (held : List ℕ) → getD b at 0 ≡ 5 → k ≡ getD b (at + 1) 0 → i ≡ getD b (at + 2) 0 → x ≡ two-bytes b (at + 3)
-      → m ≡ reply-refusal (t .head) (t .reply) k i x → held ≡ reply-left (t .head) (t .reply) k i x
-      → Put out out′ wrote next (line (o + at) (told m silent)) → Going s b o out₀ (record { head = t .head; first = t .first; reply = held }) (at + n) next out′
-  unfolding step reply-step
-  going-reply k i x m held kind ek ei ex em eh p =
-      going-as (reply-record k i x) _ (record-reply b at kind ∙ (cc)) (ap (λ (l : List ℕ). record { head = t .head; first = t .first; reply = l }) (sym eh))
-      (put-as p (ap (λ (m : ℕ). line (o + at) (told m silent)) em))
+-- one record that was refused, and one that was taken
+module _ (s : Service) (r : Record) (o : ℕ) (out out′ : List ℕ) (at : ℕ) (t : Service) (n w : ℕ) (a : Answer)
+    (state : t ≡ step s r .service) (answer : told n a ≡ step s r .answer) where
+  pub turn-refused : (n ≡ 0 → ⊥) → Put out out′ at w (line o (refused n)) → Turns s r o out out′ at (record { service = t; wrote = w })
+  turn-refused h p = record { state = state; put = put-as p (ap (line o) (sym (told-refused h a) ∙ answer)) }
 
-  pub going-other : (u : Turned) → u .wrote ≡ next → Turns t (record-at b at) (o + at) out out′ wrote u → Going s b o out₀ (u .service) (at + n) next out′
-  going-other u w h =
-      going-as (record-at b at) (u .service) refl (sym (h .state)) (subst (λ (i : ℕ). Put out out′ wrote i (line (o + at) (step t (record-at b at) .answer))) w (h .put))
+  pub turn-taken : n ≡ 0 → Put out out′ at w (line o a) → Turns s r o out out′ at (record { service = t; wrote = w })
+  turn-taken e p = record { state = state; put = put-as p (ap (line o) (sym (told-taken e a) ∙ answer)) }
 
-pub going-says : (s : Service) (b : List ℕ) (o : ℕ) (out₀ : List ℕ) (t : Service) (at wrote : ℕ) (out : List ℕ) (stop : Stop) → Going s b o out₀ t at wrote out
-    → Stops stop b o (length out₀) at wrote → Fed-says s b o out₀ out (record { service = t; at = at; wrote = wrote; stop = stop })
-going-says s b o out₀ t at wrote out stop g w =
-    record { inside = g .inside; fits = g .fits; long = g .long; behind = g .behind; same = g .same; why = w }
+pub turns-as : {s : Service} {r r′ : Record} {o : ℕ} {out out′ : List ℕ} {at : ℕ} {t : Turned} → r ≡ r′ → Turns s r o out out′ at t → Turns s r′ o out out′ at t
+turns-as {s} {r} {r′} {o} {out} {out′} {at} {t} e h = subst (λ (x : Record). Turns s x o out out′ at t) e h
+
+-- ---- which record stands at a place
+module _ (b : List ℕ) (at : ℕ) where
+  pub record-plan : getD b at 0 ≡ 1 → record-at b at ≡ plan-record (record { users = getD b (at + 1) 0; threshold = getD b (at + 2) 0; collusion = getD b (at + 3) 0; blocks = getD b (at + 4) 0 })
+  unfolding record-at
+  record-plan e = rw e
+
+  pub record-open : getD b at 0 ≡ 2 → record-at b at ≡ open-record (four-bytes b (at + 1))
+  unfolding record-at
+  record-open e = rw e
+
+  pub record-first : getD b at 0 ≡ 3 → record-at b at ≡ first-record (getD b (at + 1) 0) (two-bytes b (at + 2)) (two-bytes b (at + 4))
+  unfolding record-at
+  record-first e = rw e
+
+  pub record-close : getD b at 0 ≡ 4 → record-at b at ≡ close-record
+  unfolding record-at
+  record-close e = rw e
+
+  pub record-reply : getD b at 0 ≡ 5 → record-at b at ≡ reply-record (getD b (at + 1) 0) (getD b (at + 2) 0) (two-bytes b (at + 3))
+  unfolding record-at
+  record-reply e = rw e
+
+  pub record-finish : getD b at 0 ≢ 1 → getD b at 0 ≢ 2 → getD b at 0 ≢ 3 → getD b at 0 ≢ 4 → getD b at 0 ≢ 5 → record-at b at ≡ finish-record
+  unfolding record-at
+  record-finish p q r s t =
+      rw (ne-eqb (getD b at 0) 1 p, ne-eqb (getD b at 0) 2 q, ne-eqb (getD b at 0) 3 r, ne-eqb (getD b at 0) 4 s, ne-eqb (getD b at 0) 5 t)
+
+-- ---- an accepted finish has a good plan
+answer-number : (n : ℕ) (s : Service) → finish-answer n s .number ≡ n
+unfolding finish-answer
+answer-number zero s = refl
+answer-number (suc n) s = refl
+
+pub finish-good : (s : Service) → finish-step s .number ≡ 0 → Good (plan-of (s .head .plan))
+unfolding finish-step finish-refusal
+finish-good s e =
+    let a = then-zero _ _ (sym (answer-number (finish-refusal s) s) ∙ e) in
+    let b = then-zero _ _ (a .1) in
+    let c = then-zero _ _ (b .1) in
+    good _ (unless-zero (plan-good (plan-of (s .head .plan))) 14 (c .0))
+
+-- ---- every line fits into the room for one
+numbers-short : (l : List ℕ) → length (numbers l) ≤ 21 * length l
+unfolding numbers
+numbers-short [] = omega arith
+numbers-short (n ∷ l) = omega (arith, length-append (decimal n) (numbers l), decimal-twenty n, numbers-short l)
+
+numbers-five : (f : ℕ → ℕ) → ((i : ℕ) → f i < 2 ^ 16) → (l : List ℕ) → length (numbers (map f l)) ≤ 6 * length l
+unfolding numbers
+numbers-five f h [] = omega arith
+numbers-five f h (i ∷ l) = omega (arith, length-append (decimal (f i)) (numbers (map f l)), decimal-five (f i) (h i), numbers-five f h l)
+
+-- the totals of an accepted finish
+given : (s : Service) (n : ℕ) → finish-answer n s .number ≡ 0
+    → take (places (plan-of (s .head .plan))) (finish-answer n s .totals) ≡ totals-by sixteen (view s) (choice s)
+unfolding finish-answer totals-by totals view
+given s zero e =
+    subst (λ (n : ℕ). take n (padded 96 (totals-by sixteen (view s) (choice s))) ≡ totals-by sixteen (view s) (choice s)) (map-span-length _ (places (plan-of (s .head .plan))) 0) (padded-take 96 (totals-by sixteen (view s) (choice s)))
+given s (suc n) e = absurd (omega arith)
+
+module _ (o : ℕ) where
+  refused-short : (n : ℕ) → length (line o (refused n)) ≤ room
+  unfolding line
+  refused-short n = simp length-append (omega (arith, numbers-short (n ∷ []), numbers-short (o ∷ [])))
+
+  told-short : (n : ℕ) (a : Answer) → (n ≡ 0 → length (line o a) ≤ room) → length (line o (told n a)) ≤ room
+  unfolding told
+  told-short zero a h = h refl
+  told-short (suc n) a h = refused-short (suc n)
+
+  plan-short : (p : Plan) → length (line o (planned p)) ≤ room
+  unfolding line
+  plan-short p = simp length-append (omega (arith, numbers-short (p .users ∷ p .threshold ∷ p .collusion ∷ p .blocks ∷ [])))
+
+  open-short : (r : ℕ) → length (line o (opened r)) ≤ room
+  unfolding line
+  open-short r = simp length-append (omega (arith, numbers-short (r ∷ [])))
+
+  close-short : (r v : ℕ) → length (line o (closed r v)) ≤ room
+  unfolding line
+  close-short r v = simp length-append (omega (arith, numbers-short (r ∷ v ∷ [])))
+
+  total-short : (r : ℕ) (f : ℕ → ℕ) (n : ℕ) → ((i : ℕ) → f i < 2 ^ 16) → n ≤ 96 → length (line o (totalled r (map f (span n 0)))) ≤ room
+  unfolding line numbers
+  total-short r f n h l = simp length-append (omega (arith, decimal-twenty r, numbers-five f h (span n 0), span-length n 0))
+
+  finish-short : (s : Service) → finish-step s .number ≡ 0 → length (line o (totalled (s .head .round) (take (places (plan-of (s .head .plan))) (finish-step s .totals)))) ≤ room
+  unfolding finish-step totals-by totals total-of view
+  finish-short s e =
+      rw (given s (finish-refusal s) e)
+      (total-short (s .head .round) _ (places (plan-of (s .head .plan))) (λ i. lt-trans (mod-lt _ (lit< tt)) (lit< tt)) (places-le (plan-of (s .head .plan)) (finish-good s e)))
+
+  pub line-short : (s : Service) (r : Record) → length (line o (step s r .answer)) ≤ room
+  unfolding step line
+  line-short s (plan-record p) = told-short _ _ (λ e. plan-short p)
+  line-short s (open-record r) = told-short _ _ (λ e. open-short r)
+  line-short s (first-record k i x) = told-short _ _ (λ e. omega arith)
+  line-short s close-record = told-short _ _ (λ e. close-short _ _)
+  line-short s (reply-record k b x) = told-short _ _ (λ e. omega arith)
+  line-short s finish-record = told-short _ _ (finish-short s)

@@ -7,14 +7,15 @@
 --   Says-run, Lines-right           the lines of any input: those of a run, then perhaps refusal 7
 --   Cut-free                        lines do not depend on where the input is cut into records
 --   Opens-as-new                    after an accepted open every line is that of a new service with the same plan, opened at that round
+--   Stops, Fed-says, Fed-right      what feed hands back: the state and the lines of the bytes used, and why no more were
 --   breaks-off, Seven-ends          an unknown kind, or a record that the end cuts short, is the last line: refusal 7 at its offset
 -- Assumes nothing: these are definitions.
 use mathlib.Core.Path.{_≡_}
 use mathlib.Core.Bool.{Bool, true, false, _||_}
 use mathlib.Core.List.{List, [], _∷_, _++_, map}
-use Prim.Native.Nat.{ℕ, _+_}
+use Prim.Native.Nat.{ℕ, _+_, _-_, _^_, _≤_, _<_}
 use lib.Dec.{ltb, eqb}
-use lib.ListN.{length}
+use lib.ListN.{length, getD, take, drop}
 use Rattle.scheme.specs.Scheme.{sixteen}
 use Rattle.scheme.specs.Service.{Record, Answer, refused, Runs}
 use Rattle.service.specs.declared.Service.{Service}
@@ -22,7 +23,11 @@ use Rattle.service.specs.View.{view, Formed}
 use Rattle.service.specs.Calls.{planned, open-step}
 use Rattle.service.specs.Promise.{Is-step}
 use Rattle.lines.specs.Text.{line}
-use Rattle.stream.specs.Stream.{record-length, Item, taken, broken, items, step, Told, answers, text, lines}
+use Rattle.lines.specs.Put.{room}
+use Rattle.stream.specs.declared.Stop.{Stop}
+use Rattle.stream.specs.declared.Stop.the-variants.{Used, Unknown, Partial, Full, Far}
+use Rattle.stream.specs.declared.Fed.{Fed}
+use Rattle.stream.specs.Stream.{record-length, Item, taken, broken, items, step, Told, answers, text, lines, fed}
 
 unfoldable pub Step-right : Type 0
 Step-right = (s : Service) (r : Record) → Formed s → Is-step r s (step s r .answer) (step s r .service)
@@ -76,6 +81,30 @@ unfoldable pub Cut-free : Type 0
 Cut-free =
     (s : Service) (o : ℕ) (a c : List ℕ) → all-taken (items o a) ≡ true →
     lines s o (a ++ c) ≡ lines s o a ++ lines (last-state s (items o a)) (o + length a) c
+
+-- ---- a chunk at a time
+-- why feed stops: all bytes used; an unknown kind, or a record that is not whole, at the place; no room for a line; an offset past 64 bits
+unfoldable pub Stops : Stop → (b : List ℕ) → (offset n at wrote : ℕ) → Type 0
+Stops Used b o n i w = i ≡ length b
+Stops Unknown b o n i w = (i < length b) × (record-length (getD b i 0) ≡ 0)
+Stops Partial b o n i w = (i < length b) × (length b - i < record-length (getD b i 0))
+Stops Full b o n i w = (i < length b) × (n - w < room)
+Stops Far b o n i w = (2 ^ 64 ≤ o + length b) × (i ≡ 0)
+
+-- the bytes used are whole records, the state is that behind them, and their lines are what is written; the lines of the input are
+-- these, and then those of the rest from that state on, whatever bytes follow the chunk
+pub record Fed-says (s : Service) (b : List ℕ) (o n : ℕ) (r : Fed) : Type 0 where
+  pub inside : r .at ≤ length b
+  pub fits : r .wrote ≤ n
+  pub whole : all-taken (items o (take (r .at) b)) ≡ true
+  pub state : r .service ≡ last-state s (items o (take (r .at) b))
+  pub formed : Formed s → Formed (r .service)
+  pub written : r .wrote ≡ length (lines s o (take (r .at) b))
+  pub same : (rest : List ℕ) → lines s o (b ++ rest) ≡ lines s o (take (r .at) b) ++ lines (r .service) (o + r .at) (drop (r .at) b ++ rest)
+  pub why : Stops (r .stop) b o n (r .at) (r .wrote)
+
+unfoldable pub Fed-right : Type 0
+Fed-right = (s : Service) (b : List ℕ) (o n : ℕ) → Fed-says s b o n (fed s b o n)
 
 -- ---- a round keeps nothing of what was before
 unfoldable pub Opens-as-new : Type 0

@@ -4,13 +4,13 @@
 --   Outcome, step                one record on the service's state: the answer and the next state
 --   Told, answers                the answers to a list of records, each with its record's offset; 7 ends the run
 --   text, lines                  what is printed for a list of answers, and for an input
---   Stops, Fed-says              why feed stops, and what it leaves
+--   fed-from, fed                what feed hands back: the state, the bytes used and written, and why it stops
 --   Turns, cut-length, cut-left  one record; the line of refusal 7
 -- Assumes nothing: these are definitions.
 use mathlib.Core.Path.{_≡_}
 use mathlib.Core.Bool.{cond}
 use mathlib.Core.List.{List, [], _∷_, _++_}
-use Prim.Native.Nat.{ℕ, zero, suc, _+_, _*_, _-_, _^_, _≤_, _<_}
+use Prim.Native.Nat.{ℕ, zero, suc, _+_, _*_, _-_, _^_}
 use lib.Dec.{ltb, leb, eqb}
 use lib.ListN.{length, getD, take, drop}
 use lib.Seq.{sets}
@@ -109,28 +109,28 @@ unfoldable pub lines : Service → (o : ℕ) → (b : List ℕ) → List ℕ
 lines s o b = text (answers s (items o b))
 
 -- ---- A CHUNK AT A TIME
--- why feed stops: all bytes used; an unknown kind, or a record that is not whole, at the place; no room for a line; an offset past 64 bits
-unfoldable pub Stops : Stop → (b : List ℕ) → (offset out at wrote : ℕ) → Type 0
-Stops Used b o n at w = at ≡ length b
-Stops Unknown b o n at w = (at < length b) × (record-length (getD b at 0) ≡ 0)
-Stops Partial b o n at w = (at < length b) × (length b - at < record-length (getD b at 0))
-Stops Full b o n at w = (at < length b) × (n - w < room)
-Stops Far b o n at w = (2 ^ 64 ≤ o + length b) × (at ≡ 0) × (w ≡ 0)
+abbrev pub halt : Service → (at wrote : ℕ) → Stop → Fed
+halt s i w e = record { service = s; at = i; wrote = w; stop = e }
 
--- what was written, then the lines from where feed stopped, are the lines of the whole input, whatever bytes follow the chunk
-pub record Fed-says (s : Service) (b : List ℕ) (o : ℕ) (out out-now : List ℕ) (r : Fed) : Type 0 where
-  pub inside : r .at ≤ length b
-  pub fits : r .wrote ≤ length out
-  pub long : length out-now ≡ length out
-  pub behind : drop (r .wrote) out-now ≡ drop (r .wrote) out
-  pub same : (rest : List ℕ) → lines s o (b ++ rest) ≡ take (r .wrote) out-now ++ lines (r .service) (o + r .at) (drop (r .at) b ++ rest)
-  pub why : Stops (r .stop) b o (length out) (r .at) (r .wrote)
+-- from the place i of a chunk on, where w bytes of n are written: it stops where the chunk ends, at an unknown kind, at a record that is
+-- not whole, or where less than a line fits; else it takes a record and goes on behind it, and behind its line
+unfoldable pub fed-from : (most : ℕ) → Service → (b : List ℕ) → (offset n i w : ℕ) → Fed
+fed-from zero s b o n i w = halt s i w Used
+fed-from (suc m) s b o n i w =
+    cond (leb (length b) i) (halt s i w Used)
+    (cond (eqb (record-length (getD b i 0)) 0) (halt s i w Unknown)
+    (cond (ltb (length b - i) (record-length (getD b i 0))) (halt s i w Partial)
+    (cond (ltb (n - w) room) (halt s i w Full)
+    (fed-from m (step s (record-at b i) .service) b o n (i + record-length (getD b i 0)) (w + length (line (o + i) (step s (record-at b i) .answer)))))))
+
+-- of a chunk whose offsets would pass 64 bits no record is taken
+unfoldable pub fed : Service → (b : List ℕ) → (offset n : ℕ) → Fed
+fed s b o n = cond (leb (2 ^ 64) (o + length b)) (halt s 0 0 Far) (fed-from (length b) s b o n 0 0)
 
 -- one record: the next state, and its line written behind what was written before
 pub record Turns (s : Service) (r : Record) (o : ℕ) (out out-now : List ℕ) (at : ℕ) (t : Turned) : Type 0 where
   pub state : t .service ≡ step s r .service
   pub put : Put out out-now at (t .wrote) (line o (step s r .answer))
-  pub short : t .wrote ≤ at + room
 
 -- the line of refusal 7, where there is room for a line
 unfoldable pub cut-length : (offset out : ℕ) → ℕ

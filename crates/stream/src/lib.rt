@@ -4,13 +4,13 @@
 //   cut            the line of refusal 7, for an unknown kind or a record that the end of the input cuts short
 ghost use mathlib.Core.Path.{_≡_};
 ghost use Prim.Native.Nat.{_+_, _*_, _≤_, _<_};
-ghost use lib.ListN.{length, getD};
-ghost use lib.Dec.{leb};
+ghost use lib.ListN.{length, getD, take};
+ghost use lib.Seq.{sets};
 ghost use Rattle.scheme.specs.Service.{plan-record, open-record, close-record, finish-record, silent};
 ghost use Rattle.service.specs.Promise.{told};
 ghost use Rattle.lines.specs.Text.{line};
 ghost use Rattle.lines.specs.Put.{room, Put};
-ghost use Rattle.stream.specs.Stream.{record-length, two-bytes, four-bytes, record-at, Turns, Fed-says, cut-length, cut-left};
+ghost use Rattle.stream.specs.Stream.{record-length, two-bytes, four-bytes, record-at, lines, Turns, fed, cut-length, cut-left};
 use lines::LINE;
 use plan::Plan;
 use service::Service;
@@ -82,8 +82,7 @@ fn four_at(b: &[u8], i: usize) -> u32
 // The line of an element record: its refusal, or nothing.
 fn put_element(out: &mut [u8], at: usize, number: u32, offset: u64) -> usize
     requires { ⌜ at + room ≤ length (now out) ⌝ }
-    ensures short { λ r. ⌜ r ≤ at + room ⌝ }
-    ensures put { λ r. ⌜ Put (now (out .entry)) (now (out .exit)) at r (line offset (told number silent)) ⌝ }
+    ensures { λ r. ⌜ Put (now (out .entry)) (now (out .exit)) at r (line offset (told number silent)) ⌝ }
 {
     if number == 0 {
         return at;
@@ -231,7 +230,8 @@ fn take_other(
 // Takes the whole records of b in order; the first byte of b stands at the offset. It stops where b ends, at an unknown kind, at a
 // record that is not whole, or where less than LINE bytes of out are left. Of a chunk whose offsets would pass 64 bits it takes none.
 pub fn feed(start: Service, b: &[u8], offset: u64, out: &mut [u8]) -> Fed
-    ensures { λ r. ⌜ Fed-says start (now (b .entry)) offset (now (out .entry)) (now (out .exit)) r ⌝ }
+    ensures result { λ r. ⌜ r ≡ fed start (now (b .entry)) offset (length (now (out .entry))) ⌝ }
+    ensures left { λ r. ⌜ now (out .exit) ≡ sets (now (out .entry)) 0 (lines start offset (take (r .at) (now (b .entry)))) ⌝ }
 {
     let mut service = start;
     let mut at: usize = 0;

@@ -1,9 +1,13 @@
--- `pool::take` is safe and ends: a part of the buffer has its length.
+-- `pool::take` meets its contract: a part of the buffer has its length, and why feed stopped says how the run goes on.
 -- Assumes nothing.
 use lib.Seq.{length-take-le}
-use mathlib.Core.Path.{sym}
+use mathlib.Core.Path.{refl, sym}
+use mathlib.Core.Bool.{true, false}
 use native.Mathlib.Omega.{arith}
 use borrow.Author.Needs.{needs}
+use Rattle.stream.specs.declared.Stop.the-variants.{Used, Partial, Full}
+use Rattle.pool.specs.Pool.{after}
+use Rattle.pool.proofs.Taking.{takes-over, takes-on, takes-kept}
 use Rattle.pool.proofs.take.Statement.{statement}
 use Rattle.pool.proofs.take.Tie as tie
 
@@ -11,7 +15,7 @@ stopped-requires : tie.Need-stopped-requires
 stopped-requires c κs = search needs
 
 returns : tie.Need-returns
-returns c = search needs
+returns c = takes-over (c .stopped .ensures)
 
 slice-reshare-prefix-feed : tie.Need-slice-reshare-prefix-feed
 slice-reshare-prefix-feed c = search needs
@@ -32,7 +36,7 @@ same-length-2 : tie.Need-same-length-2
 same-length-2 c = search needs
 
 returns-2 : tie.Need-returns-2
-returns-2 c = search needs
+returns-2 c = takes-over (c .stopped2 .ensures)
 
 slice-reshare-prefix-write : tie.Need-slice-reshare-prefix-write
 slice-reshare-prefix-write c = search needs
@@ -53,7 +57,7 @@ same-length-4 : tie.Need-same-length-4
 same-length-4 c = search needs
 
 returns-3 : tie.Need-returns-3
-returns-3 c = search needs
+returns-3 c = takes-over (c .stopped3 .ensures)
 
 sub-if4 : tie.Need-sub-if4
 sub-if4 c = search needs
@@ -68,7 +72,7 @@ same-length-6 : tie.Need-same-length-6
 same-length-6 c = search needs
 
 returns-4 : tie.Need-returns-4
-returns-4 c = search needs
+returns-4 c = takes-over (c .stopped4 .ensures)
 
 add-here : tie.Need-add-here
 add-here c = search needs
@@ -107,7 +111,8 @@ same-length-8 : tie.Need-same-length-8
 same-length-8 c = search needs
 
 returns-5 : tie.Need-returns-5
-returns-5 c = search needs
+unfolding after
+returns-5 c = takes-on _ Used _ (c .before .before .before .before .before .before .before .before .before .before .feed .ensures .0) (c .enum-told .given .1) refl refl
 
 same-length-9 : tie.Need-same-length-9
 same-length-9 c = search needs
@@ -116,7 +121,8 @@ same-length-10 : tie.Need-same-length-10
 same-length-10 c = search needs
 
 returns-6 : tie.Need-returns-6
-returns-6 c = search needs
+unfolding after
+returns-6 c = takes-kept _ Partial true _ (c .before .before .before .before .before .before .before .before .before .before .before .before .before .before .feed .ensures .0) (c .before .before .before .before .enum-told2 .given .1) refl (c .before .before .before .before .before .before .before .before .before .before .before .before .before .before .before .before .before .if1 .left) (c .before .before .keep .ensures .0) (c .before .before .keep .ensures .1)
 
 same-length-11 : tie.Need-same-length-11
 same-length-11 c = search needs
@@ -125,7 +131,8 @@ same-length-12 : tie.Need-same-length-12
 same-length-12 c = search needs
 
 returns-7 : tie.Need-returns-7
-returns-7 c = search needs
+unfolding after
+returns-7 c = takes-kept _ Full false _ (c .before .before .before .before .before .before .before .before .before .before .before .before .before .before .feed .ensures .0) (c .before .before .before .before .enum-told3 .given .1) refl (c .before .before .before .before .before .before .before .before .before .before .before .before .before .before .before .before .before .if1 .left) (c .before .before .keep2 .ensures .0) (c .before .before .keep2 .ensures .1)
 
 same-length-13 : tie.Need-same-length-13
 same-length-13 c = search needs
@@ -134,7 +141,7 @@ same-length-14 : tie.Need-same-length-14
 same-length-14 c = search needs
 
 returns-8 : tie.Need-returns-8
-returns-8 c = search needs
+returns-8 c = takes-over (c .before .before .refuse .ensures .0)
 
 same-length-15 : tie.Need-same-length-15
 same-length-15 c = search needs
@@ -143,7 +150,7 @@ same-length-16 : tie.Need-same-length-16
 same-length-16 c = search needs
 
 returns-9 : tie.Need-returns-9
-returns-9 c = search needs
+returns-9 c = takes-over (c .stopped5 .ensures)
 
 pub take-spec : {M : Type 1} → statement M
 take-spec =

@@ -1,14 +1,12 @@
--- `stream::feed` meets its contract: at each turn what was written, then the lines from here on, are the lines of the whole input.
+-- `stream::feed` meets its contract: at each turn what fed answers from here on is its answer, and the lines of the bytes used are written.
 -- Assumes nothing.
 use mathlib.Core.Path.{refl, sym, ap, _∙_}
-use Prim.Native.Nat.{_+_, _-_, _≤_}
+use Prim.Native.Nat.{_-_}
 use native.Mathlib.Omega.{arith}
 use lib.ListN.{length}
 use borrow.Author.Needs.{needs}
-use Rattle.stream.specs.declared.Stop.the-variants.{Used, Unknown, Partial, Full, Far}
-use Rattle.stream.specs.Stream.{record-length, Stops}
-use Rattle.stream.proofs.Feeding.{Going, going-start}
-use Rattle.stream.proofs.Turns.{going-first, going-reply, going-other, going-says}
+use Rattle.stream.specs.Stream.{record-length, items-from, items, answers, text, lines}
+use Rattle.stream.proofs.Feeding.{fed-far, Going, going-start, going-used, going-unknown, going-partial, going-full, going-first, going-reply, going-other}
 use Rattle.stream.proofs.feed.Statement.{statement}
 use Rattle.stream.proofs.feed.Tie as tie
 
@@ -22,11 +20,11 @@ sub-if1 : tie.Need-sub-if1 Inv-loop μ-loop
 sub-if1 c = search needs
 
 returns : tie.Need-returns Inv-loop μ-loop
-unfolding Stops
-returns c = going-says _ _ _ _ _ _ _ _ Far (going-start _ _ _ _) (omega arith, refl, refl)
+unfolding items items-from lines answers text
+returns c = (fed-far _ _ _ _ (omega arith), refl)
 
 loop-holds : tie.Need-loop-holds Inv-loop μ-loop
-loop-holds c = going-start _ _ _ _
+loop-holds c = going-start _ _ _ _ (omega arith)
 
 shared-slice-read-kind : tie.Need-shared-slice-read-kind Inv-loop μ-loop
 shared-slice-read-kind c = search needs
@@ -38,8 +36,9 @@ same-length : tie.Need-same-length Inv-loop μ-loop
 same-length c = search needs
 
 returns-2 : tie.Need-returns-2 Inv-loop μ-loop
-unfolding Stops
-returns-2 c = going-says _ _ _ _ _ _ _ _ Unknown (c .before .before .before .before .loop .inv) (c .before .before .before .loop-test .taken, sym (c .before .record-length .ensures .0) ∙ c .if2 .taken)
+returns-2 c =
+    let g = c .before .before .before .before .loop .inv in
+    (going-unknown _ _ _ _ _ _ _ _ g (c .before .before .before .loop-test .taken) (sym (c .before .record-length .ensures .0) ∙ c .if2 .taken), g .put .bytes)
 
 sub-if3 : tie.Need-sub-if3 Inv-loop μ-loop
 sub-if3 c = search needs
@@ -48,8 +47,9 @@ same-length-2 : tie.Need-same-length-2 Inv-loop μ-loop
 same-length-2 c = search needs
 
 returns-3 : tie.Need-returns-3 Inv-loop μ-loop
-unfolding Stops
-returns-3 c = going-says _ _ _ _ _ _ _ _ Partial (c .before .before .before .before .before .loop .inv) (c .before .before .before .before .loop-test .taken, omega (arith, c .before .before .record-length .ensures .0))
+returns-3 c =
+    let g = c .before .before .before .before .before .loop .inv in
+    (going-partial _ _ _ _ _ _ _ _ g (c .before .before .before .before .loop-test .taken) _ (c .before .before .record-length .ensures .0) (c .before .if2 .left) (c .if3 .taken), g .put .bytes)
 
 sub-if4 : tie.Need-sub-if4 Inv-loop μ-loop
 sub-if4 c = search needs
@@ -58,8 +58,9 @@ same-length-3 : tie.Need-same-length-3 Inv-loop μ-loop
 same-length-3 c = search needs
 
 returns-4 : tie.Need-returns-4 Inv-loop μ-loop
-unfolding Stops
-returns-4 c = going-says _ _ _ _ _ _ _ _ Full (c .before .before .before .before .before .before .loop .inv) (c .before .before .before .before .before .loop-test .taken, omega (arith, c .before .before .before .before .before .before .loop .inv .long))
+returns-4 c =
+    let g = c .before .before .before .before .before .before .loop .inv in
+    (going-full _ _ _ _ _ _ _ _ g (c .before .before .before .before .before .loop-test .taken) _ (c .before .before .before .record-length .ensures .0) (c .before .before .if2 .left) (c .before .if3 .left) (c .if4 .taken), g .put .bytes)
 
 add-here : tie.Need-add-here Inv-loop μ-loop
 add-here c = search needs
@@ -107,10 +108,7 @@ loop-again : tie.Need-loop-again Inv-loop μ-loop
 loop-again c =
     let l = c .before .before .before .before .before .before .before .before .before .before .before .before .before .before .before .before .before .before .loop in
     let n = c .before .before .before .before .before .before .before .before .before .before .before .before .before .before .before .record-length .result in
-    let p = c .before .before .put-element .ensures in
-    let fit : l .at + n ≤ length (c .before .before .before .before .before .before .before .before .before .before .before .before .before .before .before .before .before .before .before .before .before .before .args .b .now) = omega arith in
-    let room : c .before .before .put-element .result ≤ length (l .out) = omega (arith, l .inv .long, l .inv .fits) in
-    going-first _ _ _ _ _ _ _ _ (l .inv) n _ _ (c .before .before .before .before .before .before .before .before .before .before .before .before .before .before .before .record-length .ensures .0) (c .before .before .before .before .before .before .before .before .before .before .before .before .before .before .if2 .left) fit room _ _ _ _ _ (c .before .before .before .before .before .before .before .before .before .before .before .if5 .taken) (c .before .before .before .before .before .before .before .before .wide .ensures) (c .before .before .before .before .before .before .before .two-at .ensures) (c .before .before .before .before .before .before .two-at2 .ensures) (c .before .before .before .before .put-first .ensures .0) (c .before .before .before .before .put-first .ensures .1) (p .1)
+    going-first _ _ _ _ _ _ _ _ (l .inv) (c .before .before .before .before .before .before .before .before .before .before .before .before .before .before .before .before .before .loop-test .taken) n (c .before .before .before .before .before .before .before .before .before .before .before .before .before .before .before .record-length .ensures .0) (c .before .before .before .before .before .before .before .before .before .before .before .before .before .before .if2 .left) (omega arith) (omega arith) _ _ _ _ _ _ _ (c .before .before .before .before .before .before .before .before .before .before .before .if5 .taken) (c .before .before .before .before .before .before .before .before .wide .ensures) (c .before .before .before .before .before .before .before .two-at .ensures) (c .before .before .before .before .before .before .two-at2 .ensures) (c .before .before .before .before .put-first .ensures .0) (c .before .before .before .before .put-first .ensures .1) (c .before .before .put-element .ensures)
 
 add-wide-2 : tie.Need-add-wide-2 Inv-loop μ-loop
 add-wide-2 c = search needs
@@ -155,10 +153,7 @@ loop-again-2 : tie.Need-loop-again-2 Inv-loop μ-loop
 loop-again-2 c =
     let l = c .before .before .before .before .before .before .before .before .before .before .before .before .before .before .before .before .before .before .before .before .loop in
     let n = c .before .before .before .before .before .before .before .before .before .before .before .before .before .before .before .before .before .record-length .result in
-    let p = c .before .before .put-element2 .ensures in
-    let fit : l .at + n ≤ length (c .before .before .before .before .before .before .before .before .before .before .before .before .before .before .before .before .before .before .before .before .before .before .before .before .args .b .now) = omega arith in
-    let room : c .before .before .put-element2 .result ≤ length (l .out) = omega (arith, l .inv .long, l .inv .fits) in
-    going-reply _ _ _ _ _ _ _ _ (l .inv) n _ _ (c .before .before .before .before .before .before .before .before .before .before .before .before .before .before .before .before .before .record-length .ensures .0) (c .before .before .before .before .before .before .before .before .before .before .before .before .before .before .before .before .if2 .left) fit room _ _ _ _ _ (c .before .before .before .before .before .before .before .before .before .before .before .before .if6 .taken) (c .before .before .before .before .before .before .before .before .before .wide2 .ensures) (c .before .before .before .before .before .before .before .wide3 .ensures) (c .before .before .before .before .before .before .two-at3 .ensures) (c .before .before .before .before .put-reply .ensures .0) (c .before .before .before .before .put-reply .ensures .1) (p .1)
+    going-reply _ _ _ _ _ _ _ _ (l .inv) (c .before .before .before .before .before .before .before .before .before .before .before .before .before .before .before .before .before .before .before .loop-test .taken) n (c .before .before .before .before .before .before .before .before .before .before .before .before .before .before .before .before .before .record-length .ensures .0) (c .before .before .before .before .before .before .before .before .before .before .before .before .before .before .before .before .if2 .left) (omega arith) (omega arith) _ _ _ _ _ _ _ (c .before .before .before .before .before .before .before .before .before .before .before .before .if6 .taken) (c .before .before .before .before .before .before .before .before .before .wide2 .ensures) (c .before .before .before .before .before .before .before .wide3 .ensures) (c .before .before .before .before .before .before .two-at3 .ensures) (c .before .before .before .before .put-reply .ensures .0) (c .before .before .before .before .put-reply .ensures .1) (c .before .before .put-element2 .ensures)
 
 take-other-requires : tie.Need-take-other-requires Inv-loop μ-loop
 take-other-requires c κs = ((search needs, omega (arith, c .before .before .before .before .before .before .record-length .ensures .0), search needs), (c .before .before .if5 .left, c .before .if6 .left))
@@ -173,17 +168,13 @@ loop-again-3 : tie.Need-loop-again-3 Inv-loop μ-loop
 loop-again-3 c =
     let l = c .before .before .before .before .before .before .before .before .before .before .before .before .before .loop in
     let n = c .before .before .before .before .before .before .before .before .before .before .record-length .result in
-    let p = c .before .before .before .take-other .ensures in
-    let fit : l .at + n ≤ length (c .before .before .before .before .before .before .before .before .before .before .before .before .before .before .before .before .before .args .b .now) = omega arith in
-    let room : c .before .before .before .take-other .result .wrote ≤ length (l .out) = omega (arith, l .inv .long, l .inv .fits) in
-    going-other _ _ _ _ _ _ _ _ (l .inv) n _ _ (c .before .before .before .before .before .before .before .before .before .before .record-length .ensures .0) (c .before .before .before .before .before .before .before .before .before .if2 .left) fit room (c .before .before .before .take-other .result) refl p
+    going-other _ _ _ _ _ _ _ _ (l .inv) (c .before .before .before .before .before .before .before .before .before .before .before .before .loop-test .taken) n (c .before .before .before .before .before .before .before .before .before .before .record-length .ensures .0) (c .before .before .before .before .before .before .before .before .before .if2 .left) (omega arith) (omega arith) _ _ (c .before .before .before .take-other .result) refl (c .before .before .before .take-other .ensures)
 
 same-length-4 : tie.Need-same-length-4 Inv-loop μ-loop
 same-length-4 c = search needs
 
 returns-5 : tie.Need-returns-5 Inv-loop μ-loop
-unfolding Stops
-returns-5 c = going-says _ _ _ _ _ _ _ _ Used (c .before .loop .inv) (omega (arith, c .before .loop .inv .inside))
+returns-5 c = let g = c .before .loop .inv in (going-used _ _ _ _ _ _ _ _ g (omega arith), g .put .bytes)
 
 pub feed-spec : {M : Type 1} → statement M
 feed-spec =

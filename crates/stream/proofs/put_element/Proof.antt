@@ -1,12 +1,11 @@
 -- `stream::put_element` meets its contract: an accepted element prints nothing.
 -- Assumes nothing.
 use mathlib.Core.Path.{sym, ap}
-use native.Mathlib.Omega.{arith}
 use borrow.Author.Needs.{needs}
 use Rattle.scheme.specs.Service.{silent}
 use Rattle.lines.specs.Text.{line}
 use Rattle.lines.proofs.Lines.{put-none, put-as}
-use Rattle.stream.proofs.Feeding.{told-taken, told-refused}
+use Rattle.stream.proofs.Turns.{told-taken, told-refused}
 use Rattle.stream.proofs.put_element.Statement.{statement}
 use Rattle.stream.proofs.put_element.Tie as tie
 
@@ -14,7 +13,7 @@ returns : tie.Need-returns
 unfolding line
 returns c =
     let a = c .before .before .args in
-    (omega arith, put-as (put-none (a .out .now) (a .at)) (sym (ap (line (a .offset)) (told-taken (c .if1 .taken) silent))))
+    put-as (put-none (a .out .now) (a .at)) (sym (ap (line (a .offset)) (told-taken (c .if1 .taken) silent)))
 
 put-refusal-requires : tie.Need-put-refusal-requires
 put-refusal-requires c κs = search needs
@@ -26,7 +25,7 @@ returns-2 : tie.Need-returns-2
 returns-2 c =
     let p = c .before .before .put-refusal .ensures in
     let a = c .before .before .before .before .before .before .args in
-    (p .0, put-as (p .1) (sym (ap (line (a .offset)) (told-refused (c .before .before .before .before .if1 .left) silent))))
+    put-as (p .1) (sym (ap (line (a .offset)) (told-refused (c .before .before .before .before .if1 .left) silent)))
 
 pub put-element-spec : {M : Type 1} → statement M
 put-element-spec = tie.close (tie.spec returns put-refusal-requires same-length returns-2)

@@ -6,7 +6,7 @@ use Rattle.scheme.specs.Service.{closed}
 use Rattle.service.specs.declared.Closed.{Closed}
 use Rattle.service.specs.Promise.{told}
 use Rattle.stream.specs.Stream.{step}
-use Rattle.stream.proofs.Feeding.{turn-taken, turn-refused}
+use Rattle.stream.proofs.Turns.{turn-taken, turn-refused}
 use Rattle.stream.proofs.take_close.Statement.{statement}
 use Rattle.stream.proofs.take_close.Tie as tie
 
@@ -25,7 +25,7 @@ returns c =
     let e = c .before .before .before .before .before .before .close .ensures in
     let n = c .before .before .before .before .before .before .before .before .before .args .service .head .round in
     let p = c .before .before .put-refusal .ensures in
-    turn-refused _ _ _ _ _ _ _ _ _ (closed (c .before .before .before .before .before .before .before .before .before .args .service .head .round) (c .before .before .before .before .before .before .close .result .set)) (ap (λ (r : Closed). r .service) e) (ap (λ (r : Closed). told (r .number) (closed n (r .set))) e) (p .0) (c .before .before .before .before .if1 .taken) (p .1)
+    turn-refused _ _ _ _ _ _ _ _ _ (closed (c .before .before .before .before .before .before .before .before .before .args .service .head .round) (c .before .before .before .before .before .before .close .result .set)) (ap (λ (r : Closed). r .service) e) (ap (λ (r : Closed). told (r .number) (closed n (r .set))) e) (c .before .before .before .before .if1 .taken) (p .1)
 
 put-survivors-requires : tie.Need-put-survivors-requires
 put-survivors-requires c κs = search needs
@@ -39,7 +39,7 @@ returns-2 c =
     let e = c .before .before .before .before .before .before .close .ensures in
     let n = c .before .before .before .before .before .before .before .before .before .args .service .head .round in
     let p = c .before .before .put-survivors .ensures in
-    turn-taken _ _ _ _ _ _ _ _ _ (closed (c .before .before .before .before .before .before .before .before .before .args .service .head .round) (c .before .before .before .before .before .before .close .result .set)) (ap (λ (r : Closed). r .service) e) (ap (λ (r : Closed). told (r .number) (closed n (r .set))) e) (p .0) (c .before .before .before .before .if1 .left) (p .1 _)
+    turn-taken _ _ _ _ _ _ _ _ _ (closed (c .before .before .before .before .before .before .before .before .before .args .service .head .round) (c .before .before .before .before .before .before .close .result .set)) (ap (λ (r : Closed). r .service) e) (ap (λ (r : Closed). told (r .number) (closed n (r .set))) e) (c .before .before .before .before .if1 .left) (p .1 _)
 
 pub take-close-spec : {M : Type 1} → statement M
 take-close-spec =

@@ -12,7 +12,7 @@ use Rattle.finish.specs.declared.Finished.{Finished}
 use Rattle.lines.specs.Text.{line}
 use Rattle.lines.proofs.Lines.{put-as}
 use Rattle.stream.specs.Stream.{step}
-use Rattle.stream.proofs.Feeding.{turn-taken, turn-refused, finish-good}
+use Rattle.stream.proofs.Turns.{turn-taken, turn-refused, finish-good}
 use Rattle.stream.proofs.take_finish.Statement.{statement}
 use Rattle.stream.proofs.take_finish.Tie as tie
 
@@ -31,7 +31,7 @@ returns c =
     let e = c .before .before .before .before .before .before .before .finish .ensures in
     let a = c .before .before .before .before .before .before .before .before .before .before .before .args .service .head in
     let p = c .before .before .put-refusal .ensures in
-    turn-refused _ _ _ _ _ _ _ _ _ (totalled (c .before .before .before .before .before .before .before .before .before .before .before .args .service .head .round) (take (places (plan-of (c .before .before .before .before .before .before .before .before .before .before .before .args .service .head .plan))) (c .before .before .before .before .before .before .before .finish .result .totals))) (ap (λ (r : Finished). r .service) e) (ap (λ (r : Finished). told (r .number) (totalled (a .round) (take (places (plan-of (a .plan))) (r .totals)))) e) (p .0) (c .before .before .before .before .if1 .taken) (p .1)
+    turn-refused _ _ _ _ _ _ _ _ _ (totalled (c .before .before .before .before .before .before .before .before .before .before .before .args .service .head .round) (take (places (plan-of (c .before .before .before .before .before .before .before .before .before .before .before .args .service .head .plan))) (c .before .before .before .before .before .before .before .finish .result .totals))) (ap (λ (r : Finished). r .service) e) (ap (λ (r : Finished). told (r .number) (totalled (a .round) (take (places (plan-of (a .plan))) (r .totals)))) e) (c .before .before .before .before .if1 .taken) (p .1)
 
 places-of-requires : tie.Need-places-of-requires
 places-of-requires c κs = finish-good _ (sym (ap (λ (r : Finished). r .number) (c .before .before .before .finish .ensures)) ∙ c .if1 .left)
@@ -49,7 +49,7 @@ returns-2 c =
     let a = c .before .before .before .before .before .before .before .before .before .before .before .before .before .args .service .head in
     let p = c .before .before .put-total .ensures in
     let n = c .before .before .before .before .before .places-of .ensures .0 in
-    turn-taken _ _ _ _ _ _ _ _ _ (totalled (c .before .before .before .before .before .before .before .before .before .before .before .before .before .args .service .head .round) (take (places (plan-of (c .before .before .before .before .before .before .before .before .before .before .before .before .before .args .service .head .plan))) (c .before .before .before .before .before .before .before .before .before .finish .result .totals))) (ap (λ (r : Finished). r .service) e) (ap (λ (r : Finished). told (r .number) (totalled (a .round) (take (places (plan-of (a .plan))) (r .totals)))) e) (p .0) (c .before .before .before .before .before .before .if1 .left)
+    turn-taken _ _ _ _ _ _ _ _ _ (totalled (c .before .before .before .before .before .before .before .before .before .before .before .before .before .args .service .head .round) (take (places (plan-of (c .before .before .before .before .before .before .before .before .before .before .before .before .before .args .service .head .plan))) (c .before .before .before .before .before .before .before .before .before .finish .result .totals))) (ap (λ (r : Finished). r .service) e) (ap (λ (r : Finished). told (r .number) (totalled (a .round) (take (places (plan-of (a .plan))) (r .totals)))) e) (c .before .before .before .before .before .before .if1 .left)
     (put-as (p .1 _) (ap (λ (i : ℕ). line (c .before .before .before .before .before .before .before .before .before .before .before .before .before .args .offset) (totalled (a .round) (take i (c .before .before .before .before .before .before .before .before .before .finish .result .totals)))) n))
 
 pub take-finish-spec : {M : Type 1} → statement M

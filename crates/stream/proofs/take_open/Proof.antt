@@ -6,7 +6,7 @@ use Rattle.scheme.specs.Service.{opened}
 use Rattle.service.specs.declared.Stepped.{Stepped}
 use Rattle.service.specs.Promise.{told}
 use Rattle.stream.specs.Stream.{step}
-use Rattle.stream.proofs.Feeding.{turn-taken, turn-refused}
+use Rattle.stream.proofs.Turns.{turn-taken, turn-refused}
 use Rattle.stream.proofs.take_open.Statement.{statement}
 use Rattle.stream.proofs.take_open.Tie as tie
 
@@ -24,7 +24,7 @@ unfolding step
 returns c =
     let e = c .before .before .before .before .before .before .«open» .ensures in
     let p = c .before .before .put-refusal .ensures in
-    turn-refused _ _ _ _ _ _ _ _ _ (opened (c .before .before .before .before .before .before .before .before .args .round)) (ap (λ (r : Stepped). r .service) e) (ap (λ (r : Stepped). told (r .number) (opened (c .before .before .before .before .before .before .before .before .args .round))) e) (p .0) (c .before .before .before .before .if1 .taken) (p .1)
+    turn-refused _ _ _ _ _ _ _ _ _ (opened (c .before .before .before .before .before .before .before .before .args .round)) (ap (λ (r : Stepped). r .service) e) (ap (λ (r : Stepped). told (r .number) (opened (c .before .before .before .before .before .before .before .before .args .round))) e) (c .before .before .before .before .if1 .taken) (p .1)
 
 put-open-requires : tie.Need-put-open-requires
 put-open-requires c κs = search needs
@@ -37,7 +37,7 @@ unfolding step
 returns-2 c =
     let e = c .before .before .before .before .before .before .«open» .ensures in
     let p = c .before .before .put-open .ensures in
-    turn-taken _ _ _ _ _ _ _ _ _ (opened (c .before .before .before .before .before .before .before .before .args .round)) (ap (λ (r : Stepped). r .service) e) (ap (λ (r : Stepped). told (r .number) (opened (c .before .before .before .before .before .before .before .before .args .round))) e) (p .0) (c .before .before .before .before .if1 .left) (p .1 _)
+    turn-taken _ _ _ _ _ _ _ _ _ (opened (c .before .before .before .before .before .before .before .before .args .round)) (ap (λ (r : Stepped). r .service) e) (ap (λ (r : Stepped). told (r .number) (opened (c .before .before .before .before .before .before .before .before .args .round))) e) (c .before .before .before .before .if1 .left) (p .1 _)
 
 pub take-open-spec : {M : Type 1} → statement M
 take-open-spec =

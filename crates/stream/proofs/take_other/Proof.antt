@@ -7,7 +7,7 @@ use Rattle.scheme.specs.Service.{plan-record}
 use Rattle.plan.specs.declared.Plan.{Plan}
 use Rattle.plan.specs.Plan.{plan-of}
 use Rattle.stream.specs.Stream.{record-length}
-use Rattle.stream.proofs.Feeding.{turns-as, record-plan, record-open, record-close, record-finish}
+use Rattle.stream.proofs.Turns.{turns-as, record-plan, record-open, record-close, record-finish}
 use Rattle.stream.proofs.take_other.Statement.{statement}
 use Rattle.stream.proofs.take_other.Tie as tie
 

@@ -6,7 +6,7 @@ use Rattle.scheme.specs.Service.{planned}
 use Rattle.service.specs.declared.Stepped.{Stepped}
 use Rattle.service.specs.Promise.{told}
 use Rattle.stream.specs.Stream.{step}
-use Rattle.stream.proofs.Feeding.{turn-taken, turn-refused}
+use Rattle.stream.proofs.Turns.{turn-taken, turn-refused}
 use Rattle.stream.proofs.take_plan.Statement.{statement}
 use Rattle.stream.proofs.take_plan.Tie as tie
 
@@ -24,7 +24,7 @@ unfolding step
 returns c =
     let e = c .before .before .before .before .before .before .plan .ensures in
     let p = c .before .before .put-refusal .ensures in
-    turn-refused _ _ _ _ _ _ _ _ _ (planned (record { users = c .before .before .before .before .before .before .before .before .args .plan .users; threshold = c .before .before .before .before .before .before .before .before .args .plan .threshold; collusion = c .before .before .before .before .before .before .before .before .args .plan .collusion; blocks = c .before .before .before .before .before .before .before .before .args .plan .blocks })) (ap (λ (r : Stepped). r .service) e) (ap (λ (r : Stepped). told (r .number) (planned (record { users = c .before .before .before .before .before .before .before .before .args .plan .users; threshold = c .before .before .before .before .before .before .before .before .args .plan .threshold; collusion = c .before .before .before .before .before .before .before .before .args .plan .collusion; blocks = c .before .before .before .before .before .before .before .before .args .plan .blocks }))) e) (p .0) (c .before .before .before .before .if1 .taken) (p .1)
+    turn-refused _ _ _ _ _ _ _ _ _ (planned (record { users = c .before .before .before .before .before .before .before .before .args .plan .users; threshold = c .before .before .before .before .before .before .before .before .args .plan .threshold; collusion = c .before .before .before .before .before .before .before .before .args .plan .collusion; blocks = c .before .before .before .before .before .before .before .before .args .plan .blocks })) (ap (λ (r : Stepped). r .service) e) (ap (λ (r : Stepped). told (r .number) (planned (record { users = c .before .before .before .before .before .before .before .before .args .plan .users; threshold = c .before .before .before .before .before .before .before .before .args .plan .threshold; collusion = c .before .before .before .before .before .before .before .before .args .plan .collusion; blocks = c .before .before .before .before .before .before .before .before .args .plan .blocks }))) e) (c .before .before .before .before .if1 .taken) (p .1)
 
 put-plan-requires : tie.Need-put-plan-requires
 put-plan-requires c κs = search needs
@@ -37,7 +37,7 @@ unfolding step
 returns-2 c =
     let e = c .before .before .before .before .before .before .plan .ensures in
     let p = c .before .before .put-plan .ensures in
-    turn-taken _ _ _ _ _ _ _ _ _ (planned (record { users = c .before .before .before .before .before .before .before .before .args .plan .users; threshold = c .before .before .before .before .before .before .before .before .args .plan .threshold; collusion = c .before .before .before .before .before .before .before .before .args .plan .collusion; blocks = c .before .before .before .before .before .before .before .before .args .plan .blocks })) (ap (λ (r : Stepped). r .service) e) (ap (λ (r : Stepped). told (r .number) (planned (record { users = c .before .before .before .before .before .before .before .before .args .plan .users; threshold = c .before .before .before .before .before .before .before .before .args .plan .threshold; collusion = c .before .before .before .before .before .before .before .before .args .plan .collusion; blocks = c .before .before .before .before .before .before .before .before .args .plan .blocks }))) e) (p .0) (c .before .before .before .before .if1 .left) (p .1 _)
+    turn-taken _ _ _ _ _ _ _ _ _ (planned (record { users = c .before .before .before .before .before .before .before .before .args .plan .users; threshold = c .before .before .before .before .before .before .before .before .args .plan .threshold; collusion = c .before .before .before .before .before .before .before .before .args .plan .collusion; blocks = c .before .before .before .before .before .before .before .before .args .plan .blocks })) (ap (λ (r : Stepped). r .service) e) (ap (λ (r : Stepped). told (r .number) (planned (record { users = c .before .before .before .before .before .before .before .before .args .plan .users; threshold = c .before .before .before .before .before .before .before .before .args .plan .threshold; collusion = c .before .before .before .before .before .before .before .before .args .plan .collusion; blocks = c .before .before .before .before .before .before .before .before .args .plan .blocks }))) e) (c .before .before .before .before .if1 .left) (p .1 _)
 
 pub take-plan-spec : {M : Type 1} → statement M
 take-plan-spec =

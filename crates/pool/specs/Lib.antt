@@ -1,0 +1,2 @@
+-- Pool: what the program keeps between reads.
+pub mod Pool
