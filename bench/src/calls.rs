@@ -1,0 +1,160 @@
+//! The calls: ours through the static library, beside plain Rust, and for solving beside FLINT. Function pointers hide Rust's from the
+//! compiler, so that each is called as ours are.
+use crate::cutawheno;
+use crate::fast::{self, Client, Plan, Service, Stage, MOST_PLACES, Q};
+use crate::rounds::{named, Random, Round};
+use crate::timing::{duel, duel_over};
+use std::hint::black_box;
+
+fn ours(p: Plan) -> cutawheno::Plan {
+    cutawheno::Plan { users: p.users, threshold: p.threshold, collusion: p.collusion, blocks: p.blocks }
+}
+
+/// A key, all users in turn.
+pub fn measure_keys(p: Plan) -> [f64; 2] {
+    let round = Round::new(p, &mut Random(3));
+    let list = &round.list;
+    let mut key = vec![0; p.key_len(1)];
+    let mut rust_key = key.clone();
+    for user in 1..=p.users {
+        ours(p).make_key(user, list, &mut key).unwrap();
+        assert!(key == round.keys[user as usize - 1], "key of {user} under {}", named(p));
+    }
+    let rust = black_box(fast::make_key);
+    let all_users = duel(
+        || (1..=p.users).for_each(|user| ours(p).make_key(user, list, &mut key).unwrap()),
+        || (1..=p.users).for_each(|user| assert_eq!(rust(p, user, list, &mut rust_key), 0)),
+    );
+    all_users.map(|time| time / p.users as f64)
+}
+
+/// The first message of user 3.
+pub fn measure_first(p: Plan) -> [f64; 2] {
+    let round = Round::new(p, &mut Random(4));
+    let (key, figures) = (&round.keys[2], &round.figures[2]);
+    let mut message = vec![0; p.places()];
+    let mut rust_message = message.clone();
+    cutawheno::End::new(ours(p), 3).first_message(key, figures, &mut message).unwrap();
+    assert!(message == round.messages[2], "first message under {}", named(p));
+    let rust = black_box(Client::first_message);
+    duel(
+        || cutawheno::End::new(ours(p), 3).first_message(key, figures, &mut message).unwrap(),
+        || assert_eq!(rust(&mut Client { plan: p, user: 3, stage: Stage::Fresh }, key, figures, &mut rust_message), 0),
+    )
+}
+
+/// The reply of user 3 to the set of all users.
+pub fn measure_reply(p: Plan) -> [f64; 2] {
+    let round = Round::new(p, &mut Random(5));
+    let key = &round.keys[2];
+    let mut end = cutawheno::End::new(ours(p), 3);
+    end.first_message(key, &round.figures[2], &mut vec![0; p.places()]).unwrap();
+    assert!(end.reply(key, round.everyone).unwrap() == round.replies[2], "reply under {}", named(p));
+    let mut rust_end = Client { plan: p, user: 3, stage: Stage::Sent };
+    let rust = black_box(Client::reply);
+    duel(
+        || assert_eq!(end.reply(key, round.everyone).unwrap().len(), p.blocks as usize),
+        || assert_eq!(rust(&mut rust_end, key, round.everyone).unwrap().len(), p.blocks as usize),
+    )
+}
+
+/// Both services with a round open.
+fn opened(p: Plan) -> (cutawheno::Service, Service) {
+    let (mut service, mut rust) = (cutawheno::Service::new(), Service::new());
+    service.plan(ours(p)).unwrap();
+    service.open(1).unwrap();
+    assert_eq!((rust.plan(p), rust.open(1)), (0, 0));
+    (service, rust)
+}
+
+/// Both services with all replies held.
+fn replied(round: &Round) -> (cutawheno::Service, Service) {
+    let (mut service, mut rust) = opened(round.plan);
+    for (user, place, x) in round.firsts() {
+        service.first_element(user, place, x).unwrap();
+        assert_eq!(rust.first_element(user, place, x), 0);
+    }
+    assert_eq!((service.close().unwrap(), rust.close(), rust.survivors), (round.everyone, 0, round.everyone));
+    for (k, row) in round.replies.iter().enumerate() {
+        for (block, &x) in row.iter().enumerate() {
+            let (user, block, x) = (k as u32 + 1, block as u32, x as u32);
+            service.reply_element(user, block, x).unwrap();
+            assert_eq!(rust.reply_element(user, block, x), 0);
+        }
+    }
+    (service, rust)
+}
+
+/// A first element, all elements of a round in turn.
+pub fn measure_element(p: Plan) -> [f64; 2] {
+    let firsts = Round::new(p, &mut Random(6)).firsts();
+    let (service, rust_service) = opened(p);
+    let rust = black_box(Service::first_element);
+    let round = duel_over(
+        (&service, |s: &mut cutawheno::Service| {
+            for &(user, place, x) in &firsts {
+                s.first_element(user, place, x).unwrap();
+            }
+        }),
+        (&rust_service, |s: &mut Service| {
+            for &(user, place, x) in &firsts {
+                assert_eq!(rust(s, user, place, x), 0);
+            }
+        }),
+    );
+    round.map(|time| time / firsts.len() as f64)
+}
+
+pub fn measure_finish(round: &Round) -> [f64; 2] {
+    let (service, rust_service) = replied(round);
+    let (mut totals, mut rust_totals) = ([0; MOST_PLACES], [0; MOST_PLACES]);
+    service.clone().finish(&mut totals).unwrap();
+    assert_eq!(rust_service.clone().finish(&mut rust_totals), 0);
+    assert_eq!(totals, rust_totals);
+    for (place, &total) in totals[..round.plan.places()].iter().enumerate() {
+        let sum: u32 = round.figures.iter().map(|row| row[place] as u32).sum();
+        assert_eq!(total as u32, sum % Q);
+    }
+    let rust = black_box(Service::finish);
+    duel_over(
+        (&service, |s: &mut cutawheno::Service| {
+            s.finish(black_box(&mut [0; MOST_PLACES])).unwrap();
+        }),
+        (&rust_service, |s: &mut Service| assert_eq!(rust(s, black_box(&mut [0; MOST_PLACES])), 0)),
+    )
+}
+
+/// Solving a round's systems by FLINT: block by block, and all blocks as columns of one system.
+#[cfg(feature = "flint")]
+pub fn measure_flint(round: &Round) -> Option<[f64; 2]> {
+    #[repr(C)]
+    struct Systems {
+        _private: [u8; 0],
+    }
+    #[link(name = "solver", kind = "static")]
+    #[link(name = "flint")]
+    extern "C" {
+        fn flint_new(size: u32, blocks: u32, replies: *const u16) -> *mut Systems;
+        fn flint_blocks(systems: *mut Systems);
+        fn flint_columns(systems: *mut Systems);
+        fn flint_unknown(systems: *const Systems, block: u32, i: u32) -> u32;
+    }
+    let p = round.plan;
+    // SAFETY: the replies are those of all users, one for each block, and the systems live until the end.
+    let systems = unsafe { flint_new(p.threshold, p.blocks, round.replies.concat().as_ptr()) };
+    let (blocks, columns) = (|| unsafe { flint_blocks(systems) }, || unsafe { flint_columns(systems) });
+    blocks();
+    columns();
+    let items = p.threshold - p.collusion;
+    for place in 0..p.places() {
+        let masks: u32 = round.keys.iter().map(|key| key[place] as u32).sum();
+        let unknown = unsafe { flint_unknown(systems, place as u32 / items, place as u32 % items) };
+        assert_eq!(unknown, masks % Q);
+    }
+    Some(duel(blocks, columns))
+}
+
+#[cfg(not(feature = "flint"))]
+pub fn measure_flint(_: &Round) -> Option<[f64; 2]> {
+    None
+}

@@ -1,0 +1,474 @@
+//! Document 01 in plain Rust, written for speed: the algorithms, tests and order of refusals of the proved crates.
+//! Every call answers 0, or the number of its refusal, and then changes nothing.
+#![allow(dead_code)] // each program uses its part
+
+use std::array;
+
+pub const Q: u32 = 65521;
+pub const MOST_PLACES: usize = 96;
+const MOST_USERS: usize = 8;
+const MOST_BLOCKS: usize = 16;
+
+/// The inverses of 1 to 15 modulo Q.
+const INVERSES: [u16; 16] =
+    [1, 1, 32761, 43681, 49141, 52417, 54601, 56161, 57331, 58241, 58969, 11913, 60061, 60481, 60841, 61153];
+
+/// The inverses of -7 to 8 modulo Q, and 1 for 0.
+const GAPS: [u16; 16] =
+    [9360, 10920, 13104, 16380, 21840, 32760, 65520, 1, 1, 32761, 43681, 49141, 52417, 54601, 56161, 57331];
+
+fn reduced(n: u64) -> u16 {
+    (n % Q as u64) as u16
+}
+
+/// Test 3 without an early end, so that it goes by vectors.
+fn all_elements(list: &[u16]) -> bool {
+    list.iter().fold(true, |good, &x| good & ((x as u32) < Q))
+}
+
+/// K, U, T and M of document 01.
+#[derive(Clone, Copy, Default)]
+pub struct Plan {
+    pub users: u32,
+    pub threshold: u32,
+    pub collusion: u32,
+    pub blocks: u32,
+}
+
+fn holds(set: u32, user: u32) -> bool {
+    set >> (user - 1) & 1 == 1
+}
+
+impl Plan {
+    fn is_good(self) -> bool {
+        (3..=8).contains(&self.users)
+            && 1 <= self.collusion
+            && self.collusion < self.threshold
+            && self.threshold < self.users
+            && (1..=16).contains(&self.blocks)
+    }
+
+    fn items(self) -> usize {
+        (self.threshold - self.collusion) as usize
+    }
+
+    pub fn places(self) -> usize {
+        self.blocks as usize * self.items()
+    }
+
+    fn is_usable(self, set: u32) -> bool {
+        set >> self.users == 0 && self.threshold <= set.count_ones()
+    }
+
+    pub fn list_len(self) -> usize {
+        let sets: u32 = (0..1u32 << self.users).map(|v| (self.threshold <= v.count_ones()) as u32).sum();
+        self.users as usize * self.places() + (sets * self.blocks * self.collusion) as usize
+    }
+
+    /// The shares for a set of the plan's users start behind those for the smaller usable sets that hold the user.
+    fn reply_start(self, user: u32, set: u32) -> usize {
+        let before: u32 = (0..set).map(|v| (self.threshold <= v.count_ones()) as u32 & v >> (user - 1)).sum();
+        self.places() + (before * self.blocks) as usize
+    }
+
+    pub fn key_len(self, user: u32) -> usize {
+        self.reply_start(user, 1 << self.users)
+    }
+
+    fn start_refusal(self, user: u32) -> u32 {
+        if !self.is_good() {
+            1
+        } else if user < 1 || self.users < user {
+            4
+        } else {
+            0
+        }
+    }
+}
+
+fn key_refusal(plan: Plan, user: u32, list: &[u16], room: usize) -> u32 {
+    match plan.start_refusal(user) {
+        0 if list.len() != plan.list_len() || room != plan.key_len(user) => 2,
+        0 if !all_elements(list) => 3,
+        number => number,
+    }
+}
+
+/// The key maker.
+pub fn make_key(plan: Plan, user: u32, list: &[u16], out: &mut [u16]) -> u32 {
+    let number = key_refusal(plan, user, list, out.len());
+    if number != 0 {
+        return number;
+    }
+    let (masks, noise) = list.split_at(plan.users as usize * plan.places());
+    let (own, shares) = out.split_at_mut(plan.places());
+    own.copy_from_slice(&masks[(user as usize - 1) * own.len()..][..own.len()]);
+    match plan.items() {
+        1 => write_by::<1>(plan, user, masks, noise, shares),
+        2 => write_by::<2>(plan, user, masks, noise, shares),
+        3 => write_by::<3>(plan, user, masks, noise, shares),
+        4 => write_by::<4>(plan, user, masks, noise, shares),
+        5 => write_by::<5>(plan, user, masks, noise, shares),
+        _ => write_by::<6>(plan, user, masks, noise, shares),
+    }
+    0
+}
+
+/// One copy of the loops below for each U - T and T, so that their lengths are known.
+fn write_by<const ITEMS: usize>(plan: Plan, user: u32, masks: &[u16], noise: &[u16], shares: &mut [u16]) {
+    match plan.collusion {
+        1 => write_sets::<ITEMS, 1>(plan, user, masks, noise, shares),
+        2 => write_sets::<ITEMS, 2>(plan, user, masks, noise, shares),
+        3 => write_sets::<ITEMS, 3>(plan, user, masks, noise, shares),
+        4 => write_sets::<ITEMS, 4>(plan, user, masks, noise, shares),
+        5 => write_sets::<ITEMS, 5>(plan, user, masks, noise, shares),
+        _ => write_sets::<ITEMS, 6>(plan, user, masks, noise, shares),
+    }
+}
+
+/// All set numbers in rising order: a usable one has its noise, and where it holds the user its shares.
+fn write_sets<const ITEMS: usize, const COLLUSION: usize>(
+    plan: Plan,
+    user: u32,
+    masks: &[u16],
+    mut noise: &[u16],
+    mut shares: &mut [u16],
+) {
+    let blocks = plan.blocks as usize;
+    for set in 0..1u32 << plan.users {
+        if set.count_ones() < plan.threshold {
+            continue;
+        }
+        let (here, rest) = noise.split_at(blocks * COLLUSION);
+        noise = rest;
+        if holds(set, user) {
+            let (part, rest) = shares.split_at_mut(blocks);
+            shares = rest;
+            write_shares::<ITEMS, COLLUSION>(user, set, masks, here, part);
+        }
+    }
+}
+
+/// The sums of the set's masks, row upon row, then a share for each block, reduced once.
+fn write_shares<const ITEMS: usize, const COLLUSION: usize>(
+    user: u32,
+    set: u32,
+    masks: &[u16],
+    noise: &[u16],
+    out: &mut [u16],
+) {
+    let mut sums = [0u32; MOST_PLACES];
+    let sums = &mut sums[..out.len() * ITEMS];
+    for (k, mask) in masks.chunks_exact(sums.len()).enumerate() {
+        if set >> k & 1 == 1 {
+            for (sum, &x) in sums.iter_mut().zip(mask) {
+                *sum += x as u32;
+            }
+        }
+    }
+    let low: [u64; ITEMS] = array::from_fn(|j| INVERSES[user as usize + 1 + j & 15] as u64);
+    let high: [u64; COLLUSION] = array::from_fn(|j| INVERSES[user as usize + 1 + ITEMS + j & 15] as u64);
+    let blocks = sums.as_chunks::<ITEMS>().0.iter().zip(noise.as_chunks::<COLLUSION>().0);
+    for (share, (sums, noise)) in out.iter_mut().zip(blocks) {
+        let of_sums: u64 = low.iter().zip(sums).map(|(c, &x)| c * x as u64).sum();
+        let of_noise: u64 = high.iter().zip(noise).map(|(c, &x)| c * x as u64).sum();
+        *share = reduced(of_sums + of_noise);
+    }
+}
+
+#[derive(Clone, Copy)]
+pub enum Stage {
+    Fresh,
+    Sent,
+    Answered(u32),
+}
+
+/// An airfield end.
+#[derive(Clone, Copy)]
+pub struct Client {
+    pub plan: Plan,
+    pub user: u32,
+    pub stage: Stage,
+}
+
+impl Client {
+    fn first_refusal(&self, key: &[u16], figures: &[u16], room: usize) -> u32 {
+        let places = || self.plan.places();
+        match self.plan.start_refusal(self.user) {
+            0 if !matches!(self.stage, Stage::Fresh) => 18,
+            0 if key.len() != self.plan.key_len(self.user) => 2,
+            0 if figures.len() != places() || room != places() => 2,
+            0 if !all_elements(key) || !all_elements(figures) => 3,
+            number => number,
+        }
+    }
+
+    pub fn first_message(&mut self, key: &[u16], figures: &[u16], out: &mut [u16]) -> u32 {
+        let number = self.first_refusal(key, figures, out.len());
+        if number != 0 {
+            return number;
+        }
+        for ((x, &figure), &mask) in out.iter_mut().zip(figures).zip(key) {
+            let sum = figure as u32 + mask as u32;
+            *x = sum.wrapping_sub(if sum < Q { 0 } else { Q }) as u16;
+        }
+        self.stage = Stage::Sent;
+        0
+    }
+
+    fn reply_refusal(&self, key: &[u16], set: u32) -> u32 {
+        match self.plan.start_refusal(self.user) {
+            0 if matches!(self.stage, Stage::Fresh) => 18,
+            0 if key.len() != self.plan.key_len(self.user) => 2,
+            0 if !all_elements(key) => 3,
+            0 if !self.plan.is_usable(set) => 5,
+            0 if !holds(set, self.user) => 6,
+            0 if matches!(self.stage, Stage::Answered(other) if other != set) => 19,
+            number => number,
+        }
+    }
+
+    /// The part of the key with the shares for the set, or the refusal's number.
+    pub fn reply<'a>(&mut self, key: &'a [u16], set: u32) -> Result<&'a [u16], u32> {
+        let number = self.reply_refusal(key, set);
+        if number != 0 {
+            return Err(number);
+        }
+        self.stage = Stage::Answered(set);
+        Ok(&key[self.plan.reply_start(self.user, set)..][..self.plan.blocks as usize])
+    }
+}
+
+#[derive(Clone, Copy, PartialEq)]
+pub enum Phase {
+    Unplanned,
+    Idle,
+    Gathering,
+    Replying,
+}
+
+/// The pooling service. An element that is held stands as itself plus 1, and 0 where none is held.
+#[derive(Clone, Copy)]
+pub struct Service {
+    pub phase: Phase,
+    pub plan: Plan,
+    pub places: u32,
+    pub round: u32,
+    pub survivors: u32,
+    pub first: [[u16; MOST_PLACES]; MOST_USERS],
+    pub reply: [Blocks; MOST_USERS],
+}
+
+const NO_FIRST: [[u16; MOST_PLACES]; MOST_USERS] = [[0; MOST_PLACES]; MOST_USERS];
+const NO_REPLY: [Blocks; MOST_USERS] = [[0; MOST_BLOCKS]; MOST_USERS];
+
+/// The users whose first `each` elements are held.
+fn complete_set<const N: usize>(held: &[[u16; N]], each: usize) -> u32 {
+    held.iter().enumerate().filter(|(_, row)| row[..each].iter().all(|&x| x != 0)).map(|(k, _)| 1 << k).sum()
+}
+
+impl Service {
+    pub fn new() -> Service {
+        let plan = Plan::default();
+        Service { phase: Phase::Unplanned, plan, places: 0, round: 0, survivors: 0, first: NO_FIRST, reply: NO_REPLY }
+    }
+
+    pub fn plan(&mut self, plan: Plan) -> u32 {
+        if self.phase != Phase::Unplanned {
+            return 11;
+        }
+        if !plan.is_good() {
+            return 1;
+        }
+        *self = Service { phase: Phase::Idle, plan, places: plan.places() as u32, ..Service::new() };
+        0
+    }
+
+    pub fn open(&mut self, round: u32) -> u32 {
+        if self.phase == Phase::Unplanned {
+            return 11;
+        }
+        if round <= self.round {
+            return 17;
+        }
+        self.phase = Phase::Gathering;
+        self.round = round;
+        self.survivors = 0;
+        self.first = NO_FIRST;
+        self.reply = NO_REPLY;
+        0
+    }
+
+    /// 11, 12 of a record that is for one phase.
+    fn not_in(&self, phase: Phase) -> u32 {
+        if self.phase == phase {
+            0
+        } else if self.phase == Phase::Unplanned {
+            11
+        } else {
+            12
+        }
+    }
+
+    pub fn first_element(&mut self, user: u32, place: u32, element: u32) -> u32 {
+        let number = self.not_in(Phase::Gathering);
+        if number != 0 {
+            return number;
+        }
+        if user == 0 || self.plan.users < user {
+            return 4;
+        }
+        if self.places <= place {
+            return 8;
+        }
+        if Q <= element {
+            return 3;
+        }
+        let held = &mut self.first[user as usize - 1][place as usize];
+        if *held != 0 {
+            return 13;
+        }
+        *held = element as u16 + 1;
+        0
+    }
+
+    pub fn close(&mut self) -> u32 {
+        let number = self.not_in(Phase::Gathering);
+        if number != 0 {
+            return number;
+        }
+        let set = complete_set(&self.first[..self.plan.users as usize], self.places as usize);
+        if set.count_ones() < self.plan.threshold {
+            return 15;
+        }
+        self.phase = Phase::Replying;
+        self.survivors = set;
+        self.reply = NO_REPLY;
+        0
+    }
+
+    pub fn reply_element(&mut self, user: u32, block: u32, element: u32) -> u32 {
+        let number = self.not_in(Phase::Replying);
+        if number != 0 {
+            return number;
+        }
+        if user == 0 || self.plan.users < user {
+            return 4;
+        }
+        if self.plan.blocks <= block {
+            return 8;
+        }
+        if Q <= element {
+            return 3;
+        }
+        if !holds(self.survivors, user) {
+            return 14;
+        }
+        let held = &mut self.reply[user as usize - 1][block as usize];
+        if *held != 0 {
+            return 13;
+        }
+        *held = element as u16 + 1;
+        0
+    }
+
+    /// The totals go to the first L places.
+    pub fn finish(&mut self, totals: &mut [u16; MOST_PLACES]) -> u32 {
+        let number = self.not_in(Phase::Replying);
+        if number != 0 {
+            return number;
+        }
+        let set = complete_set(&self.reply[..self.plan.users as usize], self.plan.blocks as usize);
+        if set.count_ones() < self.plan.threshold {
+            return 15;
+        }
+        let Some(sums) = sums_of(self.plan.threshold as usize, set, &self.reply) else { return 16 };
+        *totals = self.totals(&sums);
+        self.phase = Phase::Idle;
+        self.survivors = 0;
+        self.first = NO_FIRST;
+        self.reply = NO_REPLY;
+        0
+    }
+
+    /// The sums of the survivors' first messages, less the sums of their masks.
+    fn totals(&self, sums: &[Blocks; MOST_USERS]) -> [u16; MOST_PLACES] {
+        let mut firsts = [0u32; MOST_PLACES];
+        for (k, row) in self.first.iter().enumerate() {
+            if self.survivors >> k & 1 == 1 {
+                for (first, &x) in firsts.iter_mut().zip(&row[..self.places as usize]) {
+                    *first += x as u32 - 1;
+                }
+            }
+        }
+        let mut totals = [0; MOST_PLACES];
+        let items = self.plan.items();
+        for (block, (totals, firsts)) in totals.chunks_exact_mut(items).zip(firsts.chunks_exact(items)).enumerate() {
+            if block == self.plan.blocks as usize {
+                break;
+            }
+            for ((total, &first), sum) in totals.iter_mut().zip(firsts).zip(sums) {
+                *total = ((first + Q - sum[block] as u32) % Q) as u16;
+            }
+        }
+        totals
+    }
+}
+
+/// An element for each block: the systems of all blocks are solved side by side.
+type Blocks = [u16; MOST_BLOCKS];
+
+/// The product over all points of (own + other) / (own - own'), for each own point.
+fn weights(own: &[u8], other: &[u8]) -> [u32; MOST_USERS] {
+    let mut out = [0; MOST_USERS];
+    for (weight, &x) in out.iter_mut().zip(own) {
+        *weight = own.iter().zip(other).fold(1, |w, (&near, &far)| {
+            (w as u64 * ((x + far) as u64 * GAPS[(7 + x - near) as usize & 15] as u64) % Q as u64) as u32
+        });
+    }
+    out
+}
+
+/// Block by block Σ values[i] / (x + points[i]), reduced once.
+fn dots(x: u8, points: &[u8], values: &[Blocks]) -> Blocks {
+    let mut sums = [0u64; MOST_BLOCKS];
+    for (&y, row) in points.iter().zip(values) {
+        let c = INVERSES[(x + y) as usize & 15] as u64;
+        for (sum, &v) in sums.iter_mut().zip(row) {
+            *sum += c * v as u64;
+        }
+    }
+    sums.map(reduced)
+}
+
+fn scaled(weight: u32, row: &Blocks) -> Blocks {
+    row.map(|x| (weight * x as u32 % Q) as u16)
+}
+
+/// The Cauchy systems of the users whose replies are complete: the closed solution from the first ones, if it explains the others.
+fn sums_of(size: usize, set: u32, reply: &[Blocks; MOST_USERS]) -> Option<[Blocks; MOST_USERS]> {
+    const COLUMNS: [u8; MOST_USERS] = [1, 2, 3, 4, 5, 6, 7, 0];
+    let mut rows = [0; MOST_USERS];
+    let mut values = [[0; MOST_BLOCKS]; MOST_USERS];
+    let mut count = 0;
+    for (k, row) in reply.iter().enumerate() {
+        if set >> k & 1 == 1 {
+            rows[count & 7] = k as u8 + 1;
+            values[count & 7] = row.map(|x| x.saturating_sub(1));
+            count += 1;
+        }
+    }
+    let (rows, further) = rows[..count].split_at(size);
+    let (values, wanted) = values[..count].split_at(size);
+    let columns = &COLUMNS[..size];
+    let mut weighed = [[0; MOST_BLOCKS]; MOST_USERS];
+    for ((out, weight), row) in weighed.iter_mut().zip(weights(rows, columns)).zip(values) {
+        *out = scaled(weight, row);
+    }
+    let mut sums = [[0; MOST_BLOCKS]; MOST_USERS];
+    for ((out, weight), &column) in sums.iter_mut().zip(weights(columns, rows)).zip(columns) {
+        *out = scaled(weight, &dots(column, rows, &weighed));
+    }
+    let explained = further.iter().zip(wanted).all(|(&row, wanted)| dots(row, columns, &sums) == *wanted);
+    explained.then_some(sums)
+}

@@ -1,0 +1,64 @@
+//! Measures the proved code beside plain Rust and FLINT, and writes docs/SPEED.md and docs/speed.svg. Called by bench/run in the
+//! repository's root. All results are compared before times are taken.
+mod calls;
+#[allow(dead_code)]
+#[path = "../../callers/cutawheno.rs"]
+mod cutawheno;
+mod fast;
+mod program;
+mod report;
+mod rounds;
+mod timing;
+
+use report::Report;
+use rounds::{named, plan, Random, Round};
+use std::fs;
+use timing::{BATCHES, RUNS};
+
+fn main() {
+    let mut report = Report::default();
+    for p in [plan(8, 2, 1, 16), plan(8, 7, 1, 16), plan(8, 7, 6, 16), plan(3, 2, 1, 1)] {
+        report.call("key maker", p, calls::measure_keys(p));
+    }
+    let plans = [plan(8, 2, 1, 16), plan(8, 7, 1, 16)];
+    for p in plans {
+        report.call("first message", p, calls::measure_first(p));
+    }
+    for p in plans {
+        report.call("reply", p, calls::measure_reply(p));
+    }
+    for p in plans {
+        report.call("first element", p, calls::measure_element(p));
+    }
+    for p in plans {
+        let round = Round::new(p, &mut Random(7));
+        let finish = calls::measure_finish(&round);
+        report.call("finish", p, finish);
+        report.solver.push((named(p), finish[0], calls::measure_flint(&round)));
+    }
+    for users in 3..=8 {
+        report.growth.push((users, calls::measure_keys(plan(users, 2, 1, 16))));
+    }
+    program::measure(&mut report);
+    report.proofs = proofs();
+    report.write(&method());
+}
+
+/// What bench/proofs wrote: users and seconds.
+fn proofs() -> Vec<(u32, f64)> {
+    let lines = fs::read_to_string("target/bench/proofs").unwrap();
+    let pair = |line: &str| line.split_once(' ').map(|(users, time)| (users.parse().unwrap(), time.parse().unwrap()));
+    lines.lines().filter_map(pair).collect()
+}
+
+fn method() -> String {
+    let cpus = fs::read_to_string("/proc/cpuinfo").unwrap();
+    let model = cpus.lines().find_map(|line| line.strip_prefix("model name")).unwrap_or("an unnamed processor");
+    let load = fs::read_to_string("/proc/loadavg").unwrap();
+    format!(
+        "Measured on {}, with a load of {} at the end (1 is this run alone). The contenders take turns, and of each the least time \
+         counts: of {RUNS} runs of a program, of {BATCHES} batches of calls. Both sides are compiled by LLVM at -O3 for plain x86-64.",
+        model.trim_start_matches(['\t', ' ', ':']),
+        load.split(' ').next().unwrap()
+    )
+}

@@ -1,0 +1,183 @@
+//! What is measured on: a plan's random list, keys, messages and replies, and streams of records.
+use crate::fast::{make_key, Client, Plan, Stage, Q};
+
+/// Numbers that look random, the same in every run.
+pub struct Random(pub u64);
+
+impl Random {
+    pub fn below(&mut self, n: u32) -> u32 {
+        self.0 ^= self.0 << 13;
+        self.0 ^= self.0 >> 7;
+        self.0 ^= self.0 << 17;
+        ((self.0 >> 32) * n as u64 >> 32) as u32
+    }
+
+    pub fn elements(&mut self, n: usize) -> Vec<u16> {
+        (0..n).map(|_| self.below(Q) as u16).collect()
+    }
+}
+
+pub const fn plan(users: u32, threshold: u32, collusion: u32, blocks: u32) -> Plan {
+    Plan { users, threshold, collusion, blocks }
+}
+
+pub fn named(p: Plan) -> String {
+    format!("{} {} {} {}", p.users, p.threshold, p.collusion, p.blocks)
+}
+
+/// A round in which all users send, survive and reply; row k - 1 is user k's.
+pub struct Round {
+    pub plan: Plan,
+    pub everyone: u32,
+    pub list: Vec<u16>,
+    pub keys: Vec<Vec<u16>>,
+    pub figures: Vec<Vec<u16>>,
+    pub messages: Vec<Vec<u16>>,
+    pub replies: Vec<Vec<u16>>,
+}
+
+impl Round {
+    pub fn new(plan: Plan, random: &mut Random) -> Round {
+        let everyone = (1 << plan.users) - 1;
+        let list = random.elements(plan.list_len());
+        let mut round =
+            Round { plan, everyone, list, keys: vec![], figures: vec![], messages: vec![], replies: vec![] };
+        for user in 1..=plan.users {
+            let mut key = vec![0; plan.key_len(user)];
+            let mut message = vec![0; plan.places()];
+            let figures = random.elements(plan.places());
+            let mut end = Client { plan, user, stage: Stage::Fresh };
+            assert_eq!(make_key(plan, user, &round.list, &mut key), 0);
+            assert_eq!(end.first_message(&key, &figures, &mut message), 0);
+            round.replies.push(end.reply(&key, everyone).unwrap().to_vec());
+            round.keys.push(key);
+            round.figures.push(figures);
+            round.messages.push(message);
+        }
+        round
+    }
+
+    /// All first elements, as user, place and element.
+    pub fn firsts(&self) -> Vec<(u32, u32, u32)> {
+        let row = |(k, row): (usize, &Vec<u16>)| {
+            row.iter().enumerate().map(|(p, &x)| (k as u32 + 1, p as u32, x as u32)).collect::<Vec<_>>()
+        };
+        self.messages.iter().enumerate().flat_map(row).collect()
+    }
+}
+
+/// A stream of records.
+pub struct Records(pub Vec<u8>);
+
+impl Records {
+    fn plan(p: Plan) -> Records {
+        Records(vec![1, p.users as u8, p.threshold as u8, p.collusion as u8, p.blocks as u8])
+    }
+
+    fn open(&mut self, round: u32) {
+        self.0.push(2);
+        self.0.extend(round.to_le_bytes());
+    }
+
+    fn first(&mut self, user: u32, place: u32, element: u32) {
+        self.0.extend([3, user as u8]);
+        self.0.extend((place as u16).to_le_bytes());
+        self.0.extend((element as u16).to_le_bytes());
+    }
+
+    fn reply(&mut self, user: u32, block: u32, element: u32) {
+        self.0.extend([5, user as u8, block as u8]);
+        self.0.extend((element as u16).to_le_bytes());
+    }
+
+    fn close(&mut self) {
+        self.0.push(4);
+    }
+
+    fn finish(&mut self) {
+        self.0.push(6);
+    }
+
+    /// Round upon round, with nothing refused.
+    pub fn accepted(size: usize) -> Records {
+        let round = Round::new(plan(8, 2, 1, 16), &mut Random(1));
+        let mut records = Records::plan(round.plan);
+        let mut number = 0;
+        while records.0.len() < size {
+            number += 1;
+            records.open(number);
+            for (user, place, x) in round.firsts() {
+                records.first(user, place, (x + number) % Q);
+            }
+            records.close();
+            for (k, row) in round.replies.iter().enumerate() {
+                for (block, &x) in row.iter().enumerate() {
+                    records.reply(k as u32 + 1, block as u32, x as u32);
+                }
+            }
+            records.finish();
+        }
+        records
+    }
+
+    /// One round is opened and all its first elements are held; everything behind that is refused, for eight reasons in turn.
+    pub fn refused(size: usize) -> Records {
+        let round = Round::new(plan(8, 2, 1, 16), &mut Random(1));
+        let firsts = round.firsts();
+        let mut records = Records::plan(round.plan);
+        records.open(1);
+        for &(user, place, x) in &firsts {
+            records.first(user, place, x);
+        }
+        while records.0.len() < size {
+            for chunk in firsts.chunks_exact(8) {
+                let (user, place, x) = chunk[0];
+                records.first(user, place, x); // held
+                records.reply(user, 0, x); // not in this phase
+                records.first(9, place, x); // no such user
+                records.first(user, place, x ^ 1); // held
+                records.first(user, 16, x); // no such place
+                records.first(user, place, Q); // no element
+                records.finish(); // not in this phase
+                records.open(1); // not above the last
+            }
+        }
+        records
+    }
+
+    /// Rounds in which each first element and each reply comes twice, the second now or later by chance, and one user drops out.
+    pub fn mixed(size: usize) -> Records {
+        let mut random = Random(2);
+        let round = Round::new(plan(8, 7, 1, 16), &mut random);
+        let mut records = Records::plan(round.plan);
+        let mut number = 0;
+        while records.0.len() < size {
+            number += 1;
+            records.open(number);
+            let mut late = vec![];
+            for (user, place, x) in round.firsts() {
+                records.first(user, place, x);
+                if random.below(2) == 0 {
+                    records.first(user, place, x);
+                } else {
+                    late.push((user, place, x));
+                }
+            }
+            records.close();
+            for (user, place, x) in late {
+                records.first(user, place, x); // not in this phase
+            }
+            let dropped = random.below(8) as usize;
+            for (k, row) in round.replies.iter().enumerate() {
+                for (block, &x) in row.iter().enumerate() {
+                    if k != dropped {
+                        records.reply(k as u32 + 1, block as u32, x as u32);
+                    }
+                    records.reply(k as u32 + 1, 16 + block as u32, x as u32); // no such block
+                }
+            }
+            records.finish();
+        }
+        records
+    }
+}
