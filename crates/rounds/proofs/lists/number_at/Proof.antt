@@ -1,0 +1,30 @@
+use mathlib.Core.Path.{_≡_, refl, sym, ap, _∙_}
+use mathlib.Core.Logic.{⊎-elim}
+use Prim.Native.Nat.{ℕ, zero, suc, _+_, _*_, _-_, _/_, _%_, _^_, _≤_, _<_}
+use native.Mathlib.Omega.{arith}
+use lib.ListN.{List·getD-eq-default, length, getD, take, drop, length-set}
+use borrow.Author.Needs.{needs}
+use Rattle.rounds.proofs.lists.number_at.Statement.{statement}
+use Rattle.rounds.proofs.lists.number_at.Tie as tie
+use Rattle.rounds.proofs.lists.number_at.Reads as reads
+use Rattle.rounds.proofs.lists.number_at.Lts as lts
+use Rattle.rounds.proofs.lists.wide.Reads as wide-reads
+
+mul-wide : tie.Need-mul-wide
+mul-wide c = search needs
+
+shared-slice-read-wide : tie.Need-shared-slice-read-wide
+shared-slice-read-wide c = search needs
+
+wide-requires : tie.Need-wide-requires
+wide-requires c κs = search needs
+
+returns : tie.Need-returns
+returns c = search needs
+
+returns-2 : tie.Need-returns-2
+returns-2 c = let past : length (c .before .before .args .s .now) ≤ c .before .before .args .i = search needs in (sym (List·getD-eq-default (c .before .before .args .s .now) 0 past), search needs)
+
+pub number-at-spec : {M : Type 1} → statement M
+number-at-spec =
+    tie.close (tie.spec mul-wide shared-slice-read-wide wide-requires returns returns-2)
