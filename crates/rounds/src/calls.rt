@@ -5,10 +5,14 @@
 //   check             the call of one line
 //   give_first, give_reply   elements to the service, one place or block after the other
 // Every answer is compared whole: number, stage, set, and the lent buffer to its end.
+use crate::lists::KEY_AT;
+use crate::lists::ROOM;
 use crate::lists::SPACE;
-use crate::lists::copy;
-use crate::lists::fill;
+use crate::lists::copy_to;
 use crate::lists::holds_just;
+use crate::lists::key_of;
+use crate::lists::marked;
+use crate::lists::marked_behind;
 use crate::lists::number_at;
 use crate::lists::part;
 use crate::lists::rest;
@@ -20,8 +24,8 @@ use client::Start;
 use plan::Plan;
 use service::Service;
 
-// What a buffer holds before it is lent.
-const MARK: u16 = 7;
+// Stands for the answer where a line asks for a larger buffer than there is; no call answers it.
+const NO_ROOM: u32 = 99;
 
 pub enum Verdict {
     Agrees,
@@ -51,9 +55,27 @@ pub struct Given {
     pub agrees: bool,
 }
 
-fn agree(got: u32, wanted: u32) -> Verdict {
+// Number, stage and elements of an answer, the first that differs.
+fn judge(got: u32, wanted: u32, stage: bool, elements: bool) -> Verdict {
     if got != wanted {
         return Verdict::Number;
+    }
+    if !stage {
+        return Verdict::Stage;
+    }
+    if !elements {
+        return Verdict::Elements;
+    }
+    Verdict::Agrees
+}
+
+fn agree(got: u32, wanted: u32) -> Verdict {
+    judge(got, wanted, true, true)
+}
+
+fn lent_right(fits: bool) -> Verdict {
+    if !fits {
+        return Verdict::Damaged;
     }
     Verdict::Agrees
 }
@@ -94,59 +116,53 @@ fn check_plan(line: &[u16]) -> Checked {
 }
 
 // l list..: the random list lent from now on.
-fn lend_list(mut case: Case, line: &[u16], list: &mut [u16; SPACE]) -> Checked {
+fn lend_list(mut case: Case, line: &[u16], lent: &mut [u16; SPACE]) -> Checked {
     case.list = line.len();
-    let fits = copy(line, list);
-    if !fits {
-        let verdict = Verdict::Damaged;
-        return Checked { case, verdict };
-    }
-    let verdict = Verdict::Agrees;
+    let verdict = lent_right(line.len() <= KEY_AT);
+    copy_to(line, lent, 0);
     Checked { case, verdict }
 }
 
 // y key..: the key lent from now on.
-fn lend_key(mut case: Case, line: &[u16], key: &mut [u16; SPACE]) -> Checked {
+fn lend_key(mut case: Case, line: &[u16], lent: &mut [u16; SPACE]) -> Checked {
     case.key = line.len();
-    let fits = copy(line, key);
-    if !fits {
-        let verdict = Verdict::Damaged;
-        return Checked { case, verdict };
-    }
-    let verdict = Verdict::Agrees;
+    let verdict = lent_right(copy_to(line, lent, KEY_AT));
     Checked { case, verdict }
 }
 
-pub fn make_into(plan: Plan, user: u32, list: &[u16], out: &mut [u16], room: usize) -> u32 {
+fn make_part(plan: Plan, user: u32, list: &[u16], out: &mut [u16], room: usize) -> u32 {
     if out.len() < room {
-        return 0;
+        return NO_ROOM;
     }
     keys::make_key(plan, user, list, &mut out[..room])
 }
 
+// The key maker, into a part of a buffer.
+pub fn make_into(plan: Plan, user: u32, list: &[u16], out: &mut [u16; ROOM], room: usize) -> u32 {
+    make_part(plan, user, list, out, room)
+}
+
 // k user room number key..: the key maker, into a buffer of that room; the key is lent from now on.
-fn check_key(mut case: Case, line: &[u16], list: &[u16; SPACE], key: &mut [u16; SPACE]) -> Checked {
+fn check_key(mut case: Case, line: &[u16], lent: &mut [u16; SPACE]) -> Checked {
     let plan = case.plan;
     let length = case.list;
     let wanted = rest(line, 3);
-    fill(key, MARK);
+    let mut key = marked();
     let number = make_into(
         plan,
         number_at(line, 0),
-        part(list, 0, length),
-        key,
+        part(lent, 0, length),
+        &mut key,
         number_at(line, 1) as usize,
     );
+    let verdict = judge(
+        number,
+        number_at(line, 2),
+        true,
+        marked_behind(&key, wanted),
+    );
+    copy_to(wanted, lent, KEY_AT);
     case.key = wanted.len();
-    if number != number_at(line, 2) {
-        let verdict = Verdict::Number;
-        return Checked { case, verdict };
-    }
-    if !holds_just(key, wanted, MARK) {
-        let verdict = Verdict::Elements;
-        return Checked { case, verdict };
-    }
-    let verdict = Verdict::Agrees;
     Checked { case, verdict }
 }
 
@@ -182,71 +198,72 @@ fn stage_is(stage: Stage, number: u32) -> bool {
     }
 }
 
-pub fn send_into(end: Client, key: &[u16], figures: &[u16], out: &mut [u16], room: usize) -> Answer {
+fn send_part(end: Client, key: &[u16], figures: &[u16], out: &mut [u16], room: usize) -> Answer {
     if out.len() < room {
         return Answer {
-            number: 0,
+            number: NO_ROOM,
             client: end,
         };
     }
     end.first_message(key, figures, &mut out[..room])
 }
 
+// The first message, into a part of a buffer.
+pub fn send_into(
+    end: Client,
+    key: &[u16],
+    figures: &[u16],
+    out: &mut [u16; ROOM],
+    room: usize,
+) -> Answer {
+    send_part(end, key, figures, out, room)
+}
+
 // f room number stage n figures.. message..: the end's first message for n figures, into a buffer of that room.
-fn check_first(mut case: Case, line: &[u16], key: &[u16; SPACE], out: &mut [u16; SPACE]) -> Checked {
+fn check_first(mut case: Case, line: &[u16], lent: &[u16; SPACE]) -> Checked {
     let end = case.end;
     let length = case.key;
     let behind = 4 + number_at(line, 3) as usize;
-    fill(out, MARK);
+    if line.len() < behind {
+        let verdict = Verdict::Damaged;
+        return Checked { case, verdict };
+    }
+    let mut message = marked();
     let answer = send_into(
         end,
-        part(key, 0, length),
+        key_of(lent, length),
         part(line, 4, behind),
-        out,
+        &mut message,
         number_at(line, 0) as usize,
     );
     let next = answer.client;
     let stage = next.stage;
     case.end = next;
-    if answer.number != number_at(line, 1) {
-        let verdict = Verdict::Number;
-        return Checked { case, verdict };
-    }
-    if !stage_is(stage, number_at(line, 2)) {
-        let verdict = Verdict::Stage;
-        return Checked { case, verdict };
-    }
-    if !holds_just(out, rest(line, behind), MARK) {
-        let verdict = Verdict::Elements;
-        return Checked { case, verdict };
-    }
-    let verdict = Verdict::Agrees;
+    let verdict = judge(
+        answer.number,
+        number_at(line, 1),
+        stage_is(stage, number_at(line, 2)),
+        marked_behind(&message, rest(line, behind)),
+    );
     Checked { case, verdict }
 }
 
 // r set number stage part..: the end's reply to a set, and the part of the key.
-fn check_reply(mut case: Case, line: &[u16], whole: &[u16; SPACE]) -> Checked {
+fn check_reply(mut case: Case, line: &[u16], lent: &[u16; SPACE]) -> Checked {
     let end = case.end;
     let length = case.key;
     let set = number_at(line, 0);
-    let key = part(whole, 0, length);
+    let key = key_of(lent, length);
     let answer = end.reply(key, set);
     let next = answer.client;
     let stage = next.stage;
     case.end = next;
-    if answer.number != number_at(line, 1) {
-        let verdict = Verdict::Number;
-        return Checked { case, verdict };
-    }
-    if !stage_is(stage, number_at(line, 2)) {
-        let verdict = Verdict::Stage;
-        return Checked { case, verdict };
-    }
-    if !same(next.part(key, set), rest(line, 3)) {
-        let verdict = Verdict::Elements;
-        return Checked { case, verdict };
-    }
-    let verdict = Verdict::Agrees;
+    let verdict = judge(
+        answer.number,
+        number_at(line, 1),
+        stage_is(stage, number_at(line, 2)),
+        same(next.part(key, set), rest(line, 3)),
+    );
     Checked { case, verdict }
 }
 
@@ -261,13 +278,7 @@ fn check_open(mut case: Case, line: &[u16]) -> Checked {
 }
 
 // Gives the service a user's first elements from a place on, each of which must be answered by the number.
-pub fn give_first(
-    start: Service,
-    user: u32,
-    from: u32,
-    elements: &[u16],
-    number: u32,
-) -> Given {
+pub fn give_first(start: Service, user: u32, from: u32, elements: &[u16], number: u32) -> Given {
     let mut service = start;
     let mut place = from;
     let mut i = 0;
@@ -291,13 +302,7 @@ pub fn give_first(
 }
 
 // The same for a user's reply elements from a block on.
-pub fn give_reply(
-    start: Service,
-    user: u32,
-    from: u32,
-    elements: &[u16],
-    number: u32,
-) -> Given {
+pub fn give_reply(start: Service, user: u32, from: u32, elements: &[u16], number: u32) -> Given {
     let mut service = start;
     let mut block = from;
     let mut i = 0;
@@ -323,11 +328,7 @@ pub fn give_reply(
 fn handed(mut case: Case, given: Given) -> Checked {
     let next = given.service;
     case.service = next;
-    if !given.agrees {
-        let verdict = Verdict::Number;
-        return Checked { case, verdict };
-    }
-    let verdict = Verdict::Agrees;
+    let verdict = agree(given.agrees as u32, 1);
     Checked { case, verdict }
 }
 
@@ -375,22 +376,33 @@ fn check_close(mut case: Case, line: &[u16]) -> Checked {
     Checked { case, verdict }
 }
 
+// How many totals a finish hands back: L, or none where it is refused.
+fn total_count(number: u32, places: u32) -> usize {
+    if number != 0 {
+        return 0;
+    }
+    places as usize
+}
+
 // t number totals..: the finish, and the totals.
 fn check_finish(mut case: Case, line: &[u16]) -> Checked {
     let service = case.service;
     let finished = finish::finish(service);
     let next = finished.service;
     let totals = finished.totals;
+    let head = next.head;
     case.service = next;
-    if finished.number != number_at(line, 0) {
-        let verdict = Verdict::Number;
+    let wanted = rest(line, 1);
+    if wanted.len() != total_count(number_at(line, 0), head.places) {
+        let verdict = Verdict::Damaged;
         return Checked { case, verdict };
     }
-    if !holds_just(&totals, rest(line, 1), 0) {
-        let verdict = Verdict::Elements;
-        return Checked { case, verdict };
-    }
-    let verdict = Verdict::Agrees;
+    let verdict = judge(
+        finished.number,
+        number_at(line, 0),
+        true,
+        holds_just(&totals, wanted, 0),
+    );
     Checked { case, verdict }
 }
 
@@ -407,31 +419,31 @@ fn fits(letter: u8, count: usize) -> bool {
     }
 }
 
-// Makes the call of a line and compares. The list, the key and a buffer for messages are lent.
-pub fn check(
-    case: Case,
-    letter: u8,
-    line: &[u16],
-    list: &mut [u16; SPACE],
-    key: &mut [u16; SPACE],
-    out: &mut [u16; SPACE],
-) -> Checked {
-    if !fits(letter, line.len()) {
-        let verdict = Verdict::Damaged;
-        return Checked { case, verdict };
-    }
+// The lines of the service.
+fn check_service(case: Case, letter: u8, line: &[u16]) -> Checked {
     match letter {
         b'p' => check_plan(line),
-        b'l' => lend_list(case, line, list),
-        b'y' => lend_key(case, line, key),
-        b'k' => check_key(case, line, list, key),
-        b's' => check_start(case, line),
-        b'f' => check_first(case, line, key, out),
-        b'r' => check_reply(case, line, key),
         b'o' => check_open(case, line),
         b'e' => check_elements(case, line),
         b'c' => check_close(case, line),
         b'a' => check_answers(case, line),
         _ => check_finish(case, line),
+    }
+}
+
+// Makes the call of a line and compares; the random list and the key are lent.
+pub fn check(case: Case, letter: u8, line: &[u16], lent: &mut [u16; SPACE]) -> Checked {
+    if !fits(letter, line.len()) {
+        let verdict = Verdict::Damaged;
+        return Checked { case, verdict };
+    }
+    match letter {
+        b'l' => lend_list(case, line, lent),
+        b'y' => lend_key(case, line, lent),
+        b'k' => check_key(case, line, lent),
+        b's' => check_start(case, line),
+        b'f' => check_first(case, line, lent),
+        b'r' => check_reply(case, line, lent),
+        _ => check_service(case, letter, line),
     }
 }

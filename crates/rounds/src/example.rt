@@ -1,7 +1,7 @@
 // The examples of document 01 that no theorem covers.
 //   whole_plan     plan 8 2 1 16: its lengths, and a round with dropouts before the close and behind it
 //   stream_lines   the example stream, cut in two at every byte: the printed lines; and the line of refusal 7
-// Document 01's airfield is a user here. The buffers are lent by the program; what they hold before is of no account.
+// Document 01's airfield is a user here.
 ghost use Prim.Native.Nat.{_≤_};
 ghost use Rattle.scheme.specs.Good.{Good};
 ghost use Rattle.plan.specs.Plan.{plan-of};
@@ -10,10 +10,14 @@ use crate::calls::give_first;
 use crate::calls::give_reply;
 use crate::calls::make_into;
 use crate::calls::send_into;
+use crate::lists::ROOM;
 use crate::lists::SPACE;
+use crate::lists::front;
+use crate::lists::marked;
 use crate::lists::number_at;
 use crate::lists::part;
 use client::Client;
+use client::Stage;
 use client::Start;
 use plan::Plan;
 use service::Service;
@@ -25,6 +29,8 @@ const LIST: usize = 4080;
 
 const KEY: usize = 2048;
 
+const USERS: u32 = 8;
+
 const PLACES: usize = 16;
 
 const BLOCKS: usize = 16;
@@ -33,7 +39,7 @@ fn the_plan() -> Plan
     ensures { λ r. ⌜ Good (plan-of r) ⌝ }
 {
     Plan {
-        users: 8,
+        users: USERS,
         threshold: 2,
         collusion: 1,
         blocks: 16,
@@ -68,14 +74,16 @@ fn figure(user: u32, place: u32) -> u32
     ((user % 16) * 30011 + (place % 16) * 4099) % 65521
 }
 
-fn figures_of(user: u32, row: &mut [u16]) {
+fn figures_of(user: u32) -> [u16; ROOM] {
+    let mut row = marked();
     let mut place: u32 = 0;
     let mut i = 0;
-    while i < row.len() {
+    while i < PLACES {
         row[i] = figure(user, place) as u16;
-        place = std::num::wrapping_add_u32(place, 1);
+        place += 1;
         i += 1;
     }
+    row
 }
 
 // The sum of the figures of users 1 to 6.
@@ -102,62 +110,65 @@ fn totals_right(totals: &[u16; 96]) -> bool {
     true
 }
 
+// What a user has made: its end, its key and its first message, and whether every call answered as it must.
 struct Sent {
-    end: Client,
     ok: bool,
+    end: Client,
+    key: [u16; ROOM],
+    message: [u16; ROOM],
 }
 
-// What a user's reply to the survivors answers.
-fn reply_number(user: u32) -> u32 {
+// A fresh end; the calls of one that start refuses answer 4.
+fn fresh_end(plan: Plan, user: u32) -> Client {
+    let started = Client::start(plan, user);
+    match started {
+        Start::Started(end) => end,
+        Start::Refused(_) => Client {
+            plan,
+            user: 0,
+            stage: Stage::Fresh,
+        },
+    }
+}
+
+// Whether key maker and first message answer 0, and the reply too, but 6 of one that is no survivor.
+fn numbers_right(user: u32, made: u32, sent: u32, replied: u32) -> bool {
+    if made != 0 {
+        return false;
+    }
+    if sent != 0 {
+        return false;
+    }
     if user <= IN_TIME {
-        return 0;
+        return replied == 0;
     }
-    6
+    replied == 6
 }
 
-// A user's key, first message and reply to the survivors; 6 refuses the reply of one that is no survivor.
-fn user_calls(
-    user: u32,
-    list: &[u16; SPACE],
-    key: &mut [u16; SPACE],
-    figures: &mut [u16; SPACE],
-    out: &mut [u16; SPACE],
-) -> Sent
-    requires { ⌜ (1 ≤ user) × (user ≤ 8) ⌝ }
-{
+// A user's key, first message and reply to the survivors.
+fn user_calls(user: u32, list: &[u16; SPACE]) -> Sent {
     let plan = the_plan();
-    let fresh = Client {
-        plan,
-        user,
-        stage: client::Stage::Fresh,
-    };
-    let none = Sent {
-        end: fresh,
-        ok: false,
-    };
-    if plan::key_length(plan, user) != KEY {
-        return none;
-    }
-    if make_into(plan, user, part(list, 0, LIST), key, KEY) != 0 {
-        return none;
-    }
-    let Start::Started(end) = Client::start(plan, user) else {
-        return none;
-    };
-    figures_of(user, figures);
-    let sent = send_into(end, part(key, 0, KEY), part(figures, 0, PLACES), out, PLACES);
-    if sent.number != 0 {
-        return none;
-    }
+    let figures = figures_of(user);
+    let mut key = marked();
+    let mut message = marked();
+    let made = make_into(plan, user, part(list, 0, LIST), &mut key, KEY);
+    let end = fresh_end(plan, user);
+    let sent = send_into(
+        end,
+        front(&key, KEY),
+        front(&figures, PLACES),
+        &mut message,
+        PLACES,
+    );
     let next = sent.client;
-    let answer = next.reply(part(key, 0, KEY), SURVIVORS);
+    let answer = next.reply(front(&key, KEY), SURVIVORS);
     let last = answer.client;
-    if answer.number != reply_number(user) {
-        return none;
-    }
+    let ok = numbers_right(user, made, sent.number, answer.number);
     Sent {
+        ok,
         end: last,
-        ok: true,
+        key,
+        message,
     }
 }
 
@@ -169,42 +180,29 @@ fn refuted(service: Service) -> Given {
 }
 
 // A user makes its calls, and the service is given the first `count` elements of its message, each answered by the number.
-fn send_one(
-    service: Service,
-    user: u32,
-    count: usize,
-    number: u32,
-    list: &[u16; SPACE],
-    key: &mut [u16; SPACE],
-    figures: &mut [u16; SPACE],
-    out: &mut [u16; SPACE],
-) -> Given
-    requires { ⌜ (1 ≤ user) × (user ≤ 8) ⌝ }
-{
-    let sent = user_calls(user, list, key, figures, out);
+fn send_one(before: Given, user: u32, count: usize, number: u32, list: &[u16; SPACE]) -> Given {
+    let service = before.service;
+    let sent = user_calls(user, list);
+    if !before.agrees {
+        return refuted(service);
+    }
     if !sent.ok {
         return refuted(service);
     }
-    give_first(service, user, 0, part(out, 0, count), number)
+    let message = sent.message;
+    give_first(service, user, 0, front(&message, count), number)
 }
 
 // A survivor makes its calls, and the service is given its reply.
-fn answer_one(
-    service: Service,
-    user: u32,
-    list: &[u16; SPACE],
-    key: &mut [u16; SPACE],
-    figures: &mut [u16; SPACE],
-    out: &mut [u16; SPACE],
-) -> Given
-    requires { ⌜ (1 ≤ user) × (user ≤ 8) ⌝ }
-{
-    let sent = user_calls(user, list, key, figures, out);
-    if !sent.ok {
+fn answer_one(before: Given, user: u32, list: &[u16; SPACE]) -> Given {
+    let service = before.service;
+    let sent = user_calls(user, list);
+    if !before.agrees {
         return refuted(service);
     }
     let end = sent.end;
-    let shares = end.part(part(key, 0, KEY), SURVIVORS);
+    let key = sent.key;
+    let shares = end.part(front(&key, KEY), SURVIVORS);
     if shares.len() != BLOCKS {
         return refuted(service);
     }
@@ -212,100 +210,89 @@ fn answer_one(
 }
 
 // The whole messages of users 1 to 6.
-fn send_in_time(
-    start: Service,
-    list: &[u16; SPACE],
-    key: &mut [u16; SPACE],
-    figures: &mut [u16; SPACE],
-    out: &mut [u16; SPACE],
-) -> Given {
-    let mut service = start;
+fn send_in_time(start: Given, list: &[u16; SPACE]) -> Given {
+    let mut given = start;
     let mut user: u32 = 1;
     while user <= IN_TIME {
-        let given = send_one(service, user, PLACES, 0, list, key, figures, out);
-        let next = given.service;
-        service = next;
-        if !given.agrees {
-            return refuted(service);
-        }
+        let next = send_one(given, user, PLACES, 0, list);
+        given = next;
         user += 1;
     }
-    Given {
-        service,
-        agrees: true,
-    }
+    given
 }
 
 // The replies of users 2 to 6.
-fn answer_all(
-    start: Service,
-    list: &[u16; SPACE],
-    key: &mut [u16; SPACE],
-    figures: &mut [u16; SPACE],
-    out: &mut [u16; SPACE],
-) -> Given {
-    let mut service = start;
+fn answer_all(start: Given, list: &[u16; SPACE]) -> Given {
+    let mut given = start;
     let mut user = FIRST_TO_REPLY;
     while user <= IN_TIME {
-        let given = answer_one(service, user, list, key, figures, out);
-        let next = given.service;
-        service = next;
-        if !given.agrees {
-            return refuted(service);
-        }
+        let next = answer_one(given, user, list);
+        given = next;
         user += 1;
     }
+    given
+}
+
+fn opened() -> Given {
+    let planned = Service::new().plan(the_plan());
+    let first = planned.service;
+    let opened = first.open(1);
+    let service = opened.service;
     Given {
         service,
-        agrees: true,
+        agrees: planned.number == 0,
     }
 }
 
-// The lengths, and a round through the service: its total is the sum of the survivors' figures.
-pub fn whole_plan(
-    list: &mut [u16; SPACE],
-    key: &mut [u16; SPACE],
-    figures: &mut [u16; SPACE],
-    out: &mut [u16; SPACE],
-) -> bool {
-    let plan = the_plan();
-    if plan::list_length(plan) != LIST {
-        return false;
-    }
-    some_elements(list);
-    let planned = Service::new().plan(plan).service;
-    let opened = planned.open(1).service;
-    let whole = send_in_time(opened, list, key, figures, out);
-    if !whole.agrees {
-        return false;
-    }
-    let most = whole.service;
-    let rows = send_one(most, UNFINISHED, PLACES - 1, 0, list, key, figures, out);
-    if !rows.agrees {
-        return false;
-    }
-    let gathered = rows.service;
+fn closed(before: Given) -> Given {
+    let gathered = before.service;
     let closed = gathered.close();
-    if closed.set != SURVIVORS {
-        return false;
+    let service = closed.service;
+    if !before.agrees {
+        return refuted(service);
     }
-    let replying = closed.service;
-    let late = send_one(replying, LATE, PLACES, 12, list, key, figures, out);
-    if !late.agrees {
-        return false;
+    Given {
+        service,
+        agrees: closed.set == SURVIVORS,
     }
-    let after = late.service;
-    let answered = answer_all(after, list, key, figures, out);
-    if !answered.agrees {
-        return false;
-    }
-    let replied = answered.service;
+}
+
+fn total_right(before: Given) -> bool {
+    let replied = before.service;
     let finished = finish::finish(replied);
+    let totals = finished.totals;
+    if !before.agrees {
+        return false;
+    }
     if finished.number != 0 {
         return false;
     }
-    let totals = finished.totals;
     totals_right(&totals)
+}
+
+fn lengths_right() -> bool {
+    let plan = the_plan();
+    let mut user: u32 = 1;
+    while user <= USERS {
+        if plan::key_length(plan, user) != KEY {
+            return false;
+        }
+        user += 1;
+    }
+    plan::list_length(plan) == LIST
+}
+
+// The lengths, and a round through the service: its total is the sum of the survivors' figures.
+pub fn whole_plan(list: &mut [u16; SPACE]) -> bool {
+    some_elements(list);
+    let whole = send_in_time(opened(), list);
+    let rows = send_one(whole, UNFINISHED, PLACES - 1, 0, list);
+    let late = send_one(closed(rows), LATE, PLACES, 12, list);
+    let replied = answer_all(late, list);
+    if !lengths_right() {
+        return false;
+    }
+    total_right(replied)
 }
 
 // Room for a chunk of the input, and for the lines of the example.
@@ -361,7 +348,13 @@ fn cut_lines(input: &[u8], lines: &[u8], cut: usize, text: &mut [u8; BYTES]) -> 
     let service = first.service;
     let at = first.at;
     let wrote = first.wrote;
-    let second = feed_behind(service, piece(input, at, input.len()), at as u64, text, wrote);
+    let second = feed_behind(
+        service,
+        piece(input, at, input.len()),
+        at as u64,
+        text,
+        wrote,
+    );
     let stop = second.stop;
     if !all_used(stop) {
         return false;
@@ -382,7 +375,8 @@ fn every_cut(input: &[u8], lines: &[u8], text: &mut [u8; BYTES]) -> bool {
 
 // The example input of document 01 and its output; and the line of a record cut short at offset 34.
 pub fn stream_lines(text: &mut [u8; BYTES]) -> bool {
-    let input = b"\x01\x03\x02\x01\x01\x02\x07\x00\x00\x00\x03\x01\x00\x00\x6E\x00\x03\x03\x00\x00\x4A\x01\x04\x03\x02\x00\x00\xDC\x00\x05\x01\x00\xDC\x00\x05\x03\x00\x70\x00\x06";
+    let input =
+        b"\x01\x03\x02\x01\x01\x02\x07\x00\x00\x00\x03\x01\x00\x00\x6E\x00\x03\x03\x00\x00\x4A\x01\x04\x03\x02\x00\x00\xDC\x00\x05\x01\x00\xDC\x00\x05\x03\x00\x70\x00\x06";
     let lines = b"plan 3 2 1 1\nopen 7\nsurvivors 7 5\nrefused 12 at 23\ntotal 7 40\n";
     if !every_cut(input, lines, text) {
         return false;

@@ -80,12 +80,20 @@ fn ended(mut line: Line, numbers: &mut [u16]) -> Line
     line
 }
 
+// The letter of a line that begins with this byte; a line has one from its first byte on.
+fn letter_of(byte: u8) -> u8 {
+    if byte == 0 {
+        return b'?';
+    }
+    byte
+}
+
 // One byte of a line that is not its end.
 fn take(mut line: Line, byte: u8, numbers: &mut [u16]) -> Line
     ensures { λ r. ⌜ length (now (numbers .exit)) ≡ length (now (numbers .entry)) ⌝ }
 {
     if line.letter == 0 {
-        line.letter = byte;
+        line.letter = letter_of(byte);
         return line;
     }
     if byte == b' ' {

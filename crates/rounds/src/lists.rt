@@ -1,19 +1,32 @@
 // Lists of numbers, read without a requirement: past the end stands 0, and what is no part of a list is empty.
-//   SPACE, space            a buffer
+//   SPACE, space            what is lent
+//   ROOM, MARK, marked      a buffer for a key or a message
 //   number_at, part, rest   a number; the numbers of a range; those from a place on
+//   front, key_of           the first elements of a buffer; the key that is lent
 //   same, all_are           two lists that are equal; a list with one number throughout
-//   fill, copy              writes one number throughout; writes a list
-//   holds_just              a list, and one number throughout behind it
+//   copy_to                 writes a list
+//   holds_just, marked_behind   a list, and one number throughout behind it
 ghost use mathlib.Core.Path.{_≡_};
 ghost use mathlib.Core.Bool.{true};
 ghost use Prim.Native.Nat.{ℕ, _≤_, _<_};
 ghost use lib.ListN.{length, getD};
 
-// Room for the longest random list, 7952 elements, and for every line.
-pub const SPACE: usize = 8192;
+// Room for what is lent: the longest random list, 7952 elements, and behind it the longest key, 2048. No line has more numbers.
+pub const SPACE: usize = 10496;
+
+pub const KEY_AT: usize = 8192;
 
 pub fn space() -> [u16; SPACE] {
     [0; SPACE]
+}
+
+// A buffer for a key or a message, with the mark throughout.
+pub const ROOM: usize = 2304;
+
+pub const MARK: u16 = 7;
+
+pub fn marked() -> [u16; ROOM] {
+    [MARK; ROOM]
 }
 
 fn wide(x: u16) -> u32
@@ -45,6 +58,14 @@ pub fn rest(s: &[u16], from: usize) -> &[u16] {
     part(s, from, s.len())
 }
 
+pub fn front(s: &[u16; ROOM], n: usize) -> &[u16] {
+    part(s, 0, n)
+}
+
+pub fn key_of(lent: &[u16; SPACE], n: usize) -> &[u16] {
+    part(rest(lent, KEY_AT), 0, n)
+}
+
 pub fn same(a: &[u16], b: &[u16]) -> bool
     ensures { λ r. ⌜ (r ≡ true → now (a .entry) ≡ now (b .entry)) × (now (a .entry) ≡ now (b .entry) → r ≡ true) ⌝ }
 {
@@ -74,22 +95,17 @@ pub fn all_are(s: &[u16], x: u16) -> bool
     true
 }
 
-pub fn fill(s: &mut [u16], x: u16) {
-    let mut i = 0;
-    while i < s.len() {
-        s[i] = x;
-        i += 1;
+// Writes s into out from `at` on, and answers whether it fits.
+pub fn copy_to(s: &[u16], out: &mut [u16], at: usize) -> bool {
+    if out.len() < at {
+        return false;
     }
-}
-
-// Writes s to the front of out, and answers whether it fits.
-pub fn copy(s: &[u16], out: &mut [u16]) -> bool {
-    if out.len() < s.len() {
+    if out.len() - at < s.len() {
         return false;
     }
     let mut i = 0;
     while i < s.len() {
-        out[i] = s[i];
+        out[at + i] = s[i];
         i += 1;
     }
     true
@@ -101,4 +117,9 @@ pub fn holds_just(s: &[u16], wanted: &[u16], x: u16) -> bool {
         return false;
     }
     all_are(rest(s, wanted.len()), x)
+}
+
+// Whether a buffer is the wanted list, then the mark throughout.
+pub fn marked_behind(s: &[u16; ROOM], wanted: &[u16]) -> bool {
+    holds_just(s, wanted, MARK)
 }

@@ -88,18 +88,11 @@ fn agrees(verdict: Verdict) -> bool {
 }
 
 // A whole line: the call is made and compared.
-fn whole(
-    run: Run,
-    line: Line,
-    numbers: &[u16; SPACE],
-    list: &mut [u16; SPACE],
-    key: &mut [u16; SPACE],
-    out: &mut [u16; SPACE],
-) -> Run {
+fn whole(run: Run, line: Line, numbers: &[u16; SPACE], lent: &mut [u16; SPACE]) -> Run {
     let case = run.case;
     let count = line.count;
     let letter = if line.damaged { 0 } else { line.letter };
-    let checked = calls::check(case, letter, lists::part(numbers, 0, count), list, key, out);
+    let checked = calls::check(case, letter, lists::part(numbers, 0, count), lent);
     let next = checked.case;
     let verdict = checked.verdict;
     let lines = std::num::wrapping_add_u64(run.lines, 1);
@@ -120,14 +113,7 @@ fn whole(
 }
 
 // The lines of a chunk, up to the first that does not agree; what is left of a line stays under way.
-fn take(
-    start: Run,
-    chunk: &[u8],
-    numbers: &mut [u16; SPACE],
-    list: &mut [u16; SPACE],
-    key: &mut [u16; SPACE],
-    out: &mut [u16; SPACE],
-) -> Run {
+fn take(start: Run, chunk: &[u8], numbers: &mut [u16; SPACE], lent: &mut [u16; SPACE]) -> Run {
     let mut run = start;
     let mut at = 0;
     while at < chunk.len() {
@@ -135,7 +121,7 @@ fn take(
         let read = line::read_on(under_way, chunk, at, numbers);
         let line = read.line;
         if read.whole {
-            let next = whole(run, line, numbers, list, key, out);
+            let next = whole(run, line, numbers, lent);
             run = next;
             if run.done {
                 return run;
@@ -170,14 +156,12 @@ fn turn(
     run: Run,
     buf: &mut [u8; BYTES],
     numbers: &mut [u16; SPACE],
-    list: &mut [u16; SPACE],
-    key: &mut [u16; SPACE],
-    out: &mut [u16; SPACE],
+    lent: &mut [u16; SPACE],
 ) -> Run {
     let got = fill(buf);
     match got {
         Got::Bytes(n) => {
-            let next = take(run, example::piece(buf, 0, n), numbers, list, key, out);
+            let next = take(run, example::piece(buf, 0, n), numbers, lent);
             if next.done {
                 tell(next);
             }
@@ -192,14 +176,8 @@ fn turn(
     }
 }
 
-fn examples(
-    buf: &mut [u8; BYTES],
-    numbers: &mut [u16; SPACE],
-    list: &mut [u16; SPACE],
-    key: &mut [u16; SPACE],
-    out: &mut [u16; SPACE],
-) -> bool {
-    if !example::whole_plan(list, key, numbers, out) {
+fn examples(buf: &mut [u8; BYTES], lent: &mut [u16; SPACE]) -> bool {
+    if !example::whole_plan(lent) {
         say(b"plan 8 2 1 16: a result differs\n");
         return false;
     }
@@ -232,21 +210,17 @@ fn new_run() -> Run {
 fn main() {
     let mut input = io::large_buffer();
     let mut line_space = lists::space();
-    let mut list_space = lists::space();
-    let mut key_space = lists::space();
-    let mut out_space = lists::space();
+    let mut lent_space = lists::space();
     let buf = &mut input;
     let numbers = &mut line_space;
-    let list = &mut list_space;
-    let key = &mut key_space;
-    let out = &mut out_space;
-    if !examples(buf, numbers, list, key, out) {
+    let lent = &mut lent_space;
+    if !examples(buf, lent) {
         return;
     }
     let mut run = new_run();
     let mut turns = u64::MAX;
     while 0 < turns {
-        let next = turn(run, buf, numbers, list, key, out);
+        let next = turn(run, buf, numbers, lent);
         if next.done {
             return;
         }

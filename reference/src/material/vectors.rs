@@ -115,9 +115,7 @@ impl Case {
 
     pub fn first_elements(&mut self, airfield: u8, place: u16, elements: &[Element]) {
         let mut service = self.service.clone();
-        let give = |(place, &element)| {
-            number_of(&service.first_element(airfield, place, element))
-        };
+        let give = |(place, &element)| number_of(&service.first_element(airfield, place, element));
         let numbers: Vec<u16> = (place..).zip(elements).map(give).collect();
         self.service = service;
         self.runs('e', airfield, place, elements, &numbers);
@@ -131,9 +129,7 @@ impl Case {
 
     pub fn reply_elements(&mut self, airfield: u8, block: u8, elements: &[Element]) {
         let mut service = self.service.clone();
-        let give = |(block, &element)| {
-            number_of(&service.reply_element(airfield, block, element))
-        };
+        let give = |(block, &element)| number_of(&service.reply_element(airfield, block, element));
         let numbers: Vec<u16> = (block..).zip(elements).map(give).collect();
         self.service = service;
         self.runs('a', airfield, block.into(), elements, &numbers);
@@ -147,7 +143,14 @@ impl Case {
     }
 
     /// A line for each run of elements with the same answer.
-    fn runs(&mut self, letter: char, airfield: u8, from: u16, elements: &[Element], numbers: &[u16]) {
+    fn runs(
+        &mut self,
+        letter: char,
+        airfield: u8,
+        from: u16,
+        elements: &[Element],
+        numbers: &[u16],
+    ) {
         let mut start = 0;
         for run in numbers.chunk_by(|a, b| a == b) {
             let end = start + run.len();

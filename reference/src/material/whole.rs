@@ -11,7 +11,10 @@
 
 use super::rounds::some_of;
 use super::vectors::Case;
-use super::{plan_by_seed, rounds::{GARBLED, OFTEN, RARE}};
+use super::{
+    plan_by_seed,
+    rounds::{GARBLED, OFTEN, RARE},
+};
 use crate::field::{add, Element, LARGEST, Q};
 use crate::random::Random;
 use crate::scheme::{set_of, Plan, Set};
@@ -66,13 +69,7 @@ fn without(airfields: &[u8], some: &[u8]) -> Vec<u8> {
 
 /// Key, first message and reply of one airfield; now and then it is asked
 /// again, for the same set or for another.
-fn calls(
-    case: &mut Case,
-    plan: &Plan,
-    airfield: u8,
-    survivors: Set,
-    random: &mut Random,
-) -> Sent {
+fn calls(case: &mut Case, plan: &Plan, airfield: u8, survivors: Set, random: &mut Random) -> Sent {
     case.make_key(airfield, plan.key_length(airfield));
     case.start(airfield);
     let message = case.first_message(&random.elements(plan.row_length()), plan.row_length());

@@ -1,24 +1,14 @@
-use mathlib.Core.Path.{_≡_, refl, sym, ap, _∙_}
-use mathlib.Core.Logic.{⊎-elim}
-use Prim.Native.Nat.{ℕ, zero, suc, _+_, _*_, _-_, _/_, _%_, _^_, _≤_, _<_}
-use native.Mathlib.Omega.{arith}
-use lib.ListN.{length, getD, take, drop, length-set}
+-- `rounds::main` is safe and ends: the number of turns falls.
+-- Assumes nothing.
 use borrow.Author.Needs.{needs}
 use Rattle.rounds.proofs.main.Statement.{statement}
 use Rattle.rounds.proofs.main.Tie as tie
-use Rattle.rounds.proofs.main.Reads as reads
-use Rattle.rounds.proofs.main.Lts as lts
-use Rattle.io.proofs.large_buffer.Reads as large-buffer-reads
-use Rattle.rounds.proofs.examples.Reads as examples-reads
-use Rattle.rounds.proofs.lists.space.Reads as space-reads
-use Rattle.rounds.proofs.new_run.Reads as new-run-reads
-use Rattle.rounds.proofs.turn.Reads as turn-reads
 
 abbrev Inv-loop : tie.InvT-loop
-Inv-loop buf₀ numbers₀ list₀ key₀ out₀ run₀ turns₀ buf numbers list key out run turns = Unit {0}
+Inv-loop buf₀ numbers₀ lent₀ run₀ turns₀ buf numbers lent run turns = Unit {0}
 
 abbrev μ-loop : tie.MeasureT-loop
-μ-loop buf₀ numbers₀ list₀ key₀ out₀ run₀ turns₀ buf numbers list key out run turns = turns
+μ-loop buf₀ numbers₀ lent₀ run₀ turns₀ buf numbers lent run turns = turns
 
 large-buffer-requires : tie.Need-large-buffer-requires Inv-loop μ-loop
 large-buffer-requires c κs = search needs
@@ -28,12 +18,6 @@ space-requires c κs = search needs
 
 space-requires-2 : tie.Need-space-requires-2 Inv-loop μ-loop
 space-requires-2 c κs = search needs
-
-space-requires-3 : tie.Need-space-requires-3 Inv-loop μ-loop
-space-requires-3 c κs = search needs
-
-space-requires-4 : tie.Need-space-requires-4 Inv-loop μ-loop
-space-requires-4 c κs = search needs
 
 examples-requires : tie.Need-examples-requires Inv-loop μ-loop
 examples-requires c κs = search needs
@@ -74,8 +58,6 @@ main-spec =
     large-buffer-requires
     space-requires
     space-requires-2
-    space-requires-3
-    space-requires-4
     examples-requires
     returns
     new-run-requires

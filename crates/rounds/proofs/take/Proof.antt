@@ -1,21 +1,16 @@
-use mathlib.Core.Path.{_≡_, refl, sym, ap, _∙_}
-use mathlib.Core.Logic.{⊎-elim}
-use Prim.Native.Nat.{ℕ, zero, suc, _+_, _*_, _-_, _/_, _%_, _^_, _≤_, _<_}
-use native.Mathlib.Omega.{arith}
-use lib.ListN.{length, getD, take, drop, length-set}
+-- `rounds::take` is safe and ends: what is left of the chunk falls.
+-- Assumes nothing.
+use Prim.Native.Nat.{_-_, _≤_}
+use lib.ListN.{length}
 use borrow.Author.Needs.{needs}
 use Rattle.rounds.proofs.take.Statement.{statement}
 use Rattle.rounds.proofs.take.Tie as tie
-use Rattle.rounds.proofs.take.Reads as reads
-use Rattle.rounds.proofs.take.Lts as lts
-use Rattle.rounds.proofs.line.read_on.Reads as read-on-reads
-use Rattle.rounds.proofs.whole.Reads as whole-reads
 
 abbrev Inv-loop : tie.InvT-loop
-Inv-loop chunk numbers₀ list₀ key₀ out₀ run₀ at₀ numbers list key out run at = at ≤ length chunk
+Inv-loop chunk numbers₀ lent₀ run₀ at₀ numbers lent run at = at ≤ length chunk
 
 abbrev μ-loop : tie.MeasureT-loop
-μ-loop chunk numbers₀ list₀ key₀ out₀ run₀ at₀ numbers list key out run at = length chunk - at
+μ-loop chunk numbers₀ lent₀ run₀ at₀ numbers lent run at = length chunk - at
 
 loop-holds : tie.Need-loop-holds Inv-loop μ-loop
 loop-holds c = search needs

@@ -1,15 +1,10 @@
-use mathlib.Core.Path.{_≡_, refl, sym, ap, _∙_}
-use mathlib.Core.Logic.{⊎-elim}
-use Prim.Native.Nat.{ℕ, zero, suc, _+_, _*_, _-_, _/_, _%_, _^_, _≤_, _<_}
-use native.Mathlib.Omega.{arith}
-use lib.ListN.{length, getD, take, drop, length-set}
+-- `rounds::calls::give_reply` is safe and ends: what is left of the elements falls.
+-- Assumes nothing.
+use Prim.Native.Nat.{_-_, _≤_}
+use lib.ListN.{length}
 use borrow.Author.Needs.{needs}
 use Rattle.rounds.proofs.calls.give_reply.Statement.{statement}
 use Rattle.rounds.proofs.calls.give_reply.Tie as tie
-use Rattle.rounds.proofs.calls.give_reply.Reads as reads
-use Rattle.rounds.proofs.calls.give_reply.Lts as lts
-use Rattle.service.proofs.Service.reply_element.Reads as reply-element-reads
-use Rattle.std.proofs.num.wrapping_add_u32.Reads as wrapping-add-u32-reads
 
 abbrev Inv-loop : tie.InvT-loop
 Inv-loop user from elements number service₀ block₀ i₀ service block i = i ≤ length elements

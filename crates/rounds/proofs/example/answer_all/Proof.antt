@@ -1,33 +1,21 @@
-use mathlib.Core.Path.{_≡_, refl, sym, ap, _∙_}
-use mathlib.Core.Logic.{⊎-elim}
-use Prim.Native.Nat.{ℕ, zero, suc, _+_, _*_, _-_, _/_, _%_, _^_, _≤_, _<_}
-use native.Mathlib.Omega.{arith}
-use lib.ListN.{length, getD, take, drop, length-set}
+-- `rounds::example::answer_all` is safe and ends: the users left fall.
+-- Assumes nothing.
+use Prim.Native.Nat.{_-_, _≤_}
 use borrow.Author.Needs.{needs}
 use Rattle.rounds.proofs.example.answer_all.Statement.{statement}
 use Rattle.rounds.proofs.example.answer_all.Tie as tie
-use Rattle.rounds.proofs.example.answer_all.Reads as reads
-use Rattle.rounds.proofs.example.answer_all.Lts as lts
-use Rattle.rounds.proofs.example.answer_one.Reads as answer-one-reads
-use Rattle.rounds.proofs.example.refuted.Reads as refuted-reads
 
 abbrev Inv-loop : tie.InvT-loop
-Inv-loop list key₀ figures₀ out₀ service₀ user₀ key figures out service user = (1 ≤ user) × (user ≤ 7)
+Inv-loop list given₀ user₀ given user = (1 ≤ user) × (user ≤ 7)
 
 abbrev μ-loop : tie.MeasureT-loop
-μ-loop list key₀ figures₀ out₀ service₀ user₀ key figures out service user = 7 - user
+μ-loop list given₀ user₀ given user = 7 - user
 
 loop-holds : tie.Need-loop-holds Inv-loop μ-loop
 loop-holds c = search needs
 
 answer-one-requires : tie.Need-answer-one-requires Inv-loop μ-loop
 answer-one-requires c κs = search needs
-
-refuted-requires : tie.Need-refuted-requires Inv-loop μ-loop
-refuted-requires c κs = search needs
-
-returns : tie.Need-returns Inv-loop μ-loop
-returns c = search needs
 
 add-user : tie.Need-add-user Inv-loop μ-loop
 add-user c = search needs
@@ -38,8 +26,8 @@ loop-less c = search needs
 loop-again : tie.Need-loop-again Inv-loop μ-loop
 loop-again c = search needs
 
-returns-2 : tie.Need-returns-2 Inv-loop μ-loop
-returns-2 c = search needs
+returns : tie.Need-returns Inv-loop μ-loop
+returns c = search needs
 
 pub answer-all-spec : {M : Type 1} → statement M
 answer-all-spec =
@@ -49,9 +37,7 @@ answer-all-spec =
     μ-loop
     loop-holds
     answer-one-requires
-    refuted-requires
-    returns
     add-user
     loop-less
     loop-again
-    returns-2)
+    returns)

@@ -1,14 +1,10 @@
-use mathlib.Core.Path.{_≡_, refl, sym, ap, _∙_}
-use mathlib.Core.Logic.{⊎-elim}
-use Prim.Native.Nat.{ℕ, zero, suc, _+_, _*_, _-_, _/_, _%_, _^_, _≤_, _<_}
-use native.Mathlib.Omega.{arith}
-use lib.ListN.{length, getD, take, drop, length-set}
+-- `rounds::example::every_cut` is safe and ends: the bytes left fall.
+-- Assumes nothing.
+use Prim.Native.Nat.{_-_, _≤_}
+use lib.ListN.{length}
 use borrow.Author.Needs.{needs}
 use Rattle.rounds.proofs.example.every_cut.Statement.{statement}
 use Rattle.rounds.proofs.example.every_cut.Tie as tie
-use Rattle.rounds.proofs.example.every_cut.Reads as reads
-use Rattle.rounds.proofs.example.every_cut.Lts as lts
-use Rattle.rounds.proofs.example.cut_lines.Reads as cut-lines-reads
 
 abbrev Inv-loop : tie.InvT-loop
 Inv-loop input lines text₀ cut₀ text cut = cut ≤ length input

@@ -1,13 +1,11 @@
-use mathlib.Core.Path.{_≡_, refl, sym, ap, _∙_}
-use mathlib.Core.Logic.{⊎-elim}
-use Prim.Native.Nat.{ℕ, zero, suc, _+_, _*_, _-_, _/_, _%_, _^_, _≤_, _<_}
-use native.Mathlib.Omega.{arith}
-use lib.ListN.{length, getD, take, drop, length-set}
+-- `rounds::example::some_elements` is safe and ends: each number is an element, and what is left of the list falls.
+-- Assumes nothing.
+use mathlib.Core.Path.{_≡_}
+use Prim.Native.Nat.{_-_, _≤_, _<_}
+use lib.ListN.{length}
 use borrow.Author.Needs.{needs}
 use Rattle.rounds.proofs.example.some_elements.Statement.{statement}
 use Rattle.rounds.proofs.example.some_elements.Tie as tie
-use Rattle.rounds.proofs.example.some_elements.Reads as reads
-use Rattle.rounds.proofs.example.some_elements.Lts as lts
 
 abbrev Inv-loop : tie.InvT-loop
 Inv-loop list₀ x₀ i₀ list x i = (i ≤ length list₀) × (length list ≡ length list₀) × (x < 65521)

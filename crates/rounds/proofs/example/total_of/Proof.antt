@@ -1,14 +1,9 @@
-use mathlib.Core.Path.{_≡_, refl, sym, ap, _∙_}
-use mathlib.Core.Logic.{⊎-elim}
-use Prim.Native.Nat.{ℕ, zero, suc, _+_, _*_, _-_, _/_, _%_, _^_, _≤_, _<_}
-use native.Mathlib.Omega.{arith}
-use lib.ListN.{length, getD, take, drop, length-set}
+-- `rounds::example::total_of` is safe and ends: the sum is reduced, and the users left fall.
+-- Assumes nothing.
+use Prim.Native.Nat.{_-_, _≤_, _<_}
 use borrow.Author.Needs.{needs}
 use Rattle.rounds.proofs.example.total_of.Statement.{statement}
 use Rattle.rounds.proofs.example.total_of.Tie as tie
-use Rattle.rounds.proofs.example.total_of.Reads as reads
-use Rattle.rounds.proofs.example.total_of.Lts as lts
-use Rattle.rounds.proofs.example.figure.Reads as figure-reads
 
 abbrev Inv-loop : tie.InvT-loop
 Inv-loop place sum₀ user₀ sum user = (sum < 65521) × (user ≤ 7)

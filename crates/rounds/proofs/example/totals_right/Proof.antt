@@ -1,15 +1,9 @@
-use mathlib.Core.Path.{_≡_, refl, sym, ap, _∙_}
-use mathlib.Core.Logic.{⊎-elim}
-use Prim.Native.Nat.{ℕ, zero, suc, _+_, _*_, _-_, _/_, _%_, _^_, _≤_, _<_}
-use native.Mathlib.Omega.{arith}
-use lib.ListN.{length, getD, take, drop, length-set}
+-- `rounds::example::totals_right` is safe and ends: the places left fall.
+-- Assumes nothing.
+use Prim.Native.Nat.{_-_, _≤_}
 use borrow.Author.Needs.{needs}
 use Rattle.rounds.proofs.example.totals_right.Statement.{statement}
 use Rattle.rounds.proofs.example.totals_right.Tie as tie
-use Rattle.rounds.proofs.example.totals_right.Reads as reads
-use Rattle.rounds.proofs.example.totals_right.Lts as lts
-use Rattle.rounds.proofs.example.total_of.Reads as total-of-reads
-use Rattle.rounds.proofs.lists.number_at.Reads as number-at-reads
 
 abbrev Inv-loop : tie.InvT-loop
 Inv-loop totals place₀ i₀ place i = (i ≤ 16) × (place ≤ i)

@@ -1,15 +1,11 @@
-use mathlib.Core.Path.{_≡_, refl, sym, ap, _∙_}
-use mathlib.Core.Logic.{⊎-elim}
-use Prim.Native.Nat.{ℕ, zero, suc, _+_, _*_, _-_, _/_, _%_, _^_, _≤_, _<_}
-use native.Mathlib.Omega.{arith}
-use lib.ListN.{length, getD, take, drop, length-set}
+-- `rounds::line::read_on` meets its contract: a turn takes one byte of the chunk.
+-- Assumes nothing.
+use mathlib.Core.Path.{_≡_}
+use Prim.Native.Nat.{_-_, _≤_}
+use lib.ListN.{length}
 use borrow.Author.Needs.{needs}
 use Rattle.rounds.proofs.line.read_on.Statement.{statement}
 use Rattle.rounds.proofs.line.read_on.Tie as tie
-use Rattle.rounds.proofs.line.read_on.Reads as reads
-use Rattle.rounds.proofs.line.read_on.Lts as lts
-use Rattle.rounds.proofs.line.ended.Reads as ended-reads
-use Rattle.rounds.proofs.line.take.Reads as take-reads
 
 abbrev Inv-loop : tie.InvT-loop
 Inv-loop chunk from numbers₀ line₀ at₀ numbers line at = (from ≤ at) × (at ≤ length chunk) × (length numbers ≡ length numbers₀)

@@ -1,15 +1,13 @@
-use mathlib.Core.Path.{_≡_, refl, sym, ap, _∙_}
-use mathlib.Core.Logic.{⊎-elim}
-use Prim.Native.Nat.{ℕ, zero, suc, _+_, _*_, _-_, _/_, _%_, _^_, _≤_, _<_}
+-- `rounds::lists::all_are` meets its contract: the numbers passed are x.
+-- Assumes nothing.
+use mathlib.Core.Path.{_≡_}
+use Prim.Native.Nat.{ℕ, _-_, _≤_, _<_}
 use native.Mathlib.Omega.{arith}
-use lib.ListN.{length, getD, take, drop, length-set}
-use Rattle.rounds.proofs.Below.{below-next}
-use lib.Seq.{ext-getD}
+use lib.ListN.{length, getD}
 use borrow.Author.Needs.{needs}
+use Rattle.rounds.proofs.Below.{below-next}
 use Rattle.rounds.proofs.lists.all_are.Statement.{statement}
 use Rattle.rounds.proofs.lists.all_are.Tie as tie
-use Rattle.rounds.proofs.lists.all_are.Reads as reads
-use Rattle.rounds.proofs.lists.all_are.Lts as lts
 
 abbrev Inv-loop : tie.InvT-loop
 Inv-loop s x i₀ i = (i ≤ length s) × ((j : ℕ) → j < i → getD s j 0 ≡ x)

@@ -1,14 +1,11 @@
-use mathlib.Core.Path.{_≡_, refl, sym, ap, _∙_}
-use mathlib.Core.Logic.{⊎-elim}
-use Prim.Native.Nat.{ℕ, zero, suc, _+_, _*_, _-_, _/_, _%_, _^_, _≤_, _<_}
-use native.Mathlib.Omega.{arith}
-use lib.ListN.{List·getD-eq-default, length, getD, take, drop, length-set}
+-- `rounds::lists::number_at` meets its contract: past the end `getD` gives 0.
+-- Assumes nothing.
+use mathlib.Core.Path.{sym}
+use Prim.Native.Nat.{_≤_}
+use lib.ListN.{List·getD-eq-default, length}
 use borrow.Author.Needs.{needs}
 use Rattle.rounds.proofs.lists.number_at.Statement.{statement}
 use Rattle.rounds.proofs.lists.number_at.Tie as tie
-use Rattle.rounds.proofs.lists.number_at.Reads as reads
-use Rattle.rounds.proofs.lists.number_at.Lts as lts
-use Rattle.rounds.proofs.lists.wide.Reads as wide-reads
 
 mul-wide : tie.Need-mul-wide
 mul-wide c = search needs

@@ -1,15 +1,14 @@
-use mathlib.Core.Path.{_≡_, refl, sym, ap, _∙_}
-use mathlib.Core.Logic.{⊎-elim}
-use Prim.Native.Nat.{ℕ, zero, suc, _+_, _*_, _-_, _/_, _%_, _^_, _≤_, _<_}
+-- `rounds::lists::same` meets its contract: the numbers passed are the same.
+-- Assumes nothing.
+use mathlib.Core.Path.{_≡_, refl, ap}
+use Prim.Native.Nat.{ℕ, _-_, _≤_, _<_}
 use native.Mathlib.Omega.{arith}
-use lib.ListN.{length, getD, take, drop, length-set}
-use Rattle.rounds.proofs.Below.{below-next}
+use lib.ListN.{length, getD}
 use lib.Seq.{ext-getD}
 use borrow.Author.Needs.{needs}
+use Rattle.rounds.proofs.Below.{below-next}
 use Rattle.rounds.proofs.lists.same.Statement.{statement}
 use Rattle.rounds.proofs.lists.same.Tie as tie
-use Rattle.rounds.proofs.lists.same.Reads as reads
-use Rattle.rounds.proofs.lists.same.Lts as lts
 
 abbrev Inv-loop : tie.InvT-loop
 Inv-loop a b i₀ i = (i ≤ length a) × (length a ≡ length b) × ((j : ℕ) → j < i → getD a j 0 ≡ getD b j 0)

@@ -1,15 +1,11 @@
-use mathlib.Core.Path.{_≡_, refl, sym, ap, _∙_}
-use mathlib.Core.Logic.{⊎-elim}
-use Prim.Native.Nat.{ℕ, zero, suc, _+_, _*_, _-_, _/_, _%_, _^_, _≤_, _<_}
-use lib.Seq.{length-take-le}
+-- `rounds::calls::send_part` is safe and ends: a part of the buffer has its length.
+-- Assumes nothing.
+use mathlib.Core.Path.{sym}
 use native.Mathlib.Omega.{arith}
-use lib.ListN.{length, getD, take, drop, length-set}
+use lib.Seq.{length-take-le}
 use borrow.Author.Needs.{needs}
-use Rattle.rounds.proofs.calls.send_into.Statement.{statement}
-use Rattle.rounds.proofs.calls.send_into.Tie as tie
-use Rattle.rounds.proofs.calls.send_into.Reads as reads
-use Rattle.rounds.proofs.calls.send_into.Lts as lts
-use Rattle.client.proofs.Client.first_message.Reads as first-message-reads
+use Rattle.rounds.proofs.calls.send_part.Statement.{statement}
+use Rattle.rounds.proofs.calls.send_part.Tie as tie
 
 returns : tie.Need-returns
 returns c = search needs
@@ -29,8 +25,8 @@ same-length c = search needs
 returns-2 : tie.Need-returns-2
 returns-2 c = search needs
 
-pub send-into-spec : {M : Type 1} → statement M
-send-into-spec =
+pub send-part-spec : {M : Type 1} → statement M
+send-part-spec =
     tie.close
     (tie.spec
     returns
