@@ -1,6 +1,6 @@
 //! The generated material is repeatable and reaches what it is meant to reach.
 
-use reference::material::{damaged, keys, plan_by_seed, rounds};
+use reference::material::{calls, damaged, plan_by_seed, rounds, whole};
 use reference::stream::{run, to_bytes, Records};
 use std::collections::BTreeSet;
 
@@ -81,25 +81,50 @@ fn damaged_streams_end_in_their_damage() {
     }
 }
 
+/// The letters of all lines, with the number of each; `at` says where in a
+/// line its number stands.
+fn answers(text: &str, at: fn(&str) -> usize) -> BTreeSet<String> {
+    let answer = |line: &str| {
+        let words: Vec<&str> = line.split(' ').collect();
+        format!("{} {}", words[0], words[at(words[0])])
+    };
+    text.lines().filter(|line| !matches!(&line[..1], "l" | "y")).map(answer).collect()
+}
+
+fn number_at(letter: &str) -> usize {
+    match letter {
+        "p" => 5,
+        "k" | "e" | "a" => 3,
+        "s" | "f" | "r" | "o" => 2,
+        _ => 1,
+    }
+}
+
 #[test]
-fn key_cases_reach_every_refusal() {
-    let all: Vec<String> = keys::lines(0, CASES).collect();
-    let refused: BTreeSet<String> = all
-        .iter()
-        .flat_map(|line| line.split(" | "))
-        .filter_map(|field| field.split_once(" refused "))
-        .map(|(call, number)| format!("{call} {number}"))
-        .collect();
+fn calls_reach_every_answer() {
+    let text: String = calls::cases(0, CASES).collect();
     let expected = [
-        "key 1", "key 4", "key 2", "key 3", "start 1", "start 4", "first 18", "first 2", "first 3",
-        "reply 18", "reply 2", "reply 3", "reply 5", "reply 6", "reply 19",
+        "p 0", "p 1", "k 0", "k 1", "k 4", "k 2", "k 3", "s 0", "s 1", "s 4", "f 0", "f 18", "f 2",
+        "f 3", "r 0", "r 18", "r 2", "r 3", "r 5", "r 6", "r 19",
     ];
-    assert_eq!(refused, set(&expected));
+    assert_eq!(answers(&text, number_at), set(&expected));
+}
+
+#[test]
+fn whole_rounds_reach_every_answer_they_can() {
+    let text: String = whole::cases(0, CASES).collect();
+    let expected = [
+        "p 0", "k 0", "s 0", "f 0", "r 0", "r 5", "r 6", "r 19", "o 0", "o 17", "e 0", "e 3",
+        "e 4", "e 8", "e 12", "e 13", "c 0", "c 15", "a 0", "a 4", "a 8", "a 12", "a 14", "t 0",
+        "t 12", "t 15", "t 16",
+    ];
+    assert_eq!(answers(&text, number_at), set(&expected));
 }
 
 #[test]
 fn the_same_seed_gives_the_same_material() {
     assert_eq!(rounds::records(9, ROUNDS), rounds::records(9, ROUNDS));
     assert_eq!(damaged::bytes(9, STEPS), damaged::bytes(9, STEPS));
-    assert!(keys::lines(9, 4).eq(keys::lines(9, 4)));
+    assert!(calls::cases(9, 4).eq(calls::cases(9, 4)));
+    assert!(whole::cases(9, 4).eq(whole::cases(9, 4)));
 }

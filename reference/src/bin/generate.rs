@@ -2,15 +2,16 @@
 //! - `rounds`: a record stream of COUNT rounds
 //! - `damaged`: a record stream that must be refused in many places, with
 //!   COUNT random records in it
-//! - `keys`: COUNT cases for the key maker and the airfield end, one a line;
-//!   the format is set out in src/material/keys.rs
+//! - `calls`: COUNT cases for the key maker and the airfield end, and
+//! - `whole`: COUNT cases of whole rounds, as text for the program `rounds`;
+//!   src/material/vectors.rs sets it out
 
-use reference::material::{damaged, keys, rounds};
+use reference::material::{calls, damaged, rounds, whole};
 use reference::stream::to_bytes;
 use std::io::{self, BufWriter, Write};
 use std::process::ExitCode;
 
-const USAGE: &str = "usage: generate rounds|damaged|keys SEED [COUNT]";
+const USAGE: &str = "usage: generate rounds|damaged|calls|whole SEED [COUNT]";
 const DEFAULT_COUNT: u32 = 20;
 
 fn main() -> io::Result<ExitCode> {
@@ -23,7 +24,8 @@ fn main() -> io::Result<ExitCode> {
     match kind {
         "rounds" => out.write_all(&to_bytes(&rounds::records(seed, count)))?,
         "damaged" => out.write_all(&damaged::bytes(seed, count))?,
-        "keys" => keys::lines(seed, count).try_for_each(|line| writeln!(out, "{line}"))?,
+        "calls" => calls::cases(seed, count).try_for_each(|case| write!(out, "{case}"))?,
+        "whole" => whole::cases(seed, count).try_for_each(|case| write!(out, "{case}"))?,
         _ => {
             eprintln!("{USAGE}");
             return Ok(ExitCode::FAILURE);

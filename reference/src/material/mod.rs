@@ -3,13 +3,17 @@
 //!
 //! - `rounds`: streams of whole rounds, with the ways a round can go wrong
 //! - `damaged`: streams that try every bound in every phase, and damage
-//! - `keys`: cases for the key maker and the airfield end, as text
+//! - `vectors`: calls with their answers as text, one a line
+//! - `calls`: cases for the key maker and the airfield end, by `vectors`
+//! - `whole`: whole rounds from keys to totals, by `vectors`
 //! - `all_plans`, `plan_by_seed`: every plan there is, one for each seed
 //! - `first_records`, `reply_records`: one airfield's messages as records
 
+pub mod calls;
 pub mod damaged;
-pub mod keys;
 pub mod rounds;
+pub mod vectors;
+pub mod whole;
 
 use crate::field::Element;
 use crate::scheme::{Plan, MAX_AIRFIELDS, MAX_BLOCKS};

@@ -17,9 +17,9 @@ use crate::scheme::{first_message, holds, set_of, shares, Plan, RandomList, Set}
 use crate::stream::Record;
 
 /// How often something happens, in a hundred.
-const RARE: usize = 10;
-const GARBLED: usize = 20;
-const OFTEN: usize = 50;
+pub(super) const RARE: usize = 10;
+pub(super) const GARBLED: usize = 20;
+pub(super) const OFTEN: usize = 50;
 
 pub fn records(seed: u64, count: u32) -> Vec<Record> {
     let mut random = Random::new(seed);
@@ -178,7 +178,7 @@ impl Round<'_> {
 }
 
 /// Mostly at least `least` of the airfields, rarely fewer; in any order.
-fn some_of(airfields: &[u8], least: usize, random: &mut Random) -> Vec<u8> {
+pub(super) fn some_of(airfields: &[u8], least: usize, random: &mut Random) -> Vec<u8> {
     let mut chosen = airfields.to_vec();
     random.shuffle(&mut chosen);
     let enough = least.min(chosen.len());

@@ -1,0 +1,161 @@
+//! Whole rounds from keys to totals, by the calls on both sides.
+//!
+//! - `cases`: the text of `count` cases, by `vectors::Case`
+//!
+//! The plan of case i is that of seed + i, so 896 cases meet every plan. A
+//! case has one round or two, each with its own random list. Every airfield
+//! makes its calls; then the service is given what it sends. Airfields may
+//! drop out before or after the close, leave rows and replies unfinished, come
+//! late, send twice, reply though they are no survivors, and one reply may be
+//! garbled; close and finish may be asked too early, or once too often.
+
+use super::rounds::some_of;
+use super::vectors::Case;
+use super::{
+    plan_by_seed,
+    rounds::{GARBLED, OFTEN, RARE},
+};
+use crate::field::{add, Element, LARGEST, Q};
+use crate::random::Random;
+use crate::scheme::{set_of, Plan, Set};
+
+/// What an airfield sends, its reply empty if it is no survivor.
+struct Sent {
+    airfield: u8,
+    message: Vec<Element>,
+    reply: Vec<Element>,
+}
+
+pub fn cases(seed: u64, count: u32) -> impl Iterator<Item = String> {
+    let mut random = Random::new(seed);
+    (0..count).map(move |index| {
+        let plan = plan_by_seed(seed.wrapping_add(u64::from(index)));
+        let mut case = Case::new(plan.numbers());
+        let rounds = if random.chance(GARBLED) { 2 } else { 1 };
+        for number in 1..=rounds {
+            round(&mut case, &plan, number, &mut random);
+        }
+        case.into_text()
+    })
+}
+
+fn round(case: &mut Case, plan: &Plan, number: u16, random: &mut Random) {
+    let everyone: Vec<u8> = (1..=plan.airfields()).collect();
+    let senders = some_of(&everyone, plan.least(), random);
+    let repliers = some_of(&senders, plan.least(), random);
+    let survivors = set_of(senders.iter().copied());
+    case.lend_list(random.elements(plan.list_length()));
+    let sent: Vec<Sent> =
+        everyone.iter().map(|&airfield| calls(case, plan, airfield, survivors, random)).collect();
+    let of = |airfields: &[u8]| -> Vec<&Sent> {
+        airfields.iter().map(|&airfield| &sent[usize::from(airfield - 1)]).collect()
+    };
+    let others: Vec<u8> = without(&everyone, &senders);
+    let silent = without(&senders, &repliers);
+    case.open(number);
+    gathering(case, plan, &of(&senders), &of(&others), random);
+    replying(case, plan, &of(&repliers), &of(&silent), &of(&others), random);
+    if random.chance(RARE) {
+        case.finish();
+    }
+    if random.chance(RARE) {
+        case.open(number);
+    }
+}
+
+fn without(airfields: &[u8], some: &[u8]) -> Vec<u8> {
+    airfields.iter().copied().filter(|airfield| !some.contains(airfield)).collect()
+}
+
+/// Key, first message and reply of one airfield; now and then it is asked
+/// again, for the same set or for another.
+fn calls(case: &mut Case, plan: &Plan, airfield: u8, survivors: Set, random: &mut Random) -> Sent {
+    case.make_key(airfield, plan.key_length(airfield));
+    case.start(airfield);
+    let message = case.first_message(&random.elements(plan.row_length()), plan.row_length());
+    let reply = case.reply(survivors);
+    if random.chance(GARBLED) {
+        case.reply(random.pick(&[survivors, (1 << plan.airfields()) - 1]));
+    }
+    Sent { airfield, message, reply }
+}
+
+/// Unfinished rows, then whole rows, perhaps with a close before the last one
+/// that is needed, a row sent twice or elements that no row has; then the
+/// close, and rows that come late.
+fn gathering(
+    case: &mut Case,
+    plan: &Plan,
+    senders: &[&Sent],
+    others: &[&Sent],
+    random: &mut Random,
+) {
+    for sent in others {
+        if random.chance(OFTEN) {
+            let from = random.below(sent.message.len());
+            let (start, end) = random.pick(&[(0, from), (from + 1, sent.message.len())]);
+            case.first_elements(sent.airfield, start as u16, &sent.message[start..end]);
+        }
+    }
+    for (index, sent) in senders.iter().enumerate() {
+        if index + 1 == plan.least() && random.chance(RARE) {
+            case.close();
+        }
+        case.first_elements(sent.airfield, 0, &sent.message);
+        if random.chance(RARE) {
+            case.first_elements(sent.airfield, 0, &sent.message);
+        }
+    }
+    if random.chance(RARE) {
+        case.first_elements(random.pick(&[0, plan.airfields() + 1]), 0, &[0]);
+        case.first_elements(1, plan.row_length() as u16, &[0]);
+        case.first_elements(1, 0, &[random.pick(&[Q, u16::MAX])]);
+    }
+    case.close();
+    for sent in others {
+        if random.chance(OFTEN) {
+            case.first_elements(sent.airfield, 0, &sent.message);
+        }
+    }
+}
+
+/// Unfinished replies, replies of others than survivors, then whole replies,
+/// perhaps one garbled, perhaps with a finish before the last one that is
+/// needed; then the finish.
+fn replying(
+    case: &mut Case,
+    plan: &Plan,
+    repliers: &[&Sent],
+    silent: &[&Sent],
+    others: &[&Sent],
+    random: &mut Random,
+) {
+    for sent in silent {
+        if random.chance(OFTEN) && !sent.reply.is_empty() {
+            let end = random.below(sent.reply.len());
+            case.reply_elements(sent.airfield, 0, &sent.reply[..end]);
+        }
+    }
+    for sent in others {
+        if random.chance(OFTEN) {
+            case.reply_elements(sent.airfield, 0, &[random.element()]);
+        }
+    }
+    let garbled = random.chance(GARBLED).then(|| random.below(repliers.len().max(1)));
+    for (index, sent) in repliers.iter().enumerate() {
+        if index + 1 == plan.least() && random.chance(RARE) {
+            case.finish();
+        }
+        let mut reply = sent.reply.clone();
+        if garbled == Some(index) && !reply.is_empty() {
+            let block = random.below(reply.len());
+            reply[block] = add(reply[block], 1 + random.below(usize::from(LARGEST)) as Element);
+        }
+        case.reply_elements(sent.airfield, 0, &reply);
+    }
+    if random.chance(RARE) {
+        case.reply_elements(plan.airfields() + 1, 0, &[0]);
+        case.reply_elements(1, plan.blocks() as u8, &[0]);
+    }
+    case.finish();
+}
