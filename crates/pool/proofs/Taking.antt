@@ -1,4 +1,4 @@
--- What a feed leaves for the next turn.
+-- What a read and a feed leave for the next turn.
 --   kept-past, kept-short, kept-all     how many bytes keep keeps
 --   front-kept                          what stands before a part that is lent
 --   end-none .. bytes-inside            which reads brought bytes, and how many

@@ -1,2 +1,3 @@
--- Pool: what the program keeps between reads.
+-- Pool: what the program keeps between reads. Promise: that it drops no byte.
 pub mod Pool
+pub mod Promise

@@ -2,6 +2,7 @@
 --   Along, along-start, along-next     the bytes used so far are whole records, and state and length written are theirs
 --   text-next                          their lines, one record further
 --   fed-used, fed-unknown, fed-partial, fed-full, fed-more     one turn of fed
+--   fed-far, fed-near                  offsets that pass 64 bits, and those that do not
 --   Going, going-start, going-next     what holds at each turn of feed
 --   going-used, going-unknown, going-partial, going-full       where feed stops
 --   going-first, going-reply, going-other                      an element, held by the service's leaf; every other record

@@ -70,7 +70,7 @@ module _ (a b : List ℕ) (i j : ℕ) (same : (k : ℕ) → k < record-length (g
       rw (d, e, byte 1 (i + 1) (j + 1) (omega arith) refl refl, byte 2 (i + 2) (j + 2) (omega arith) refl refl, byte 3 (i + 3) (j + 3) (omega arith) refl refl, byte 4 (i + 3 + 1) (j + 3 + 1) (omega arith) (omega arith) (omega arith))
   record-kind k d e finish = rw (d, e)
 
-  pub record-same : record-length (getD a i 0) ≢ 0 → record-at a i ≡ record-at b j
+  record-same : record-length (getD a i 0) ≢ 0 → record-at a i ≡ record-at b j
   record-same ne = record-kind (getD a i 0) refl (sym (byte 0 i j (omega arith) (add-zero i) (add-zero j))) (kind (getD a i 0) ne)
 
 -- ---- an input cut in two

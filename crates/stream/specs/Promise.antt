@@ -6,8 +6,8 @@
 --   whole-of, ending                the items before one that is broken; the line of refusal 7 where one is
 --   Says-run, Lines-right           the lines of any input: those of a run, then perhaps refusal 7
 --   Cut-free                        lines do not depend on where the input is cut into records
---   Opens-as-new                    after an accepted open every line is that of a new service with the same plan, opened at that round
 --   Stops, Fed-says, Fed-right      what feed hands back: the state and the lines of the bytes used, and why no more were
+--   Opens-as-new                    after an accepted open every line is that of a new service with the same plan, opened at that round
 --   breaks-off, Seven-ends          an unknown kind, or a record that the end cuts short, is the last line: refusal 7 at its offset
 -- Assumes nothing: these are definitions.
 use mathlib.Core.Path.{_≡_}
