@@ -60,7 +60,7 @@ pub struct Closed {
 }
 
 // 11 before a plan, else 0.
-fn plan_missing(phase: Phase) -> u32
+pub fn plan_missing(phase: Phase) -> u32
     ensures { λ r. ⌜ r ≡ unless (has-plan (phase-of phase)) 11 ⌝ }
 {
     match phase {
@@ -72,7 +72,7 @@ fn plan_missing(phase: Phase) -> u32
 }
 
 // 11, 12 of a record that is for the gathering phase.
-fn not_gathering(phase: Phase) -> u32
+pub fn not_gathering(phase: Phase) -> u32
     ensures { λ r. ⌜ r ≡ (unless (has-plan (phase-of phase)) 11 then unless (is-gathering (phase-of phase)) 12) ⌝ }
 {
     match phase {

@@ -1,5 +1,6 @@
 -- Records: the records of an input. Turns: one record's answer and line. Feeding: what holds at each turn of feed. Promise: the theorems of specs/Promise.antt.
 pub mod Records
 pub mod Turns
+pub mod Early
 pub mod Feeding
 pub mod Promise

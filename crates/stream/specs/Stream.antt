@@ -5,22 +5,25 @@
 --   Told, answers                the answers to a list of records, each with its record's offset; 7 ends the run
 --   text, lines                  what is printed for a list of answers, and for an input
 --   fed-from, fed                what feed hands back: the state, the bytes used and written, and why it stops
+--   early-refusal                the refusal that the head alone decides
 --   Turns, cut-length, cut-left  one record; the line of refusal 7
 -- Assumes nothing: these are definitions.
 use mathlib.Core.Path.{_≡_}
-use mathlib.Core.Bool.{cond}
+use mathlib.Core.Bool.{cond, not}
 use mathlib.Core.List.{List, [], _∷_, _++_}
 use Prim.Native.Nat.{ℕ, zero, suc, _+_, _*_, _-_, _^_}
 use lib.Dec.{ltb, leb, eqb}
 use lib.ListN.{length, getD, take, drop}
 use lib.Seq.{sets}
 use Rattle.scheme.specs.Scheme as scheme
-use Rattle.scheme.specs.Scheme.{places}
-use Rattle.scheme.specs.Service.{Record, plan-record, open-record, first-record, close-record, reply-record, finish-record, Answer, silent, planned, opened, closed, totalled, refused}
+use Rattle.scheme.specs.Scheme.{places, unless, _then_}
+use Rattle.scheme.specs.Service.{has-plan, is-gathering, is-replying, Record, plan-record, open-record, first-record, close-record, reply-record, finish-record, Answer, silent, planned, opened, closed, totalled, refused}
 use Rattle.plan.specs.declared.Plan.{Plan}
 use Rattle.plan.specs.Plan.{plan-of}
+use Rattle.service.specs.declared.Head.{Head}
 use Rattle.service.specs.declared.Service.{Service}
-use Rattle.service.specs.Calls.{plan-step, open-step, first-step, close-step, reply-step}
+use Rattle.service.specs.View.{phase-of}
+use Rattle.service.specs.Calls.{open-refusal, plan-step, open-step, first-step, close-step, reply-step}
 use Rattle.service.specs.Promise.{told}
 use Rattle.finish.specs.Finish.{finish-step}
 use Rattle.stream.specs.declared.Stop.{Stop}
@@ -126,6 +129,15 @@ fed-from (suc m) s b o n i w =
 -- of a chunk whose offsets would pass 64 bits no record is taken
 unfoldable pub fed : Service → (b : List ℕ) → (offset n : ℕ) → Fed
 fed s b o n = cond (leb (2 ^ 64) (o + length b)) (halt s 0 0 Far) (fed-from (length b) s b o n 0 0)
+
+-- the refusal of a record as far as the head of the state alone decides it; elements have their own calls
+unfoldable pub early-refusal : Head → Record → ℕ
+early-refusal h (plan-record p) = unless (not (has-plan (phase-of (h .phase)))) 11
+early-refusal h (open-record r) = open-refusal h r
+early-refusal h (first-record k i x) = 0
+early-refusal h close-record = unless (has-plan (phase-of (h .phase))) 11 then unless (is-gathering (phase-of (h .phase))) 12
+early-refusal h (reply-record k b x) = 0
+early-refusal h finish-record = unless (has-plan (phase-of (h .phase))) 11 then unless (is-replying (phase-of (h .phase))) 12
 
 -- one record: the next state, and its line written behind what was written before
 pub record Turns (s : Service) (r : Record) (o : ℕ) (out out-now : List ℕ) (at : ℕ) (t : Turned) : Type 0 where

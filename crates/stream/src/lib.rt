@@ -6,13 +6,19 @@ ghost use mathlib.Core.Path.{_≡_};
 ghost use Prim.Native.Nat.{_+_, _*_, _≤_, _<_};
 ghost use lib.ListN.{length, getD, take};
 ghost use lib.Seq.{sets};
-ghost use Rattle.scheme.specs.Service.{plan-record, open-record, close-record, finish-record, silent};
+ghost use mathlib.Core.Bool.{not};
+ghost use Rattle.scheme.specs.Scheme.{unless};
+ghost use Rattle.scheme.specs.Service.{has-plan, plan-record, open-record, close-record, finish-record, silent};
+ghost use Rattle.service.specs.View.{phase-of};
+ghost use Rattle.service.specs.Calls.{open-refusal};
 ghost use Rattle.service.specs.Promise.{told};
 ghost use Rattle.lines.specs.Text.{line};
 ghost use Rattle.lines.specs.Put.{room, Put};
 ghost use Rattle.stream.specs.Stream.{record-length, two-bytes, four-bytes, record-at, lines, Turns, fed, cut-length, cut-left};
 use lines::LINE;
 use plan::Plan;
+use service::Head;
+use service::Phase;
 use service::Service;
 
 // All bytes are used; an unknown kind or a record that is not whole comes next; no room for a line; offsets would pass 64 bits.
@@ -227,6 +233,46 @@ fn take_other(
     }
 }
 
+// 11 of a second plan.
+fn second_plan(phase: Phase) -> u32
+    ensures { λ r. ⌜ r ≡ unless (not (has-plan (phase-of phase))) 11 ⌝ }
+{
+    if service::plan_missing(phase) == 0 {
+        return 11;
+    }
+    0
+}
+
+fn open_refusal(head: Head, round: u32) -> u32
+    ensures { λ r. ⌜ r ≡ open-refusal head round ⌝ }
+{
+    let phase = head.phase;
+    let number = service::plan_missing(phase);
+    if number != 0 {
+        return number;
+    }
+    if round <= head.round {
+        return 17;
+    }
+    0
+}
+
+// The refusal of a record other than an element, as far as the head alone decides it: then nothing of the state need be moved.
+fn early_refusal(head: Head, b: &[u8], start: usize) -> u32
+    requires { ⌜ (start + record-length (getD (now b) start 0) ≤ length (now b)) × (start < length (now b)) ⌝ }
+    requires { ⌜ ((getD (now b) start 0 ≡ 3 → ⊥) × (getD (now b) start 0 ≡ 5 → ⊥)) ⌝ }
+    ensures { λ r. ⌜ r ≡ early-refusal head (record-at (now (b .entry)) start) ⌝ }
+{
+    let phase = head.phase;
+    let kind = b[start];
+    match kind {
+        1 => second_plan(phase),
+        2 => open_refusal(head, four_at(b, start + 1)),
+        4 => service::not_gathering(phase),
+        _ => service::not_replying(phase),
+    }
+}
+
 // Takes the whole records of b in order; the first byte of b stands at the offset. It stops where b ends, at an unknown kind, at a
 // record that is not whole, or where less than LINE bytes of out are left. Of a chunk whose offsets would pass 64 bits it takes none.
 pub fn feed(start: Service, b: &[u8], offset: u64, out: &mut [u8]) -> Fed
@@ -289,11 +335,18 @@ pub fn feed(start: Service, b: &[u8], offset: u64, out: &mut [u8]) -> Fed
             wrote = put_element(out, wrote, number, here);
             at += n;
         } else {
-            let turned = take_other(service, b, at, here, out, wrote);
-            let next = turned.service;
-            service = next;
-            wrote = turned.wrote;
-            at += n;
+            let head = service.head;
+            let number = early_refusal(head, b, at);
+            if number != 0 {
+                wrote = lines::put_refusal(out, wrote, number, here);
+                at += n;
+            } else {
+                let turned = take_other(service, b, at, here, out, wrote);
+                let next = turned.service;
+                service = next;
+                wrote = turned.wrote;
+                at += n;
+            }
         }
     }
     Fed {
