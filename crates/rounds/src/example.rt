@@ -273,7 +273,7 @@ fn total_right(before: Given) -> bool {
 fn lengths_right() -> bool {
     let plan = the_plan();
     let mut user: u32 = 1;
-    while user <= USERS {
+    while user <= plan.users {
         if plan::key_length(plan, user) != KEY {
             return false;
         }

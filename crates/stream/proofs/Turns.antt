@@ -26,8 +26,9 @@ use Rattle.plan.proofs.Laws.{places-le}
 use Rattle.service.specs.declared.Service.{Service}
 use Rattle.service.specs.View.{view}
 use Rattle.service.specs.Promise.{told}
-use Rattle.finish.specs.Finish.{padded, choice, finish-refusal, finish-answer, finish-step}
-use Rattle.finish.proofs.Padded.{padded-take}
+use Rattle.solve.specs.Solve.{padded}
+use Rattle.finish.specs.Finish.{choice, finish-refusal, finish-answer, finish-step}
+use Rattle.solve.proofs.Filled.{padded-take}
 use Rattle.lines.specs.Text.{decimal, numbers, line}
 use Rattle.lines.specs.Put.{room, Put}
 use Rattle.lines.proofs.Decimals.{decimal-twenty, decimal-five}
