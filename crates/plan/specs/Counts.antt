@@ -20,4 +20,3 @@ usable-rule i = sets-of (i / 8) (i % 8)
 
 unfoldable pub holding-rule : ℕ → ℕ
 holding-rule i = holding (i / 8) (i % 8) 1
-

@@ -5,7 +5,8 @@
 --   fed-far, fed-near                  offsets that pass 64 bits, and those that do not
 --   Going, going-start, going-next     what holds at each turn of feed
 --   going-used, going-unknown, going-partial, going-full       where feed stops
---   going-first, going-reply, going-other                      an element, held by the service's leaf; every other record
+--   going-first, going-reply           an element, held by the service's leaf
+--   going-early, going-other           every other record: refused by the head alone, or taken as it comes
 -- Assumes nothing.
 use mathlib.Core.Path.{_≡_, refl, sym, ap, _∙_, subst}
 use mathlib.Core.Logic.{_≢_}
@@ -15,7 +16,7 @@ use Prim.Native.Nat.{ℕ, zero, suc, _+_, _-_, _^_, _≤_, _<_}
 use native.Mathlib.Omega.{arith}
 use lib.ListN.{length, getD, take, length-append}
 use borrow.Author.Tests.{eq-eqb, ne-eqb, lt-ltb, le-ltb, le-leb, lt-leb}
-use Rattle.scheme.specs.Service.{Record, first-record, reply-record, silent}
+use Rattle.scheme.specs.Service.{Record, first-record, reply-record, silent, refused}
 use Rattle.service.specs.declared.Service.{Service}
 use Rattle.service.specs.Calls.{first-refusal, first-left, first-step, reply-refusal, reply-left, reply-step}
 use Rattle.service.specs.Promise.{told}
@@ -24,10 +25,11 @@ use Rattle.lines.specs.Put.{room, Put}
 use Rattle.lines.proofs.Lines.{put-none, put-append, put-as, put-length}
 use Rattle.stream.specs.declared.Stop.the-variants.{Used, Unknown, Partial, Full, Far}
 use Rattle.stream.specs.declared.Turned.{Turned}
-use Rattle.stream.specs.Stream.{record-length, two-bytes, record-at, Item, taken, items-from, items, step, answers, text, lines, halt, fed-from, fed, Turns}
+use Rattle.stream.specs.Stream.{record-length, two-bytes, record-at, Item, taken, items-from, items, step, answers, text, lines, halt, fed-from, fed, early-refusal, Turns}
 use Rattle.stream.specs.Promise.{all-taken, last-state}
 use Rattle.stream.proofs.Records.{items-next, taken-append, state-append, text-append}
 use Rattle.stream.proofs.Turns.{record-first, record-reply, line-short}
+use Rattle.stream.proofs.Early.{early-says}
 
 -- ---- whole records
 pub record Along (s : Service) (b : List ℕ) (o : ℕ) (t : Service) (at wrote : ℕ) : Type 0 where
@@ -178,6 +180,11 @@ module _ (s : Service) (b : List ℕ) (o : ℕ) (out₀ : List ℕ) (t : Service
   going-reply k i x m held kind ek ei ex em eh p =
       going-as (reply-record k i x) _ (record-reply b at kind ∙ (cc)) (ap (λ (l : List ℕ). record { head = t .head; first = t .first; reply = l }) (sym eh))
       (put-as p (ap (λ (m : ℕ). line (o + at) (told m silent)) em))
+
+  pub going-early : (m : ℕ) → m ≡ early-refusal (t .head) (record-at b at) → m ≢ 0 → Put out out′ wrote next (line (o + at) (refused m)) → Going s b o out₀ t (at + n) next out′
+  going-early m em some p =
+      let e = early-says t (record-at b at) (λ z. some (em ∙ z)) in
+      going-as (record-at b at) t refl (e .1) (put-as p (ap (line (o + at)) (ap refused em ∙ sym (e .0))))
 
   pub going-other : (u : Turned) → u .wrote ≡ next → Turns t (record-at b at) (o + at) out out′ wrote u → Going s b o out₀ (u .service) (at + n) next out′
   going-other u w h =

@@ -14,7 +14,7 @@ ghost use Rattle.service.specs.Calls.{open-refusal};
 ghost use Rattle.service.specs.Promise.{told};
 ghost use Rattle.lines.specs.Text.{line};
 ghost use Rattle.lines.specs.Put.{room, Put};
-ghost use Rattle.stream.specs.Stream.{record-length, two-bytes, four-bytes, record-at, lines, Turns, fed, cut-length, cut-left};
+ghost use Rattle.stream.specs.Stream.{record-length, two-bytes, four-bytes, record-at, early-refusal, lines, Turns, fed, cut-length, cut-left};
 use lines::LINE;
 use plan::Plan;
 use service::Head;

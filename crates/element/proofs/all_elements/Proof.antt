@@ -50,10 +50,11 @@ loop-again c =
     let l = c .before .before .before .before .loop in
     let xs = c .before .before .before .before .before .before .args .list .now in
     let h = c .before .before .before .loop-test .taken in
-    let e = sym (c .before .is-element .ensures) in
-    (search needs,
-    ⊎-elim (λ w. rw (w .1) (sym (and-false (l .good)) ∙ ap (λ (b : Bool). l .good && b) (sym (elements-stop sixteen xs (l .i) h (e ∙ not-true _ (w .0 .taken)))) ∙ l .inv .1))
-    (λ w. rw (w .1) (ap (λ (b : Bool). l .good && b) (elements-next sixteen xs (l .i) h (e ∙ not-false _ (w .0 .left))) ∙ l .inv .1)) (c .if1 .came))
+    let e = sym (c .before .is-element .ensures) in (
+      search needs,
+      ⊎-elim (λ w. rw (w .1) (sym (and-false (l .good)) ∙ ap (λ (b : Bool). l .good && b) (sym (elements-stop sixteen xs (l .i) h (e ∙ not-true _ (w .0 .taken)))) ∙ l .inv .1))
+          (λ w. rw (w .1) (ap (λ (b : Bool). l .good && b) (elements-next sixteen xs (l .i) h (e ∙ not-false _ (w .0 .left))) ∙ l .inv .1)) (c .if1 .came),
+    )
 
 returns : tie.Need-returns Inv-loop μ-loop
 returns c =

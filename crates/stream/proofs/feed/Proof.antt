@@ -6,7 +6,7 @@ use native.Mathlib.Omega.{arith}
 use lib.ListN.{length}
 use borrow.Author.Needs.{needs}
 use Rattle.stream.specs.Stream.{record-length, items-from, items, answers, text, lines}
-use Rattle.stream.proofs.Feeding.{fed-far, Going, going-start, going-used, going-unknown, going-partial, going-full, going-first, going-reply, going-other}
+use Rattle.stream.proofs.Feeding.{fed-far, Going, going-start, going-used, going-unknown, going-partial, going-full, going-first, going-reply, going-early, going-other}
 use Rattle.stream.proofs.feed.Statement.{statement}
 use Rattle.stream.proofs.feed.Tie as tie
 
@@ -155,8 +155,11 @@ loop-again-2 c =
     let n = c .before .before .before .before .before .before .before .before .before .before .before .before .before .before .before .before .before .record-length .result in
     going-reply _ _ _ _ _ _ _ _ (l .inv) (c .before .before .before .before .before .before .before .before .before .before .before .before .before .before .before .before .before .before .before .loop-test .taken) n (c .before .before .before .before .before .before .before .before .before .before .before .before .before .before .before .before .before .record-length .ensures .0) (c .before .before .before .before .before .before .before .before .before .before .before .before .before .before .before .before .if2 .left) (omega arith) (omega arith) _ _ _ _ _ _ _ (c .before .before .before .before .before .before .before .before .before .before .before .before .if6 .taken) (c .before .before .before .before .before .before .before .before .before .wide2 .ensures) (c .before .before .before .before .before .before .before .wide3 .ensures) (c .before .before .before .before .before .before .two-at3 .ensures) (c .before .before .before .before .put-reply .ensures .0) (c .before .before .before .before .put-reply .ensures .1) (c .before .before .put-element2 .ensures)
 
-take-other-requires : tie.Need-take-other-requires Inv-loop μ-loop
-take-other-requires c κs = ((search needs, omega (arith, c .before .before .before .before .before .before .record-length .ensures .0), search needs), (c .before .before .if5 .left, c .before .if6 .left))
+early-refusal-requires : tie.Need-early-refusal-requires Inv-loop μ-loop
+early-refusal-requires c κs = ((omega (arith, c .before .before .before .before .before .before .record-length .ensures .0), search needs), (c .before .before .if5 .left, c .before .if6 .left))
+
+put-refusal-requires : tie.Need-put-refusal-requires Inv-loop μ-loop
+put-refusal-requires c κs = search needs
 
 add-at-3 : tie.Need-add-at-3 Inv-loop μ-loop
 add-at-3 c = search needs
@@ -166,9 +169,24 @@ loop-less-3 c = search needs
 
 loop-again-3 : tie.Need-loop-again-3 Inv-loop μ-loop
 loop-again-3 c =
-    let l = c .before .before .before .before .before .before .before .before .before .before .before .before .before .loop in
-    let n = c .before .before .before .before .before .before .before .before .before .before .record-length .result in
-    going-other _ _ _ _ _ _ _ _ (l .inv) (c .before .before .before .before .before .before .before .before .before .before .before .before .loop-test .taken) n (c .before .before .before .before .before .before .before .before .before .before .record-length .ensures .0) (c .before .before .before .before .before .before .before .before .before .if2 .left) (omega arith) (omega arith) _ _ (c .before .before .before .take-other .result) refl (c .before .before .before .take-other .ensures)
+    let l = c .before .before .before .before .before .before .before .before .before .before .before .before .before .before .before .loop in
+    let n = c .before .before .before .before .before .before .before .before .before .before .before .before .record-length .result in
+    going-early _ _ _ _ _ _ _ _ (l .inv) (c .before .before .before .before .before .before .before .before .before .before .before .before .before .before .loop-test .taken) n (c .before .before .before .before .before .before .before .before .before .before .before .before .record-length .ensures .0) (c .before .before .before .before .before .before .before .before .before .before .before .if2 .left) (omega arith) (omega arith) _ _ _ (c .before .before .before .before .before .early-refusal .ensures) (c .before .before .before .before .if7 .taken) (c .before .before .put-refusal .ensures .1)
+
+take-other-requires : tie.Need-take-other-requires Inv-loop μ-loop
+take-other-requires c κs = ((search needs, omega (arith, c .before .before .before .before .before .before .before .before .before .record-length .ensures .0), search needs), (c .before .before .before .before .before .if5 .left, c .before .before .before .before .if6 .left))
+
+add-at-4 : tie.Need-add-at-4 Inv-loop μ-loop
+add-at-4 c = search needs
+
+loop-less-4 : tie.Need-loop-less-4 Inv-loop μ-loop
+loop-less-4 c = search needs
+
+loop-again-4 : tie.Need-loop-again-4 Inv-loop μ-loop
+loop-again-4 c =
+    let l = c .before .before .before .before .before .before .before .before .before .before .before .before .before .before .before .before .loop in
+    let n = c .before .before .before .before .before .before .before .before .before .before .before .before .before .record-length .result in
+    going-other _ _ _ _ _ _ _ _ (l .inv) (c .before .before .before .before .before .before .before .before .before .before .before .before .before .before .before .loop-test .taken) n (c .before .before .before .before .before .before .before .before .before .before .before .before .before .record-length .ensures .0) (c .before .before .before .before .before .before .before .before .before .before .before .before .if2 .left) (omega arith) (omega arith) _ _ (c .before .before .before .take-other .result) refl (c .before .before .before .take-other .ensures)
 
 same-length-4 : tie.Need-same-length-4 Inv-loop μ-loop
 same-length-4 c = search needs
@@ -222,9 +240,14 @@ feed-spec =
     add-at-2
     loop-less-2
     loop-again-2
-    take-other-requires
+    early-refusal-requires
+    put-refusal-requires
     add-at-3
     loop-less-3
     loop-again-3
+    take-other-requires
+    add-at-4
+    loop-less-4
+    loop-again-4
     same-length-4
     returns-5)

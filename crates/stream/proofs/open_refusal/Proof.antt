@@ -1,0 +1,39 @@
+-- `stream::open_refusal` meets its contract: the tests that led to each return decide the definition's.
+-- Assumes nothing.
+use mathlib.Core.Path.{_≡_, sym, _∙_}
+use mathlib.Core.Bool.{true, false}
+use borrow.Author.Needs.{needs}
+use borrow.Author.Tests.{lt-ltb, le-ltb}
+use Rattle.scheme.specs.Scheme.{unless, _then_}
+use Rattle.scheme.specs.Service.{has-plan}
+use Rattle.scheme.proofs.Refusals.{unless-zero, unless-failed}
+use Rattle.service.specs.View.{phase-of}
+use Rattle.service.specs.Calls.{open-refusal}
+use Rattle.service.proofs.Refused.{unless-not-zero}
+use Rattle.stream.proofs.open_refusal.Statement.{statement}
+use Rattle.stream.proofs.open_refusal.Tie as tie
+
+has-one : (c : tie.Else1) → has-plan (phase-of (c .before .before .args .head .phase)) ≡ true
+has-one c = unless-zero _ 10 (sym (c .before .plan-missing .ensures) ∙ c .if1 .left)
+
+plan-missing-requires : tie.Need-plan-missing-requires
+plan-missing-requires c κs = search needs
+
+returns : tie.Need-returns
+unfolding open-refusal unless _then_
+returns c =
+    let e = c .before .plan-missing .ensures in
+    let h : has-plan (phase-of (c .before .before .args .head .phase)) ≡ false = unless-not-zero _ 11 (λ z. c .if1 .taken (e ∙ z)) in
+    let n : c .before .plan-missing .result ≡ 11 = e ∙ unless-failed h 11 in
+    simp (n, h)
+
+returns-2 : tie.Need-returns-2
+unfolding open-refusal unless _then_
+returns-2 c = simp (has-one (c .before .before), le-ltb _ _ (c .if2 .taken))
+
+returns-3 : tie.Need-returns-3
+unfolding open-refusal unless _then_
+returns-3 c = simp (has-one (c .before .before), lt-ltb _ _ (c .if2 .left))
+
+pub open-refusal-spec : {M : Type 1} → statement M
+open-refusal-spec = tie.close (tie.spec plan-missing-requires returns returns-2 returns-3)
