@@ -7,7 +7,7 @@
 use mathlib.Core.Path.{_≡_, sym, ap, _∙_}
 use mathlib.Core.Bool.{true, false}
 use Prim.Native.Nat.{ℕ, _+_, _*_, _^_, _≤_, _<_}
-use native.Mathlib.Nat.{suc-mul, mul-le-mul-right, add-assoc, add-zero, mul-assoc}
+use native.Mathlib.Nat.{suc-mul, add-mul, zero-mul, mul-le-mul-right, add-assoc, add-zero, mul-assoc}
 use native.Mathlib.Numerals.{add-one}
 use native.Mathlib.Omega.{arith}
 use lib.ListN.{length}
@@ -38,6 +38,12 @@ module _ (p : Plan) where
         let m : ℕ = rank (usable p) v * p .blocks in
         add-assoc _ _ _
         ∙ ap (λ (n : ℕ). p .users * places p + n) (row-next (m + b) (p .collusion) ∙ ap (λ (n : ℕ). n * p .collusion) (add-assoc m b 1))
+
+    pub noise-block : (b : ℕ) → noise-start p v b ≡ noise-start p v 0 + b * p .collusion
+    unfolding noise-start
+    noise-block b =
+        let m : ℕ = rank (usable p) v * p .blocks in
+        omega (arith, add-mul m b (p .collusion), add-mul m 0 (p .collusion), zero-mul (p .collusion))
 
     pub noise-set : usable p v ≡ true → noise-start p v 0 + p .blocks * p .collusion ≡ noise-start p (v + 1) 0
     noise-set u =

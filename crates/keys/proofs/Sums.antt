@@ -1,13 +1,12 @@
 -- Sums modulo 65521 that a loop builds up one summand a turn.
---   sum-small                                      a sum is reduced
 --   members-take, members-skip                     over the numbers that pass a test, one number more
---   dotted-none, dotted-more, dot-same, dot-join   over the columns of a share
+--   dotted-none, dotted-more, dot-same, dot-sum, dot-join   over the columns of a share
 -- Assumes nothing.
 use mathlib.Core.Path.{_≡_, refl, sym, ap, ap₂, _∙_}
 use mathlib.Core.Bool.{Bool, true, false}
 use mathlib.Core.List.{List, [], _∷_, _++_}
 use Prim.Native.Nat.{ℕ, zero, suc, _+_, _*_, _%_, _≤_, _<_}
-use native.Mathlib.Nat.{add-comm, add-zero, zero-add, add-suc, add-assoc, mod-add-mod, add-mod-mod, mod-eq-of-lt, mod-lt}
+use native.Mathlib.Nat.{add-comm, add-zero, zero-add, add-suc, add-assoc, mul-zero, mul-add, mod-mod, add-mod, mod-add-mod, add-mod-mod, mod-eq-of-lt, mod-lt}
 use native.Mathlib.Omega.{arith}
 use lib.Dec.{lit<}
 use Rattle.algebra.specs.Sums.{In}
@@ -17,7 +16,7 @@ use Rattle.scheme.proofs.Lists.{span-append, span-in, members-append}
 use Rattle.scheme.proofs.Sums.{sum-same}
 use Rattle.keys.specs.Parts.{most-product, dot, Dotted}
 
-pub sum-small : (l : List ℕ) (f : ℕ → ℕ) → sum sixteen l f < q
+sum-small : (l : List ℕ) (f : ℕ → ℕ) → sum sixteen l f < q
 unfolding sum
 sum-small [] f = lit< tt
 sum-small (k ∷ l) f = mod-lt _ (lit< tt)
@@ -32,6 +31,20 @@ sum-reduced : (l : List ℕ) (f : ℕ → ℕ) → sum sixteen l (λ i. f i % q)
 unfolding sum
 sum-reduced [] f = refl
 sum-reduced (k ∷ l) f = rw (sum-reduced l f, mod-add-mod)
+
+sum-add : (l : List ℕ) (f g : ℕ → ℕ) → sum sixteen l (λ i. f i + g i) ≡ (sum sixteen l f + sum sixteen l g) % q
+unfolding sum
+sum-add [] f g = refl
+sum-add (k ∷ l) f g =
+    let a : ℕ = sum sixteen l f in
+    let b : ℕ = sum sixteen l g in
+    let e : f k + g k + (a + b) ≡ f k + a + (g k + b) = omega arith in
+    ap (λ (x : ℕ). (f k + g k + x) % q) (sum-add l f g) ∙ add-mod-mod _ _ _ ∙ ap (λ (x : ℕ). x % q) e ∙ add-mod (f k + a) (g k + b) q
+
+sum-zero : (l : List ℕ) (f : ℕ → ℕ) → sum sixteen l (λ i. f i * 0) ≡ 0
+unfolding sum
+sum-zero [] f = refl
+sum-zero (k ∷ l) f = rw (sum-zero l f, mul-zero)
 
 sum-shift : (n s k : ℕ) (f : ℕ → ℕ) → sum sixteen (span n (s + k)) f ≡ sum sixteen (span n k) (λ i. f (s + i))
 unfolding sum
@@ -89,6 +102,27 @@ dot-same k s n f g h =
     same : (i : ℕ) → In i (span n 0) → c i * f i % q ≡ c i * g i % q
     same i m =
         sym (mul-mod (c i) (f i) q) ∙ ap (λ (x : ℕ). c i * x % q) (h i (omega (arith, span-in n 0 i m .1))) ∙ mul-mod (c i) (g i) q
+
+-- columns whose numbers are sums
+dot-add : (k s n : ℕ) (f g : ℕ → ℕ) → dot k s n (λ i. f i + g i) ≡ (dot k s n f + dot k s n g) % q
+unfolding dot
+dot-add k s n f g =
+    sum-same sixteen (span n 0) (λ i. c i * (f i + g i)) (λ i. c i * f i + c i * g i) (λ i m. mul-add (c i) (f i) (g i))
+    ∙ sum-add (span n 0) (λ i. c i * f i) (λ i. c i * g i)
+  where
+    c : ℕ → ℕ
+    c i = sixteen .coefficient k (s + i)
+
+dot-zero : (k s n : ℕ) → dot k s n (λ i. 0) ≡ 0
+unfolding dot
+dot-zero k s n = sum-zero (span n 0) (λ i. sixteen .coefficient k (s + i))
+
+pub dot-sum : (k s n : ℕ) (l : List ℕ) (g : ℕ → ℕ → ℕ) → dot k s n (λ i. sum sixteen l (λ j. g j i)) ≡ sum sixteen l (λ j. dot k s n (g j))
+unfolding sum
+dot-sum k s n [] g = dot-zero k s n
+dot-sum k s n (j ∷ l) g =
+    dot-same k s n (λ i. (g j i + sum sixteen l (λ h. g h i)) % q) (λ i. g j i + sum sixteen l (λ h. g h i)) (λ i m. mod-mod _ q)
+    ∙ dot-add k s n (g j) (λ i. sum sixteen l (λ h. g h i)) ∙ ap (λ (x : ℕ). (dot k s n (g j) + x) % q) (dot-sum k s n l g)
 
 -- the first columns and the others
 pub dot-join : (k n m : ℕ) (f : ℕ → ℕ) → row-value sixteen (n + m) k f ≡ (dot k 1 n (λ i. f (1 + i)) + dot k (1 + n) m (λ i. f (1 + n + i))) % q

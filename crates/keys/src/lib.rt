@@ -3,25 +3,25 @@
 //   refusal                tests 1, 4, 2, 3
 //   copy_masks             the user's own masks
 //   write_sets             the shares for each usable set that holds the user
-//   write_shares           the shares for one set, block by block
-//   share_of, dot_sums, dot_noise, times   one share: columns times coefficients, reduced once
-//   sum_masks, add_row, zeros              the masks of a set's users, row upon row, not reduced
+//   write_shares, reduced  the shares for one set, block by block
+//   mask_products, put_products            the masks of each user times the first columns, reduced: once a key
+//   sum_rows, add_row, wide                the products of a set's users, row upon row, not reduced
+//   dot_columns, add_column, times         columns times coefficients, for all blocks at once, not reduced
 // Document 01's airfield is a user here, and its S of an airfield is that user's mask. The functions behind the refusals are
 // told in their contracts what the refusals have tested.
 ghost use mathlib.Core.Path.{_≡_};
 ghost use mathlib.Core.Bool.{true};
 ghost use mathlib.Core.List.{map};
-ghost use Prim.Native.Nat.{ℕ, _+_, _*_, _≤_, _<_};
+ghost use Prim.Native.Nat.{ℕ, _+_, _*_, _%_, _≤_, _<_};
 ghost use lib.ListN.{length, getD, replicate};
 ghost use lib.Seq.{sets};
-ghost use Rattle.scheme.specs.Scheme.{span, rows, sixteen, items, places, usable, sets-with, mask, noise-start, shares, key, key-length, key-refusal, written};
+ghost use Rattle.scheme.specs.Scheme.{span, rows, q, sixteen, places, usable, sets-with, mask, noise-start, shares, key, key-length, key-refusal, written};
 ghost use Rattle.scheme.specs.Good.{Good};
 ghost use Rattle.plan.specs.Plan.{plan-of};
-ghost use Rattle.keys.specs.Parts.{Ready, most-sum, most-product, Added, Summed, Dotted, share-at};
+ghost use Rattle.keys.specs.Parts.{Ready, most-product, Raised, Columns, Put, Products, Summed};
 use element::Q;
 use element::all_elements;
 use element::coefficient;
-use plan::MOST_PLACES;
 use plan::Plan;
 use plan::all_sets;
 use plan::holds;
@@ -86,6 +86,7 @@ fn write_sets(plan: Plan, user: u32, list: &[u16], out: &mut [u16], row: usize)
     requires { ⌜ (row ≡ places (plan-of plan)) × (row ≤ 96) × (length (now out) ≡ key-length (plan-of plan) user) ⌝ }
     ensures { λ r. ⌜ now (out .exit) ≡ sets (now (out .entry)) row (rows (shares sixteen (plan-of plan) (now (list .entry)) user) (sets-with (plan-of plan) user)) ⌝ }
 {
+    let products = mask_products(plan, user, list, row);
     let blocks = plan.blocks as usize;
     let step = blocks * plan.collusion as usize;
     let end = all_sets(plan);
@@ -97,7 +98,7 @@ fn write_sets(plan: Plan, user: u32, list: &[u16], out: &mut [u16], row: usize)
             let here = noise;
             noise += step;
             if holds(v, user) {
-                write_shares(plan, user, list, v, here, out, at, row);
+                write_shares(plan, user, &products, list, v, here, out, at);
                 at += blocks;
             }
         }
@@ -105,126 +106,172 @@ fn write_sets(plan: Plan, user: u32, list: &[u16], out: &mut [u16], row: usize)
     }
 }
 
+// "Columns 1 to U − T times the sums over V of S in that block, plus columns U − T + 1 to U times the T noise elements."
+// The noise lies from `noise` on; the first columns of each user's masks are in the products.
 fn write_shares(
     plan: Plan,
     user: u32,
+    products: &[u16; 128],
     list: &[u16],
     set: u32,
     noise: usize,
     out: &mut [u16],
     at: usize,
-    row: usize,
 )
     requires { ⌜ Ready (plan-of plan) user (now list) ⌝ }
-    requires { ⌜ (row ≡ places (plan-of plan)) × (row ≤ 96) × (at + plan .blocks ≤ length (now out)) ⌝ }
+    requires { ⌜ (Products (plan-of plan) user (now list) (plan .users) (now products)) × (at + plan .blocks ≤ length (now out)) ⌝ }
     requires { ⌜ (noise ≡ noise-start (plan-of plan) set 0) × (usable (plan-of plan) set ≡ true) ⌝ }
     ensures { λ r. ⌜ now (out .exit) ≡ sets (now (out .entry)) at (shares sixteen (plan-of plan) (now (list .entry)) user set) ⌝ }
 {
-    let items = (plan.threshold - plan.collusion) as usize;
-    let collusion = plan.collusion as usize;
+    let items = plan.threshold - plan.collusion;
     let blocks = plan.blocks as usize;
-    let sums = sum_masks(list, row, set, plan.users);
-    let mut place = 0;
-    let mut from = noise;
+    let sums = sum_rows(products, set, plan.users);
+    let noises = dot_columns(user, 1 + items, plan.collusion, list, noise, blocks);
     let mut b = 0;
     while b < blocks {
-        out[at + b] = share_of(plan, user, &sums, place, list, from);
-        place += items;
-        from += collusion;
+        out[at + b] = reduced(sums[b], noises[b]);
         b += 1;
     }
 }
 
-// "Columns 1 to U − T times the sums over V of S in that block, plus columns U − T + 1 to U times the T noise elements."
-// The sums lie from `place` on, the noise from `noise` on.
-fn share_of(
-    plan: Plan,
-    user: u32,
-    sums: &[u32; MOST_PLACES],
-    place: usize,
-    list: &[u16],
-    noise: usize,
-) -> u16
-    requires { ⌜ Good (plan-of plan) ⌝ }
-    requires { ⌜ (user ≤ plan .users) × (place + items (plan-of plan) ≤ 96) × (noise + plan .collusion ≤ length (now list)) ⌝ }
-    requires { ⌜ ((i : ℕ) → i < items (plan-of plan) → getD (now sums) (place + i) 0 ≤ most-sum) ⌝ }
-    ensures { λ r. ⌜ r ≡ share-at (plan-of plan) user (now (sums .entry)) place (now (list .entry)) noise ⌝ }
+fn reduced(a: u32, b: u64) -> u16
+    requires { ⌜ b ≤ 7 * most-product ⌝ }
+    ensures { λ r. ⌜ r ≡ (a + b) % q ⌝ }
+{
+    ((a as u64 + b) % Q as u64) as u16
+}
+
+// For each user a row of 16: in each block, "columns 1 to U − T times" that user's masks.
+fn mask_products(plan: Plan, user: u32, list: &[u16], row: usize) -> [u16; 128]
+    requires { ⌜ Ready (plan-of plan) user (now list) ⌝ }
+    requires { ⌜ (row ≡ places (plan-of plan)) × (row ≤ 96) ⌝ }
+    ensures { λ r. ⌜ Products (plan-of plan) user (now (list .entry)) (plan .users) r ⌝ }
 {
     let items = plan.threshold - plan.collusion;
-    let total = dot_sums(user, sums, place, items)
-        + dot_noise(user, list, noise, 1 + items, plan.collusion);
-    (total % Q as u64) as u16
+    let blocks = plan.blocks as usize;
+    let mut products = no_products();
+    let mut from = 0;
+    let mut at = 0;
+    let mut k: u32 = 0;
+    while k < plan.users {
+        put_products(&mut products, at, user, items, list, from, blocks);
+        from += row;
+        at += 16;
+        k += 1;
+    }
+    products
 }
 
-// Columns 1 to n, "the row goes by the airfield's number in every set".
-fn dot_sums(user: u32, sums: &[u32; MOST_PLACES], at: usize, n: u32) -> u64
-    requires { ⌜ (at + n ≤ 96) × (user + n < 16) ⌝ }
-    requires { ⌜ ((i : ℕ) → i < n → getD (now sums) (at + i) 0 ≤ most-sum) ⌝ }
-    ensures { λ r. ⌜ Dotted user 1 n (λ i. getD (now (sums .entry)) (at + i) 0) r ⌝ }
+// Those of one user, whose masks lie from `from` on, go to `at`.
+fn put_products(
+    products: &mut [u16; 128],
+    at: usize,
+    user: u32,
+    items: u32,
+    list: &[u16],
+    from: usize,
+    blocks: usize,
+)
+    requires { ⌜ (user + items < 16) × (items ≤ 7) × (blocks ≤ 16) ⌝ }
+    requires { ⌜ (from + blocks * items ≤ length (now list)) × (at + 16 ≤ 128) × (length (now products) ≡ 128) ⌝ }
+    ensures { λ r. ⌜ Put user items (now (list .entry)) from at blocks (now (products .entry)) (now (products .exit)) ⌝ }
 {
-    let mut total: u64 = 0;
+    let dots = dot_columns(user, 1, items, list, from, blocks);
+    let mut b = 0;
+    while b < blocks {
+        products[at + b] = reduced(0, dots[b]);
+        b += 1;
+    }
+}
+
+// For each block its n numbers of the list times the n columns from `first` on, "the row goes by the airfield's number in every set".
+fn dot_columns(user: u32, first: u32, n: u32, list: &[u16], from: usize, blocks: usize) -> [u64; 16]
+    requires { ⌜ (user + (first + n) ≤ 16) × (n ≤ 7) × (blocks ≤ 16) × (from + blocks * n ≤ length (now list)) ⌝ }
+    ensures { λ r. ⌜ Columns user first n n (now (list .entry)) from blocks r ⌝ }
+{
+    let mut sums = no_dots();
     let mut i: u32 = 0;
     while i < n {
-        total += times(coefficient(user, 1 + i), sums[at + i as usize]);
+        let c = coefficient(user, first + i);
+        add_column(&mut sums, c, list, from + i as usize, n as usize, blocks);
         i += 1;
     }
-    total
+    sums
 }
 
-// The n columns from `first` on.
-fn dot_noise(user: u32, list: &[u16], at: usize, first: u32, n: u32) -> u64
-    requires { ⌜ (at + n ≤ length (now list)) × (user + (first + n) ≤ 16) ⌝ }
-    ensures { λ r. ⌜ Dotted user first n (λ i. getD (now (list .entry)) (at + i) 0) r ⌝ }
+// Adds c times every number of the list, from `from` on and in steps, to the first n sums.
+fn add_column(sums: &mut [u64; 16], c: u16, list: &[u16], from: usize, step: usize, n: usize)
+    requires { ⌜ (n ≤ 16) × (step ≤ 7) × (length (now sums) ≡ 16) ⌝ }
+    requires { ⌜ ((i : ℕ) → i < n → from + i * step < length (now list)) ⌝ }
+    requires { ⌜ ((i : ℕ) → i < n → getD (now sums) i 0 ≤ 6 * most-product) ⌝ }
+    ensures { λ r. ⌜ Raised (λ i. c * getD (now (list .entry)) (from + i * step) 0) most-product n (now (sums .entry)) (now (sums .exit)) ⌝ }
 {
-    let mut total: u64 = 0;
-    let mut i: u32 = 0;
+    let mut at = from;
+    let mut i = 0;
     while i < n {
-        total += times(coefficient(user, first + i), list[at + i as usize] as u32);
+        sums[i] = sums[i] + times(c, list[at]);
+        at += step;
         i += 1;
     }
-    total
 }
 
-fn times(a: u16, b: u32) -> u64
-    requires { ⌜ b ≤ most-sum ⌝ }
+fn times(a: u16, b: u16) -> u64
     ensures { λ r. ⌜ (r ≡ a * b) × (r ≤ most-product) ⌝ }
 {
     a as u64 * b as u64
 }
 
-// "The sums over V of S", for all places at once.
-fn sum_masks(list: &[u16], row: usize, set: u32, users: u32) -> [u32; MOST_PLACES]
-    requires { ⌜ (users ≤ 8) × (row ≤ 96) × (users * row ≤ length (now list)) ⌝ }
-    ensures { λ r. ⌜ Summed (now (list .entry)) row set users r ⌝ }
+// "The sums over V", of products.
+fn sum_rows(products: &[u16; 128], set: u32, users: u32) -> [u32; 16]
+    requires { ⌜ users ≤ 8 ⌝ }
+    ensures { λ r. ⌜ Summed (now (products .entry)) set users r ⌝ }
 {
-    let mut sums = zeros();
+    let mut sums = no_sums();
     let mut from = 0;
     let mut k: u32 = 0;
     while k < users {
         if holds(set, k + 1) {
-            add_row(&mut sums, list, from, row);
+            add_row(&mut sums, products, from);
         }
-        from += row;
+        from += 16;
         k += 1;
     }
     sums
 }
 
-// Adds the n numbers of the list from `from` on to the first n sums; seven masks of 16 bits leave room for an eighth.
-fn add_row(sums: &mut [u32; MOST_PLACES], list: &[u16], from: usize, n: usize)
-    requires { ⌜ (n ≤ 96) × (from + n ≤ length (now list)) × (length (now sums) ≡ 96) ⌝ }
-    requires { ⌜ ((i : ℕ) → i < n → getD (now sums) i 0 ≤ 7 * 65535) ⌝ }
-    ensures { λ r. ⌜ Added (now (list .entry)) from n (now (sums .entry)) (now (sums .exit)) ⌝ }
+// Adds the row of 16 from `from` on to the sums; seven numbers of 16 bits leave room for an eighth.
+fn add_row(sums: &mut [u32; 16], products: &[u16; 128], from: usize)
+    requires { ⌜ (from + 16 ≤ 128) × (length (now sums) ≡ 16) ⌝ }
+    requires { ⌜ ((i : ℕ) → i < 16 → getD (now sums) i 0 ≤ 7 * 65535) ⌝ }
+    ensures { λ r. ⌜ Raised (λ i. getD (now (products .entry)) (from + i) 0) 65535 16 (now (sums .entry)) (now (sums .exit)) ⌝ }
 {
     let mut i = 0;
-    while i < n {
-        sums[i] = sums[i] + list[from + i] as u32;
+    while i < 16 {
+        sums[i] = sums[i] + wide(products[from + i]);
         i += 1;
     }
 }
 
-fn zeros() -> [u32; MOST_PLACES]
-    ensures { λ r. ⌜ r ≡ replicate 96 0 ⌝ }
+fn wide(a: u16) -> u32
+    ensures { λ r. ⌜ (r ≡ a) × (r ≤ 65535) ⌝ }
 {
-    [0u32; MOST_PLACES]
+    a as u32
+}
+
+fn no_products() -> [u16; 128]
+    ensures { λ r. ⌜ r ≡ replicate 128 0 ⌝ }
+{
+    [0u16; 128]
+}
+
+fn no_dots() -> [u64; 16]
+    ensures { λ r. ⌜ r ≡ replicate 16 0 ⌝ }
+{
+    [0u64; 16]
+}
+
+fn no_sums() -> [u32; 16]
+    ensures { λ r. ⌜ r ≡ replicate 16 0 ⌝ }
+{
+    [0u32; 16]
 }

@@ -77,14 +77,17 @@ unfolding usable-with
 with-none p k v u = rw u
 
 abbrev Inv-loop : tie.InvT-loop
-Inv-loop plan user list out₀ row blocks step end noise₀ at₀ v₀ out noise at v = (v ≤ end) × Going (plan-of plan) user list out₀ out noise at v
+Inv-loop plan user list out₀ row products blocks step end noise₀ at₀ v₀ out noise at v = (v ≤ end) × Going (plan-of plan) user list out₀ out noise at v
 
 abbrev μ-loop : tie.MeasureT-loop
-μ-loop plan user list out₀ row blocks step end noise₀ at₀ v₀ out noise at v = end - v
+μ-loop plan user list out₀ row products blocks step end noise₀ at₀ v₀ out noise at v = end - v
 
 -- the buffer keeps its length
-long : (c : tie.At-loop Inv-loop μ-loop) → length (c .loop .out) ≡ length (c .before .before .before .before .before .before .before .args .out .now)
+long : (c : tie.At-loop Inv-loop μ-loop) → length (c .loop .out) ≡ length (c .before .before .before .before .before .before .before .before .args .out .now)
 long c = ap length (c .loop .inv .1 .written) ∙ simp length-sets
+
+mask-products-requires : tie.Need-mask-products-requires Inv-loop μ-loop
+mask-products-requires c κs = search needs
 
 cast-blocks : tie.Need-cast-blocks Inv-loop μ-loop
 cast-blocks c = search needs
@@ -94,8 +97,8 @@ cast-step c = search needs
 
 mul-step : tie.Need-mul-step Inv-loop μ-loop
 mul-step c =
-    let g = c .before .before .before .before .pre .0 .good in
-    let a = c .before .before .before .before .args in
+    let g = c .before .before .before .before .before .pre .0 .good in
+    let a = c .before .before .before .before .before .args in
     let l : a .plan .blocks * a .plan .collusion ≤ 128 = mul-le-mul {n₂ = 16} {m₂ = 8} (g .blocks-high) (omega arith) in
     omega (arith, l)
 
@@ -107,12 +110,12 @@ cast-noise c = search needs
 
 mul-noise : tie.Need-mul-noise Inv-loop μ-loop
 mul-noise c =
-    let s = c .before .before .before .before .before .before in
+    let s = c .before .before .before .before .before .before .before in
     let a = s .args in
     omega (arith, rows-in (plan-of (a .plan)), s .pre .0 .long, ap (λ (x : ℕ). a .plan .users * x) (s .pre .1 .0), s .good)
 
 loop-holds : tie.Need-loop-holds Inv-loop μ-loop
-loop-holds c = (search needs, start _ _ _ _ _ (c .before .before .before .before .before .before .pre .1 .0))
+loop-holds c = (search needs, start _ _ _ _ _ (c .before .before .before .before .before .before .before .pre .1 .0))
 
 is-usable-requires : tie.Need-is-usable-requires Inv-loop μ-loop
 is-usable-requires c κs = search needs
@@ -120,7 +123,7 @@ is-usable-requires c κs = search needs
 add-noise : tie.Need-add-noise Inv-loop μ-loop
 add-noise c =
     let i = c .before .before .before .loop in
-    let s = c .before .before .before .before .before .before .before .before .before .before in
+    let s = c .before .before .before .before .before .before .before .before .before .before .before in
     let u = sym (c .before .is-usable .ensures) ∙ c .if1 .taken in
     omega (arith, i .inv .1 .noise-is, noise-room (plan-of (s .args .plan)) (i .v) u, s .pre .0 .long, s .good)
 
@@ -130,27 +133,27 @@ holds-requires c κs = search needs
 -- a set that is usable and holds the user, and room for its shares
 module _ (c : tie.Then2 Inv-loop μ-loop) where
   is-usable : let s = c .before .before .before .before .before in
-      usable (plan-of (s .before .before .before .before .before .before .before .args .plan)) (s .loop .v) ≡ true
+      usable (plan-of (s .before .before .before .before .before .before .before .before .args .plan)) (s .loop .v) ≡ true
   is-usable = sym (c .before .before .before .is-usable .ensures) ∙ c .before .before .if1 .taken
 
-  room : let s = c .before .before .before .before .before in let a = s .before .before .before .before .before .before .before .args in
+  room : let s = c .before .before .before .before .before in let a = s .before .before .before .before .before .before .before .before .args in
       s .loop .at + a .plan .blocks ≤ length (a .out .now)
   room =
       let s = c .before .before .before .before .before in
-      let t = s .before .before .before .before .before .before .before in
+      let t = s .before .before .before .before .before .before .before .before in
       let w = with-both _ _ _ is-usable (sym (c .before .holds .ensures) ∙ c .if2 .taken) in
       omega (arith, s .loop .inv .1 .at-is, reply-inside (plan-of (t .args .plan)) (t .args .user) (s .loop .v) w, t .pre .1 .2)
 
 write-shares-requires : tie.Need-write-shares-requires Inv-loop μ-loop
 write-shares-requires c κs =
-    let s = c .before .before .before .before .before .before in
-    let t = s .before .before .before .before .before .before .before in
-    (t .pre .0, ((t .pre .1 .0, t .pre .1 .1, omega (arith, room (c .before), long s)), (s .loop .inv .1 .noise-is, is-usable (c .before))))
+    let s = c .before .before .before .before .before .before .before in
+    let t = s .before .before .before .before .before .before .before .before in
+    (t .pre .0, ((s .before .before .before .before .before .mask-products .ensures, omega (arith, room (c .before .before), long s)), (s .loop .inv .1 .noise-is, is-usable (c .before .before))))
 
 add-at : tie.Need-add-at Inv-loop μ-loop
 add-at c =
-    let t = c .before .before .before .before in
-    omega (arith, room t, t .before .before .before .before .before .before .before .before .before .before .before .before .good)
+    let t = c .before .before .before .before .before in
+    omega (arith, room t, t .before .before .before .before .before .before .before .before .before .before .before .before .before .good)
 
 add-v : tie.Need-add-v Inv-loop μ-loop
 add-v c = search needs
@@ -164,7 +167,7 @@ loop-again c =
     let g = i .inv .1 in
     let u = sym (c .before .is-usable .ensures) in (
       omega arith,
-      ⊎-elim (λ w. rw (w .7, w .4 .ensures, w .8, w .9)
+      ⊎-elim (λ w. rw (w .8, w .5 .ensures, w .9, w .10)
           (taken g (with-both _ _ _ (u ∙ w .0 .taken) (sym (w .1 .ensures) ∙ w .2 .taken)) _ (next-noise g (u ∙ w .0 .taken))))
           (⊎-elim (λ w. rw (w .3, w .4, w .5)
           (skipped g (with-one _ _ _ (u ∙ w .0 .taken) (sym (w .1 .ensures) ∙ w .2 .left)) _ (next-noise g (u ∙ w .0 .taken))))
@@ -178,7 +181,7 @@ same-length c = long (c .before)
 returns : tie.Need-returns Inv-loop μ-loop
 unfolding sets-with
 returns c =
-    let s = c .before .before .before .before .before .before .before .before in
+    let s = c .before .before .before .before .before .before .before .before .before in
     let a = s .args in
     let p = plan-of (a .plan) in
     let i = c .before .loop in
@@ -192,6 +195,7 @@ write-sets-spec =
     (tie.spec
     Inv-loop
     μ-loop
+    mask-products-requires
     cast-blocks
     cast-step
     mul-step

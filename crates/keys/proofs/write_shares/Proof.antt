@@ -1,102 +1,65 @@
--- `keys::write_shares` meets its contract: what is written so far is the shares so far; places and noise advance with the block (Shares.share-right, Lists.sets-more).
+-- `keys::write_shares` meets its contract: what is written so far is the shares so far (Shares.share-right, Lists.sets-more).
 use mathlib.Core.Path.{_≡_, refl, sym, ap, ap₂, _∙_}
-use mathlib.Core.Bool.{true}
 use mathlib.Core.List.{List, map}
-use Prim.Native.Nat.{ℕ, _+_, _*_, _-_, _≤_, _<_}
-use native.Mathlib.Nat.{zero-mul}
+use Prim.Native.Nat.{ℕ, _+_, _*_, _-_, _%_, _≤_, _<_}
 use native.Mathlib.Omega.{arith}
-use lib.ListN.{length, set}
+use lib.ListN.{length, getD, set}
 use lib.Seq.{sets, length-sets}
 use borrow.Author.Needs.{needs}
-use Rattle.scheme.specs.Scheme.{span, sixteen, Plan, items, places, usable, noise-start, share, shares}
-use Rattle.scheme.proofs.Sets.{noise-lt}
-use Rattle.scheme.proofs.Lists.{sets-more}
+use Rattle.scheme.specs.Scheme.{span, q, sixteen, items, noise-start, share, shares}
+use Rattle.scheme.proofs.Lists.{span-in, map-same, sets-more}
 use Rattle.plan.specs.Plan.{plan-of}
-use Rattle.keys.specs.Parts.{Ready, Summed, share-at}
-use Rattle.keys.proofs.Places.{row-in, row-next, rows-in, noise-next}
+use Rattle.keys.specs.Parts.{Columns}
+use Rattle.keys.proofs.Places.{noise-room}
 use Rattle.keys.proofs.Shares.{share-right}
 use Rattle.keys.proofs.write_shares.Statement.{statement}
 use Rattle.keys.proofs.write_shares.Tie as tie
 
-record Going (p : Plan) (k : ℕ) (xs : List ℕ) (v at : ℕ) (old new : List ℕ) (place from b : ℕ) : Type 0 where
-  below : b ≤ p .blocks
-  place-is : place ≡ b * items p
-  from-is : from ≡ noise-start p v b
-  written : new ≡ sets old at (map (share sixteen p xs k v) (span b 0))
-
-module _ {p : Plan} {k : ℕ} {xs : List ℕ} {v at : ℕ} {old new : List ℕ} {place from b : ℕ}
-    (r : Ready p k xs) (g : Going p k xs v at old new place from b) (h : b < p .blocks) where
-  place-in : place + items p ≤ places p
-  unfolding places
-  place-in = omega (arith, g .place-is, row-in b (p .blocks) (items p) h)
-
-  from-in : usable p v ≡ true → from + p .collusion ≤ length xs
-  from-in u = omega (arith, g .from-is, noise-lt p v b (p .collusion - 1) u h (omega (arith, r .good .collusion-low)), r .long)
-
-  more : (sums : List ℕ) → Summed xs (places p) v (p .users) sums → (x : ℕ) → x ≡ share-at p k sums place xs from →
-      Going p k xs v at old (set new (at + b) x) (place + items p) (from + p .collusion) (b + 1)
-  more sums s x e =
-      record {
-        below = omega arith;
-        place-is = ap (λ (n : ℕ). n + items p) (g .place-is) ∙ row-next b (items p);
-        from-is = ap (λ (n : ℕ). n + p .collusion) (g .from-is) ∙ noise-next p v b;
-        written =
-            ap₂ (λ (l : List ℕ) (y : ℕ). set l (at + b) y) (g .written)
-            (e ∙ ap₂ (λ (m n : ℕ). share-at p k sums m xs n) (g .place-is) (g .from-is) ∙ share-right p xs v b (r .good) h sums s k)
-            ∙ sets-more old at b (share sixteen p xs k v);
-      }
-
 abbrev Inv-loop : tie.InvT-loop
-Inv-loop plan user list set noise out₀ at row items collusion blocks sums place₀ from₀ b₀ out place from b =
-    Going (plan-of plan) user list set at out₀ out place from b
+Inv-loop user products list set noise out₀ at items blocks sums noises b₀ out b =
+    (b ≤ blocks) × (out ≡ sets out₀ at (map (λ j. (getD sums j 0 + getD noises j 0) % q) (span b 0)))
 
 abbrev μ-loop : tie.MeasureT-loop
-μ-loop plan user list set noise out₀ at row items collusion blocks sums place₀ from₀ b₀ out place from b =
-    blocks - b
+μ-loop user products list set noise out₀ at items blocks sums noises b₀ out b = blocks - b
 
 -- the buffer keeps its length
 long : (c : tie.At-loop Inv-loop μ-loop) → length (c .loop .out) ≡ length (c .before .before .before .before .before .before .before .args .out .now)
-long c = ap length (c .loop .inv .written) ∙ simp length-sets
-
--- what the sums are
-summed : (c : tie.After-sum-masks Inv-loop μ-loop) → let a = c .before .before .before .before .before .before .args in
-    Summed (a .list .now) (places (plan-of (a .plan))) (a .set) (a .plan .users) (c .sum-masks .result)
-summed c = rw (← c .before .before .before .before .before .before .pre .1 .0 .0) (c .sum-masks .ensures)
+long c = ap length (c .loop .inv .1) ∙ simp length-sets
 
 sub-items : tie.Need-sub-items Inv-loop μ-loop
 sub-items c = search needs
 
-cast-items : tie.Need-cast-items Inv-loop μ-loop
-cast-items c = search needs
-
-cast-collusion : tie.Need-cast-collusion Inv-loop μ-loop
-cast-collusion c = search needs
-
 cast-blocks : tie.Need-cast-blocks Inv-loop μ-loop
 cast-blocks c = search needs
 
-sum-masks-requires : tie.Need-sum-masks-requires Inv-loop μ-loop
-sum-masks-requires c κs =
-    let a = c .before .before .before .before .before .args in
-    let r = c .before .before .before .before .before .pre in
-    (omega arith, r .1 .0 .1, omega (arith, r .0 .long, rows-in (plan-of (a .plan)), ap (λ (x : ℕ). a .plan .users * x) (r .1 .0 .0)))
+sum-rows-requires : tie.Need-sum-rows-requires Inv-loop μ-loop
+sum-rows-requires c κs = search needs
+
+add-dot-columns : tie.Need-add-dot-columns Inv-loop μ-loop
+add-dot-columns c = search needs
+
+dot-columns-requires : tie.Need-dot-columns-requires Inv-loop μ-loop
+dot-columns-requires c κs =
+    let s = c .before .before .before .before .before in
+    (omega arith, omega arith, omega arith, omega (arith, s .pre .1 .1 .0, noise-room (plan-of (s .args .plan)) (s .args .set) (s .pre .1 .1 .1), s .pre .0 .long))
 
 loop-holds : tie.Need-loop-holds Inv-loop μ-loop
-loop-holds c = record { below = search needs; place-is = sym (zero-mul _); from-is = c .before .before .before .before .before .before .pre .1 .1 .0; written = refl }
+loop-holds c = (search needs, refl)
 
-share-of-requires : tie.Need-share-of-requires Inv-loop μ-loop
-share-of-requires c κs =
-    let i = c .before .before .loop in
-    let r = c .before .before .before .before .before .before .before .before .before .pre in
-    let s = summed (c .before .before .before) in
-    let h = c .before .loop-test .taken in
-    let l = place-in (r .0) (i .inv) h in (
-      r .0 .good,
-      (
-        (r .0 .user-high, omega (arith, l), from-in (r .0) (i .inv) h (r .1 .1 .1)),
-        λ j m. omega (arith, s .small (i .place + j) (omega (arith, l))),
-      ),
-    )
+mul-reduced : tie.Need-mul-reduced Inv-loop μ-loop
+mul-reduced c = search needs
+
+array-read-reduced : tie.Need-array-read-reduced Inv-loop μ-loop
+array-read-reduced c = search needs
+
+mul-reduced-2 : tie.Need-mul-reduced-2 Inv-loop μ-loop
+mul-reduced-2 c = search needs
+
+array-read-reduced-2 : tie.Need-array-read-reduced-2 Inv-loop μ-loop
+array-read-reduced-2 c = search needs
+
+reduced-requires : tie.Need-reduced-requires Inv-loop μ-loop
+reduced-requires c κs = omega (arith, c .before .before .dot-columns .ensures .each (c .before .loop .b) (c .loop-test .taken) .small)
 
 add-out : tie.Need-add-out Inv-loop μ-loop
 add-out c = search needs
@@ -105,18 +68,7 @@ mul-out : tie.Need-mul-out Inv-loop μ-loop
 mul-out c = search needs
 
 slice-write-out : tie.Need-slice-write-out Inv-loop μ-loop
-slice-write-out c = omega (arith, long (c .before .before .before))
-
-add-place : tie.Need-add-place Inv-loop μ-loop
-unfolding items
-add-place c =
-    let r = c .before .before .before .before .before .before .before .before .before .before .pre in
-    omega (arith, place-in (r .0) (c .before .before .before .loop .inv) (c .before .before .loop-test .taken))
-
-add-from : tie.Need-add-from Inv-loop μ-loop
-add-from c =
-    let s = c .before .before .before .before .before .before .before .before .before .before in
-    omega (arith, from-in (s .pre .0) (c .before .before .before .loop .inv) (c .before .before .loop-test .taken) (s .pre .1 .1 .1), s .good)
+slice-write-out c = omega (arith, long (c .before .before))
 
 add-b : tie.Need-add-b Inv-loop μ-loop
 add-b c = search needs
@@ -125,21 +77,32 @@ loop-less : tie.Need-loop-less Inv-loop μ-loop
 loop-less c = search needs
 
 loop-again : tie.Need-loop-again Inv-loop μ-loop
-unfolding items
 loop-again c =
-    let r = c .before .before .before .before .before .before .before .before .before .before .pre in
-    more (r .0) (c .before .before .before .loop .inv) (c .before .before .loop-test .taken) _ (summed (c .before .before .before .before)) _ (c .share-of .ensures)
+    let i = c .before .before .loop in
+    let a = c .before .before .before .before .before .before .before .before .before .args in
+    let f : ℕ → ℕ = λ j. (getD (c .before .before .before .before .sum-rows .result) j 0 + getD (c .before .before .before .dot-columns .result) j 0) % q in
+    (omega arith, ap₂ (λ (l : List ℕ) (x : ℕ). set l (a .at + i .b) x) (i .inv .1) (c .reduced .ensures) ∙ sets-more (a .out .now) (a .at) (i .b) f)
 
 same-length : tie.Need-same-length Inv-loop μ-loop
 same-length c = long (c .before)
 
 returns : tie.Need-returns Inv-loop μ-loop
-unfolding shares
+unfolding shares items
 returns c =
-    let a = c .before .before .before .before .before .before .before .before .args in
+    let s = c .before .before .before .before .before .before .before .before in
+    let a = s .args in
+    let p = plan-of (a .plan) in
     let i = c .before .loop in
-    let e : i .b ≡ a .plan .blocks = omega (arith, i .inv .below) in
-    i .inv .written ∙ ap (λ (n : ℕ). sets (a .out .now) (a .at) (map (share sixteen (plan-of (a .plan)) (a .list .now) (a .user) (a .set)) (span n 0))) e
+    let sums = c .before .before .before .sum-rows in
+    let noises = c .before .before .dot-columns in
+    let f : ℕ → ℕ = λ j. (getD (sums .result) j 0 + getD (noises .result) j 0) % q in
+    let e : i .b ≡ a .plan .blocks = omega arith in
+    i .inv .1
+    ∙ ap (λ (n : ℕ). sets (a .out .now) (a .at) (map f (span n 0))) e
+    ∙ ap (sets (a .out .now) (a .at))
+    (map-same f (share sixteen p (a .list .now) (a .user) (a .set)) (span (a .plan .blocks) 0) (λ b m.
+    share-right p (a .list .now) (a .set) b (s .pre .0 .good) (omega (arith, span-in (a .plan .blocks) 0 b m .1)) (a .user) (a .products .now) (sums .result) (noises .result)
+    (s .pre .1 .0 .0) (sums .ensures) (rw (← s .pre .1 .1 .0) (noises .ensures))))
 
 pub write-shares-spec : {M : Type 1} → statement M
 write-shares-spec =
@@ -148,17 +111,19 @@ write-shares-spec =
     Inv-loop
     μ-loop
     sub-items
-    cast-items
-    cast-collusion
     cast-blocks
-    sum-masks-requires
+    sum-rows-requires
+    add-dot-columns
+    dot-columns-requires
     loop-holds
-    share-of-requires
+    mul-reduced
+    array-read-reduced
+    mul-reduced-2
+    array-read-reduced-2
+    reduced-requires
     add-out
     mul-out
     slice-write-out
-    add-place
-    add-from
     add-b
     loop-less
     loop-again
