@@ -1,13 +1,13 @@
 -- Where masks, sums, noise and shares lie.
---   row-in, row-next                              row k, from 0, of n rows
---   rows-in                                       the masks of all users in the random list
---   noise-next, noise-set, noise-skip, noise-room the noise of the next block, of the next set
---   reply-set, reply-skip                         the shares for the next set that holds a user
+--   row-in, row-next                                 row k, from 0, of n rows
+--   rows-in                                          the masks of all users in the random list
+--   noise-block, noise-set, noise-skip, noise-room   the noise of a block, of the next set
+--   reply-set, reply-skip                            the shares for the next set that holds a user
 -- Assumes nothing.
 use mathlib.Core.Path.{_≡_, sym, ap, _∙_}
 use mathlib.Core.Bool.{true, false}
 use Prim.Native.Nat.{ℕ, _+_, _*_, _^_, _≤_, _<_}
-use native.Mathlib.Nat.{suc-mul, add-mul, zero-mul, mul-le-mul-right, add-assoc, add-zero, mul-assoc}
+use native.Mathlib.Nat.{suc-mul, add-mul, zero-mul, mul-le-mul-right, add-zero, mul-assoc}
 use native.Mathlib.Numerals.{add-one}
 use native.Mathlib.Omega.{arith}
 use lib.ListN.{length}
@@ -32,13 +32,6 @@ module _ (p : Plan) where
   noise-first v = rw (add-zero, mul-assoc)
 
   module _ (v : ℕ) where
-    pub noise-next : (b : ℕ) → noise-start p v b + p .collusion ≡ noise-start p v (b + 1)
-    unfolding noise-start
-    noise-next b =
-        let m : ℕ = rank (usable p) v * p .blocks in
-        add-assoc _ _ _
-        ∙ ap (λ (n : ℕ). p .users * places p + n) (row-next (m + b) (p .collusion) ∙ ap (λ (n : ℕ). n * p .collusion) (add-assoc m b 1))
-
     pub noise-block : (b : ℕ) → noise-start p v b ≡ noise-start p v 0 + b * p .collusion
     unfolding noise-start
     noise-block b =

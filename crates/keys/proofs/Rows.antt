@@ -1,9 +1,9 @@
 -- Numbers added to a row, one place a turn.
---   Rising       the first i are new, the others old
+--   Rising                                  the first i are new, the others old
 --   rising-none, rising-more, rising-done   before the first turn, one turn, after the last
---   zeros-at     a row of zeros
+--   none-below, zeros-at                    no number is below 0; a row of zeros
 -- Assumes nothing.
-use mathlib.Core.Path.{_≡_, refl, ap, _∙_}
+use mathlib.Core.Path.{_≡_, refl, _∙_}
 use mathlib.Core.Logic.{⊎-elim}
 use mathlib.Core.List.{List}
 use Prim.Native.Nat.{ℕ, zero, suc, _+_, _≤_, _<_}
@@ -18,11 +18,16 @@ pub record Rising (f : ℕ → ℕ) (most n : ℕ) (old new : List ℕ) (i : ℕ
   pub raised : Raised f most i old new
   pub rest : (j : ℕ) → i ≤ j → getD new j 0 ≡ getD old j 0
 
-none : (i : ℕ) → i < 0 → ⊥
-none i h = omega arith
+pub none-below : (i : ℕ) → i < 0 → ⊥
+none-below i h = omega arith
 
 pub rising-none : (f : ℕ → ℕ) (most n : ℕ) (old : List ℕ) → Rising f most n old old 0
-rising-none f most n old = record { below = omega arith; raised = record { long = refl; small = λ i h. absurd (none i h); each = λ i h. absurd (none i h) }; rest = λ i h. refl }
+rising-none f most n old =
+    record {
+      below = omega arith;
+      raised = record { long = refl; small = λ i h. absurd (none-below i h); each = λ i h. absurd (none-below i h) };
+      rest = λ i h. refl;
+    }
 
 module _ {f : ℕ → ℕ} {most n : ℕ} {old new : List ℕ} {i : ℕ} (g : Rising f most n old new i) where
   pub rising-more : i < n → n ≤ length old → (x : ℕ) → (x ≡ f i) × (x ≤ most) → Rising f most n old (set new i (getD new i 0 + x)) (i + 1)

@@ -1,5 +1,5 @@
 -- Sums modulo 65521 that a loop builds up one summand a turn.
---   members-take, members-skip                     over the numbers that pass a test, one number more
+--   members-take, members-skip                              over the numbers that pass a test, one number more
 --   dotted-none, dotted-more, dot-same, dot-sum, dot-join   over the columns of a share
 -- Assumes nothing.
 use mathlib.Core.Path.{_≡_, refl, sym, ap, ap₂, _∙_}

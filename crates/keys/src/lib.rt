@@ -1,12 +1,13 @@
 // The key maker of document 01.
-//   make_key               a user's key from the random list, or a refusal
-//   refusal                tests 1, 4, 2, 3
-//   copy_masks             the user's own masks
-//   write_sets             the shares for each usable set that holds the user
-//   write_shares, reduced  the shares for one set, block by block
-//   mask_products, put_products            the masks of each user times the first columns, reduced: once a key
-//   sum_rows, add_row, wide                the products of a set's users, row upon row, not reduced
-//   dot_columns, add_column, times         columns times coefficients, for all blocks at once, not reduced
+//   make_key                        a user's key from the random list, or a refusal
+//   refusal                         tests 1, 4, 2, 3
+//   copy_masks                      the user's own masks
+//   write_sets                      the shares for each usable set that holds the user
+//   write_shares, reduced           the shares for one set, block by block
+//   mask_products, put_products     once a key: the masks of each user times the first columns, reduced
+//   sum_rows, add_row, wide         the products of a set's users, row upon row, not reduced
+//   dot_columns, add_column, times  some columns of all blocks, column upon column, not reduced
+//   no_products, no_dots, no_sums   zeros
 // Document 01's airfield is a user here, and its S of an airfield is that user's mask. The functions behind the refusals are
 // told in their contracts what the refusals have tested.
 ghost use mathlib.Core.Path.{_≡_};
@@ -16,7 +17,6 @@ ghost use Prim.Native.Nat.{ℕ, _+_, _*_, _%_, _≤_, _<_};
 ghost use lib.ListN.{length, getD, replicate};
 ghost use lib.Seq.{sets};
 ghost use Rattle.scheme.specs.Scheme.{span, rows, q, sixteen, places, usable, sets-with, mask, noise-start, shares, key, key-length, key-refusal, written};
-ghost use Rattle.scheme.specs.Good.{Good};
 ghost use Rattle.plan.specs.Plan.{plan-of};
 ghost use Rattle.keys.specs.Parts.{Ready, most-product, Raised, Columns, Put, Products, Summed};
 use element::Q;
@@ -30,6 +30,11 @@ use plan::key_length;
 use plan::list_length;
 use plan::places_of;
 use plan::start_refusal;
+
+// A plan has at most 16 blocks; with 8 users that makes 128 products.
+const BLOCKS: usize = 16;
+
+const PRODUCTS: usize = 128;
 
 // "Key of airfield k: its L elements of S, then for each usable set holding k, in rising number, its M shares."
 // Answers 0, or the number of the refusal, and then `out` stays as it was.
@@ -107,11 +112,11 @@ fn write_sets(plan: Plan, user: u32, list: &[u16], out: &mut [u16], row: usize)
 }
 
 // "Columns 1 to U − T times the sums over V of S in that block, plus columns U − T + 1 to U times the T noise elements."
-// The noise lies from `noise` on; the first columns of each user's masks are in the products.
+// The columns are multiplied first and the sums over V taken of the products, which comes to the same. The noise lies from `noise` on.
 fn write_shares(
     plan: Plan,
     user: u32,
-    products: &[u16; 128],
+    products: &[u16; PRODUCTS],
     list: &[u16],
     set: u32,
     noise: usize,
@@ -141,8 +146,8 @@ fn reduced(a: u32, b: u64) -> u16
     ((a as u64 + b) % Q as u64) as u16
 }
 
-// For each user a row of 16: in each block, "columns 1 to U − T times" that user's masks.
-fn mask_products(plan: Plan, user: u32, list: &[u16], row: usize) -> [u16; 128]
+// For each user 16 numbers: "columns 1 to U − T times" that user's masks, block by block.
+fn mask_products(plan: Plan, user: u32, list: &[u16], row: usize) -> [u16; PRODUCTS]
     requires { ⌜ Ready (plan-of plan) user (now list) ⌝ }
     requires { ⌜ (row ≡ places (plan-of plan)) × (row ≤ 96) ⌝ }
     ensures { λ r. ⌜ Products (plan-of plan) user (now (list .entry)) (plan .users) r ⌝ }
@@ -156,15 +161,15 @@ fn mask_products(plan: Plan, user: u32, list: &[u16], row: usize) -> [u16; 128]
     while k < plan.users {
         put_products(&mut products, at, user, items, list, from, blocks);
         from += row;
-        at += 16;
+        at += BLOCKS;
         k += 1;
     }
     products
 }
 
-// Those of one user, whose masks lie from `from` on, go to `at`.
+// Those of one user, whose masks lie from `from` on, are put from `at` on.
 fn put_products(
-    products: &mut [u16; 128],
+    products: &mut [u16; PRODUCTS],
     at: usize,
     user: u32,
     items: u32,
@@ -177,15 +182,23 @@ fn put_products(
     ensures { λ r. ⌜ Put user items (now (list .entry)) from at blocks (now (products .entry)) (now (products .exit)) ⌝ }
 {
     let dots = dot_columns(user, 1, items, list, from, blocks);
-    let mut b = 0;
-    while b < blocks {
-        products[at + b] = reduced(0, dots[b]);
-        b += 1;
+    let mut i = 0;
+    while i < blocks {
+        products[at + i] = reduced(0, dots[i]);
+        i += 1;
     }
 }
 
-// For each block its n numbers of the list times the n columns from `first` on, "the row goes by the airfield's number in every set".
-fn dot_columns(user: u32, first: u32, n: u32, list: &[u16], from: usize, blocks: usize) -> [u64; 16]
+// In each block n numbers of the list, block behind block from `from` on, times the n columns from `first` on: "the row goes by the
+// airfield's number in every set".
+fn dot_columns(
+    user: u32,
+    first: u32,
+    n: u32,
+    list: &[u16],
+    from: usize,
+    blocks: usize,
+) -> [u64; BLOCKS]
     requires { ⌜ (user + (first + n) ≤ 16) × (n ≤ 7) × (blocks ≤ 16) × (from + blocks * n ≤ length (now list)) ⌝ }
     ensures { λ r. ⌜ Columns user first n n (now (list .entry)) from blocks r ⌝ }
 {
@@ -199,8 +212,8 @@ fn dot_columns(user: u32, first: u32, n: u32, list: &[u16], from: usize, blocks:
     sums
 }
 
-// Adds c times every number of the list, from `from` on and in steps, to the first n sums.
-fn add_column(sums: &mut [u64; 16], c: u16, list: &[u16], from: usize, step: usize, n: usize)
+// Adds c times a number of the list to each of the first n sums: the one at `from`, then always the one a step further.
+fn add_column(sums: &mut [u64; BLOCKS], c: u16, list: &[u16], from: usize, step: usize, n: usize)
     requires { ⌜ (n ≤ 16) × (step ≤ 7) × (length (now sums) ≡ 16) ⌝ }
     requires { ⌜ ((i : ℕ) → i < n → from + i * step < length (now list)) ⌝ }
     requires { ⌜ ((i : ℕ) → i < n → getD (now sums) i 0 ≤ 6 * most-product) ⌝ }
@@ -222,7 +235,7 @@ fn times(a: u16, b: u16) -> u64
 }
 
 // "The sums over V", of products.
-fn sum_rows(products: &[u16; 128], set: u32, users: u32) -> [u32; 16]
+fn sum_rows(products: &[u16; PRODUCTS], set: u32, users: u32) -> [u32; BLOCKS]
     requires { ⌜ users ≤ 8 ⌝ }
     ensures { λ r. ⌜ Summed (now (products .entry)) set users r ⌝ }
 {
@@ -233,20 +246,20 @@ fn sum_rows(products: &[u16; 128], set: u32, users: u32) -> [u32; 16]
         if holds(set, k + 1) {
             add_row(&mut sums, products, from);
         }
-        from += 16;
+        from += BLOCKS;
         k += 1;
     }
     sums
 }
 
-// Adds the row of 16 from `from` on to the sums; seven numbers of 16 bits leave room for an eighth.
-fn add_row(sums: &mut [u32; 16], products: &[u16; 128], from: usize)
+// Adds the 16 products from `from` on to the sums; seven numbers of 16 bits leave room for an eighth.
+fn add_row(sums: &mut [u32; BLOCKS], products: &[u16; PRODUCTS], from: usize)
     requires { ⌜ (from + 16 ≤ 128) × (length (now sums) ≡ 16) ⌝ }
     requires { ⌜ ((i : ℕ) → i < 16 → getD (now sums) i 0 ≤ 7 * 65535) ⌝ }
     ensures { λ r. ⌜ Raised (λ i. getD (now (products .entry)) (from + i) 0) 65535 16 (now (sums .entry)) (now (sums .exit)) ⌝ }
 {
     let mut i = 0;
-    while i < 16 {
+    while i < BLOCKS {
         sums[i] = sums[i] + wide(products[from + i]);
         i += 1;
     }
@@ -258,20 +271,20 @@ fn wide(a: u16) -> u32
     a as u32
 }
 
-fn no_products() -> [u16; 128]
+fn no_products() -> [u16; PRODUCTS]
     ensures { λ r. ⌜ r ≡ replicate 128 0 ⌝ }
 {
-    [0u16; 128]
+    [0u16; PRODUCTS]
 }
 
-fn no_dots() -> [u64; 16]
+fn no_dots() -> [u64; BLOCKS]
     ensures { λ r. ⌜ r ≡ replicate 16 0 ⌝ }
 {
-    [0u64; 16]
+    [0u64; BLOCKS]
 }
 
-fn no_sums() -> [u32; 16]
+fn no_sums() -> [u32; BLOCKS]
     ensures { λ r. ⌜ r ≡ replicate 16 0 ⌝ }
 {
-    [0u32; 16]
+    [0u32; BLOCKS]
 }

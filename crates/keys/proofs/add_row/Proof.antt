@@ -1,9 +1,8 @@
 -- `keys::add_row` meets its contract: one sum a turn (Rows).
-use mathlib.Core.Path.{_≡_}
-use Prim.Native.Nat.{ℕ, _+_, _-_, _≤_, _<_}
+use Prim.Native.Nat.{_+_, _-_}
 use native.Mathlib.Nat.{le-refl}
 use native.Mathlib.Omega.{arith}
-use lib.ListN.{length, getD}
+use lib.ListN.{getD}
 use borrow.Author.Needs.{needs}
 use Rattle.keys.proofs.Rows.{Rising, rising-none, rising-more, rising-done}
 use Rattle.keys.proofs.add_row.Statement.{statement}

@@ -1,9 +1,9 @@
 -- `keys::dot_columns` meets its contract: one column of all blocks a turn (Sums.dotted-more).
 use mathlib.Core.Path.{_≡_, ap, _∙_}
 use mathlib.Core.List.{List}
-use Prim.Native.Nat.{ℕ, _+_, _*_, _-_, _≤_, _<_}
+use Prim.Native.Nat.{ℕ, _+_, _*_, _-_, _≤_}
 use native.Mathlib.Omega.{arith}
-use lib.ListN.{length, getD, replicate, length-replicate}
+use lib.ListN.{getD, replicate, length-replicate}
 use borrow.Author.Needs.{needs}
 use Rattle.scheme.specs.Scheme.{sixteen}
 use Rattle.keys.specs.Parts.{most-product, Raised, Columns}

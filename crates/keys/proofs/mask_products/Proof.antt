@@ -10,15 +10,13 @@ use borrow.Author.Needs.{needs}
 use Rattle.scheme.specs.Scheme.{Plan, items, places}
 use Rattle.plan.specs.Plan.{plan-of}
 use Rattle.keys.specs.Parts.{dot, Put, Products}
+use Rattle.keys.proofs.Rows.{none-below}
 use Rattle.keys.proofs.Places.{row-in, row-next, rows-in}
 use Rattle.keys.proofs.mask_products.Statement.{statement}
 use Rattle.keys.proofs.mask_products.Tie as tie
 
-below-none : (i : ℕ) → i < 0 → ⊥
-below-none i h = omega arith
-
 none : (p : Plan) (u : ℕ) (xs : List ℕ) → Products p u xs 0 (replicate 128 0)
-none p u xs = record { long = length-replicate {A = ℕ} 128 0; each = λ i b h l. absurd (below-none i h) }
+none p u xs = record { long = length-replicate {A = ℕ} 128 0; each = λ i b h l. absurd (none-below i h) }
 
 more : {p : Plan} {u : ℕ} {xs : List ℕ} {k : ℕ} {old new : List ℕ} → Products p u xs k old → p .blocks ≤ 16 →
     (from at : ℕ) → from ≡ k * places p → at ≡ k * 16 → Put u (items p) xs from at (p .blocks) old new → Products p u xs (k + 1) new

@@ -1,15 +1,14 @@
 -- `keys::write_shares` meets its contract: what is written so far is the shares so far (Shares.share-right, Lists.sets-more).
-use mathlib.Core.Path.{_≡_, refl, sym, ap, ap₂, _∙_}
+use mathlib.Core.Path.{_≡_, refl, ap, ap₂, _∙_}
 use mathlib.Core.List.{List, map}
-use Prim.Native.Nat.{ℕ, _+_, _*_, _-_, _%_, _≤_, _<_}
+use Prim.Native.Nat.{ℕ, _+_, _-_, _%_, _≤_}
 use native.Mathlib.Omega.{arith}
 use lib.ListN.{length, getD, set}
 use lib.Seq.{sets, length-sets}
 use borrow.Author.Needs.{needs}
-use Rattle.scheme.specs.Scheme.{span, q, sixteen, items, noise-start, share, shares}
+use Rattle.scheme.specs.Scheme.{span, q, sixteen, items, share, shares}
 use Rattle.scheme.proofs.Lists.{span-in, map-same, sets-more}
 use Rattle.plan.specs.Plan.{plan-of}
-use Rattle.keys.specs.Parts.{Columns}
 use Rattle.keys.proofs.Places.{noise-room}
 use Rattle.keys.proofs.Shares.{share-right}
 use Rattle.keys.proofs.write_shares.Statement.{statement}
