@@ -14,7 +14,7 @@ fn ours(p: Plan) -> cutawheno::Plan {
 pub fn measure_keys(p: Plan) -> [f64; 2] {
     let round = Round::new(p, &mut Random(3));
     let list = &round.list;
-    let mut key = vec![0; p.key_len(1)];
+    let mut key = vec![0; p.key_len()];
     let mut rust_key = key.clone();
     for user in 1..=p.users {
         ours(p).make_key(user, list, &mut key).unwrap();

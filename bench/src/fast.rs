@@ -17,6 +17,31 @@ const INVERSES: [u16; 16] =
 const GAPS: [u16; 16] =
     [9360, 10920, 13104, 16380, 21840, 32760, 65520, 1, 1, 32761, 43681, 49141, 52417, 54601, 56161, 57331];
 
+/// How many sets of K users have at least U members, and how many of these hold a given user: by K and U.
+const USABLE: [[u16; 8]; 16] = counts(0);
+const HOLDING: [[u16; 8]; 16] = counts(1);
+
+/// Of all sets (`low` 0), or of those that hold user 1 (`low` 1).
+const fn counts(low: u32) -> [[u16; 8]; 16] {
+    let mut out = [[0; 8]; 16];
+    let mut users = 0;
+    while users <= MOST_USERS {
+        let mut set: u32 = 0;
+        while set < 1 << users {
+            let mut threshold = 0;
+            while threshold < 8 {
+                if threshold <= set.count_ones() && low <= set & 1 {
+                    out[users][threshold as usize] += 1;
+                }
+                threshold += 1;
+            }
+            set += 1;
+        }
+        users += 1;
+    }
+    out
+}
+
 fn reduced(n: u64) -> u16 {
     (n % Q as u64) as u16
 }
@@ -61,8 +86,8 @@ impl Plan {
     }
 
     pub fn list_len(self) -> usize {
-        let sets: u32 = (0..1u32 << self.users).map(|v| (self.threshold <= v.count_ones()) as u32).sum();
-        self.users as usize * self.places() + (sets * self.blocks * self.collusion) as usize
+        let sets = USABLE[self.users as usize & 15][self.threshold as usize & 7] as usize;
+        self.users as usize * self.places() + sets * (self.blocks * self.collusion) as usize
     }
 
     /// The shares for a set of the plan's users start behind those for the smaller usable sets that hold the user.
@@ -71,8 +96,8 @@ impl Plan {
         self.places() + (before * self.blocks) as usize
     }
 
-    pub fn key_len(self, user: u32) -> usize {
-        self.reply_start(user, 1 << self.users)
+    pub fn key_len(self) -> usize {
+        self.places() + HOLDING[self.users as usize & 15][self.threshold as usize & 7] as usize * self.blocks as usize
     }
 
     fn start_refusal(self, user: u32) -> u32 {
@@ -88,7 +113,7 @@ impl Plan {
 
 fn key_refusal(plan: Plan, user: u32, list: &[u16], room: usize) -> u32 {
     match plan.start_refusal(user) {
-        0 if list.len() != plan.list_len() || room != plan.key_len(user) => 2,
+        0 if list.len() != plan.list_len() || room != plan.key_len() => 2,
         0 if !all_elements(list) => 3,
         number => number,
     }
@@ -126,7 +151,8 @@ fn write_by<const ITEMS: usize>(plan: Plan, user: u32, masks: &[u16], noise: &[u
     }
 }
 
-/// All set numbers in rising order: a usable one has its noise, and where it holds the user its shares.
+/// The masks of each user times the first columns, reduced, once a key; then all set numbers in rising order: a usable one has its
+/// noise, and where it holds the user its shares.
 fn write_sets<const ITEMS: usize, const COLLUSION: usize>(
     plan: Plan,
     user: u32,
@@ -135,6 +161,14 @@ fn write_sets<const ITEMS: usize, const COLLUSION: usize>(
     mut shares: &mut [u16],
 ) {
     let blocks = plan.blocks as usize;
+    let low: [u64; ITEMS] = array::from_fn(|j| INVERSES[user as usize + 1 + j & 15] as u64);
+    let high: [u64; COLLUSION] = array::from_fn(|j| INVERSES[user as usize + 1 + ITEMS + j & 15] as u64);
+    let mut products = [[0u32; MOST_BLOCKS]; MOST_USERS];
+    for (row, masks) in products.iter_mut().zip(masks.chunks_exact(blocks * ITEMS)) {
+        for (product, masks) in row.iter_mut().zip(masks.as_chunks::<ITEMS>().0) {
+            *product = reduced(low.iter().zip(masks).map(|(c, &x)| c * x as u64).sum()) as u32;
+        }
+    }
     for set in 0..1u32 << plan.users {
         if set.count_ones() < plan.threshold {
             continue;
@@ -144,35 +178,30 @@ fn write_sets<const ITEMS: usize, const COLLUSION: usize>(
         if holds(set, user) {
             let (part, rest) = shares.split_at_mut(blocks);
             shares = rest;
-            write_shares::<ITEMS, COLLUSION>(user, set, masks, here, part);
+            write_shares::<COLLUSION>(set, &products, &high, here, part);
         }
     }
 }
 
-/// The sums of the set's masks, row upon row, then a share for each block, reduced once.
-fn write_shares<const ITEMS: usize, const COLLUSION: usize>(
-    user: u32,
+/// The products of the set's users, row upon row, then a share for each block, reduced once.
+fn write_shares<const COLLUSION: usize>(
     set: u32,
-    masks: &[u16],
+    products: &[[u32; MOST_BLOCKS]; MOST_USERS],
+    high: &[u64; COLLUSION],
     noise: &[u16],
     out: &mut [u16],
 ) {
-    let mut sums = [0u32; MOST_PLACES];
-    let sums = &mut sums[..out.len() * ITEMS];
-    for (k, mask) in masks.chunks_exact(sums.len()).enumerate() {
+    let mut sums = [0u32; MOST_BLOCKS];
+    for (k, row) in products.iter().enumerate() {
         if set >> k & 1 == 1 {
-            for (sum, &x) in sums.iter_mut().zip(mask) {
-                *sum += x as u32;
+            for (sum, &x) in sums.iter_mut().zip(row) {
+                *sum += x;
             }
         }
     }
-    let low: [u64; ITEMS] = array::from_fn(|j| INVERSES[user as usize + 1 + j & 15] as u64);
-    let high: [u64; COLLUSION] = array::from_fn(|j| INVERSES[user as usize + 1 + ITEMS + j & 15] as u64);
-    let blocks = sums.as_chunks::<ITEMS>().0.iter().zip(noise.as_chunks::<COLLUSION>().0);
-    for (share, (sums, noise)) in out.iter_mut().zip(blocks) {
-        let of_sums: u64 = low.iter().zip(sums).map(|(c, &x)| c * x as u64).sum();
+    for ((share, &sum), noise) in out.iter_mut().zip(&sums).zip(noise.as_chunks::<COLLUSION>().0) {
         let of_noise: u64 = high.iter().zip(noise).map(|(c, &x)| c * x as u64).sum();
-        *share = reduced(of_sums + of_noise);
+        *share = reduced(sum as u64 + of_noise);
     }
 }
 
@@ -196,7 +225,7 @@ impl Client {
         let places = || self.plan.places();
         match self.plan.start_refusal(self.user) {
             0 if !matches!(self.stage, Stage::Fresh) => 18,
-            0 if key.len() != self.plan.key_len(self.user) => 2,
+            0 if key.len() != self.plan.key_len() => 2,
             0 if figures.len() != places() || room != places() => 2,
             0 if !all_elements(key) || !all_elements(figures) => 3,
             number => number,
@@ -219,7 +248,7 @@ impl Client {
     fn reply_refusal(&self, key: &[u16], set: u32) -> u32 {
         match self.plan.start_refusal(self.user) {
             0 if matches!(self.stage, Stage::Fresh) => 18,
-            0 if key.len() != self.plan.key_len(self.user) => 2,
+            0 if key.len() != self.plan.key_len() => 2,
             0 if !all_elements(key) => 3,
             0 if !self.plan.is_usable(set) => 5,
             0 if !holds(set, self.user) => 6,

@@ -43,7 +43,7 @@ impl Round {
         let mut round =
             Round { plan, everyone, list, keys: vec![], figures: vec![], messages: vec![], replies: vec![] };
         for user in 1..=plan.users {
-            let mut key = vec![0; plan.key_len(user)];
+            let mut key = vec![0; plan.key_len()];
             let mut message = vec![0; plan.places()];
             let figures = random.elements(plan.places());
             let mut end = Client { plan, user, stage: Stage::Fresh };
