@@ -77,7 +77,7 @@ impl Report {
         for (users, [ours, rust]) in &self.growth {
             line(&format!("| {users} | {ours:.0} | {rust:.0} | {:.2} |", ours / rust));
         }
-        line("\nOf the proofs one goes through all sets: that the keys of all users are of one length is computed (`computed` in `plan/proofs/Counts.antt`), as are the two tables of counts there. Its time more than doubles with each airfield. The table of inverses has an entry for each sum up to K + U, and the examples have plans of their own; all other proofs are arguments for every plan, and their time does not depend on K. Seconds of processor time of `rt check` on that computation alone, for at most K airfields, all loading included:\n");
+        line("\nOf the proofs one goes through all sets: that the keys of all users are of one length is computed (`computed` in `plan/proofs/Counts.antt`), as are the entries of the two tables of counts in `plan/src/lib.rt`. Its time about doubles with each airfield, as the number of sets does. The table of inverses has an entry for each sum up to K + U, and the examples have plans of their own; all other proofs are arguments for every plan, and their time does not depend on K. Seconds of processor time of `rt check` on that computation alone, for at most K airfields, all loading included:\n");
         line("| K | seconds |\n|---|---|");
         for (users, seconds) in &self.proofs {
             line(&format!("| {users} | {seconds:.1} |"));
