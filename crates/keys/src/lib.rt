@@ -200,10 +200,12 @@ fn put_blocks(
     requires { ⌜ (n ≤ 7) × (blocks ≤ 16) × (start + blocks * n ≤ length (now list)) × (at + blocks ≤ length (now out)) ⌝ }
     ensures { λ r. ⌜ now (out .exit) ≡ sets (now (out .entry)) at (map (block-value (now (sums .entry)) (now (row .entry)) n (now (list .entry)) start) (span blocks 0)) ⌝ }
 {
+    // a copy, which no write to out can change
+    let own = *row;
     let mut from = start;
     let mut b = 0;
     while b < blocks {
-        out[at + b] = reduced(sums[b], dot(row, n, list, from));
+        out[at + b] = reduced(sums[b], dot(&own, n, list, from));
         from += n;
         b += 1;
     }

@@ -17,14 +17,14 @@ use Rattle.keys.proofs.put_blocks.Statement.{statement}
 use Rattle.keys.proofs.put_blocks.Tie as tie
 
 abbrev Inv-loop : tie.InvT-loop
-Inv-loop sums row n list start out₀ at blocks from₀ b₀ out from b =
+Inv-loop sums row n list start out₀ at blocks own from₀ b₀ out from b =
     (b ≤ blocks) × (from ≡ start + b * n) × (out ≡ sets out₀ at (map (block-value sums row n list start) (span b 0)))
 
 abbrev μ-loop : tie.MeasureT-loop
-μ-loop sums row n list start out₀ at blocks from₀ b₀ out from b = blocks - b
+μ-loop sums row n list start out₀ at blocks own from₀ b₀ out from b = blocks - b
 
 -- the buffer keeps its length
-long : (c : tie.At-loop Inv-loop μ-loop) → length (c .loop .out) ≡ length (c .before .before .before .args .out .now)
+long : (c : tie.At-loop Inv-loop μ-loop) → length (c .loop .out) ≡ length (c .before .before .before .before .args .out .now)
 long c = ap length (c .loop .inv .2) ∙ simp length-sets
 
 loop-holds : tie.Need-loop-holds Inv-loop μ-loop
@@ -38,9 +38,9 @@ element-copy-out-reduced c = search needs
 
 dot-requires : tie.Need-dot-requires Inv-loop μ-loop
 dot-requires c κs =
-    let l = c .before .before .loop in
-    let a = c .before .before .before .before .before .args in
-    (omega arith, omega (arith, l .inv .1, row-in (l .b) (a .blocks) (a .n) (c .before .loop-test .taken)))
+    let l = c .before .before .before .loop in
+    let a = c .before .before .before .before .before .before .before .args in
+    (omega arith, omega (arith, l .inv .1, row-in (l .b) (a .blocks) (a .n) (c .before .before .loop-test .taken)))
 
 reduced-requires : tie.Need-reduced-requires Inv-loop μ-loop
 reduced-requires c κs = omega (arith, c .dot .ensures .small)
@@ -52,13 +52,13 @@ mul-out : tie.Need-mul-out Inv-loop μ-loop
 mul-out c = search needs
 
 slice-write-out : tie.Need-slice-write-out Inv-loop μ-loop
-slice-write-out c = omega (arith, long (c .before .before .before .before))
+slice-write-out c = omega (arith, long (c .before .before .before .before .before))
 
 add-from : tie.Need-add-from Inv-loop μ-loop
 add-from c =
-    let l = c .before .before .before .before .loop in
-    let s = c .before .before .before .before .before .before .before in
-    omega (arith, l .inv .1, row-in (l .b) (s .args .blocks) (s .args .n) (c .before .before .before .loop-test .taken), s .good)
+    let l = c .before .before .before .before .before .loop in
+    let s = c .before .before .before .before .before .before .before .before .before in
+    omega (arith, l .inv .1, row-in (l .b) (s .args .blocks) (s .args .n) (c .before .before .before .before .loop-test .taken), s .good)
 
 add-b : tie.Need-add-b Inv-loop μ-loop
 add-b c = search needs
@@ -69,8 +69,8 @@ loop-less c = search needs
 loop-again : tie.Need-loop-again Inv-loop μ-loop
 unfolding block-value
 loop-again c =
-    let l = c .before .before .before .before .loop in
-    let a = c .before .before .before .before .before .before .before .args in
+    let l = c .before .before .before .before .before .loop in
+    let a = c .before .before .before .before .before .before .before .before .before .args in
     let d = c .before .dot in
     let f = block-value (now (a .sums)) (now (a .row)) (a .n) (now (a .list)) (a .start) in (
       omega arith,
@@ -85,7 +85,7 @@ same-length c = long (c .before)
 
 returns : tie.Need-returns Inv-loop μ-loop
 returns c =
-    let a = c .before .before .before .before .args in
+    let a = c .before .before .before .before .before .args in
     let e : c .before .loop .b ≡ a .blocks = omega arith in
     c .before .loop .inv .2 ∙ ap (λ (n : ℕ). sets (a .out .now) (a .at) (map (block-value (now (a .sums)) (now (a .row)) (a .n) (now (a .list)) (a .start)) (span n 0))) e
 
