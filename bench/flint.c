@@ -1,58 +1,88 @@
-/* FLINT's nmod_mat_solve on the systems that a round's finish solves: for each block a right side, and the Cauchy matrix of the users
- * and columns 1 to size, modulo 65521. The matrices are filled once; only solving is left to be measured. */
+/* FLINT on what a round's finish solves: nmod_mat_solve on the Cauchy matrix of the first users and columns 1 to size, modulo 65521,
+ * with a right side for each block; and of further replies, nmod_mat_mul and nmod_mat_equal to see whether the unknowns explain them.
+ * The matrices are filled once; only solving is left to be measured. */
 #include <flint/nmod_mat.h>
 #include <stdint.h>
 #include <stdlib.h>
 
 enum { Q = 65521 };
 
+/* The right sides of some blocks as columns, and what becomes of them. */
 typedef struct {
-    long size, blocks;
-    nmod_mat_t matrix, values, unknowns; /* all right sides as columns of one matrix */
-    nmod_mat_t *value, *unknown;         /* one column each */
-} rounds_systems;
+    nmod_mat_t values, unknowns, further, product;
+} system_columns;
 
-/* The replies of user 1 to size, block by block. */
-rounds_systems *flint_new(uint32_t size, uint32_t blocks, const uint16_t *replies)
+typedef struct {
+    long blocks;
+    nmod_mat_t matrix, rest; /* of the first users; of the further ones */
+    system_columns all, *each;
+} round_systems;
+
+static void fill(nmod_mat_t m, long rows, long columns, long from)
 {
-    rounds_systems *s = malloc(sizeof *s);
-    s->size = size;
+    nmod_mat_init(m, rows, columns, Q);
+    for (long i = 0; i < rows; i++)
+        for (long j = 0; j < columns; j++)
+            nmod_mat_entry(m, i, j) = n_invmod(from + i + j + 2, Q);
+}
+
+static void take(system_columns *c, long size, long users, long blocks, long from, long count, const uint16_t *replies)
+{
+    nmod_mat_init(c->values, size, count, Q);
+    nmod_mat_init(c->unknowns, size, count, Q);
+    nmod_mat_init(c->further, users - size, count, Q);
+    nmod_mat_init(c->product, users - size, count, Q);
+    for (long i = 0; i < users; i++)
+        for (long b = 0; b < count; b++) {
+            mp_limb_t x = replies[i * blocks + from + b];
+            if (i < size)
+                nmod_mat_entry(c->values, i, b) = x;
+            else
+                nmod_mat_entry(c->further, i - size, b) = x;
+        }
+}
+
+/* The replies of user 1 to users, block by block. */
+round_systems *flint_new(uint32_t size, uint32_t users, uint32_t blocks, const uint16_t *replies)
+{
+    round_systems *s = malloc(sizeof *s);
     s->blocks = blocks;
-    s->value = malloc(blocks * sizeof *s->value);
-    s->unknown = malloc(blocks * sizeof *s->unknown);
-    nmod_mat_init(s->matrix, size, size, Q);
-    nmod_mat_init(s->values, size, blocks, Q);
-    nmod_mat_init(s->unknowns, size, blocks, Q);
-    for (long i = 0; i < size; i++)
-        for (long j = 0; j < size; j++)
-            nmod_mat_entry(s->matrix, i, j) = n_invmod(i + j + 2, Q);
-    for (long b = 0; b < blocks; b++) {
-        nmod_mat_init(s->value[b], size, 1, Q);
-        nmod_mat_init(s->unknown[b], size, 1, Q);
-        for (long i = 0; i < size; i++)
-            nmod_mat_entry(s->values, i, b) = nmod_mat_entry(s->value[b], i, 0) = replies[i * blocks + b];
-    }
+    s->each = malloc(blocks * sizeof *s->each);
+    fill(s->matrix, size, size, 0);
+    fill(s->rest, users - size, size, size);
+    take(&s->all, size, users, blocks, 0, blocks, replies);
+    for (long b = 0; b < s->blocks; b++)
+        take(&s->each[b], size, users, blocks, b, 1, replies);
     return s;
 }
 
+static void solve(const round_systems *s, system_columns *c)
+{
+    if (!nmod_mat_solve(c->unknowns, s->matrix, c->values))
+        abort();
+    if (nmod_mat_nrows(s->rest)) {
+        nmod_mat_mul(c->product, s->rest, c->unknowns);
+        if (!nmod_mat_equal(c->product, c->further))
+            abort();
+    }
+}
+
 /* A system for each block. */
-void flint_blocks(rounds_systems *s)
+void flint_blocks(round_systems *s)
 {
     for (long b = 0; b < s->blocks; b++)
-        if (!nmod_mat_solve(s->unknown[b], s->matrix, s->value[b]))
-            abort();
+        solve(s, &s->each[b]);
 }
 
 /* One system with a column for each block. */
-void flint_columns(rounds_systems *s)
+void flint_columns(round_systems *s)
 {
-    if (!nmod_mat_solve(s->unknowns, s->matrix, s->values))
-        abort();
+    solve(s, &s->all);
 }
 
 /* Unknown i of a block, by both ways; 65521 where they differ. */
-uint32_t flint_unknown(const rounds_systems *s, uint32_t block, uint32_t i)
+uint32_t flint_unknown(const round_systems *s, uint32_t block, uint32_t i)
 {
-    const mp_limb_t x = nmod_mat_entry(s->unknown[block], i, 0);
-    return x == nmod_mat_entry(s->unknowns, i, block) ? x : Q;
+    const mp_limb_t x = nmod_mat_entry(s->each[block].unknowns, i, 0);
+    return x == nmod_mat_entry(s->all.unknowns, i, block) ? x : Q;
 }

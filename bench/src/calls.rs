@@ -67,15 +67,15 @@ fn opened(p: Plan) -> (cutawheno::Service, Service) {
     (service, rust)
 }
 
-/// Both services with all replies held.
-fn replied(round: &Round) -> (cutawheno::Service, Service) {
+/// Both services with the replies of user 1 to `users` held.
+fn replied(round: &Round, users: u32) -> (cutawheno::Service, Service) {
     let (mut service, mut rust) = opened(round.plan);
     for (user, place, x) in round.firsts() {
         service.first_element(user, place, x).unwrap();
         assert_eq!(rust.first_element(user, place, x), 0);
     }
     assert_eq!((service.close().unwrap(), rust.close(), rust.survivors), (round.everyone, 0, round.everyone));
-    for (k, row) in round.replies.iter().enumerate() {
+    for (k, row) in round.replies[..users as usize].iter().enumerate() {
         for (block, &x) in row.iter().enumerate() {
             let (user, block, x) = (k as u32 + 1, block as u32, x as u32);
             service.reply_element(user, block, x).unwrap();
@@ -105,8 +105,9 @@ pub fn measure_element(p: Plan) -> [f64; 2] {
     round.map(|time| time / firsts.len() as f64)
 }
 
-pub fn measure_finish(round: &Round) -> [f64; 2] {
-    let (service, rust_service) = replied(round);
+/// A finish with the replies of user 1 to `users`.
+pub fn measure_finish(round: &Round, users: u32) -> [f64; 2] {
+    let (service, rust_service) = replied(round, users);
     let (mut totals, mut rust_totals) = ([0; MOST_PLACES], [0; MOST_PLACES]);
     service.clone().finish(&mut totals).unwrap();
     assert_eq!(rust_service.clone().finish(&mut rust_totals), 0);
@@ -124,9 +125,9 @@ pub fn measure_finish(round: &Round) -> [f64; 2] {
     )
 }
 
-/// Solving a round's systems by FLINT: block by block, and all blocks as columns of one system.
+/// Solving a round with the replies of user 1 to `users` by FLINT: block by block, and all blocks as columns of one system.
 #[cfg(feature = "flint")]
-pub fn measure_flint(round: &Round) -> Option<[f64; 2]> {
+pub fn measure_flint(round: &Round, users: u32) -> Option<[f64; 2]> {
     #[repr(C)]
     struct Systems {
         _private: [u8; 0],
@@ -134,14 +135,14 @@ pub fn measure_flint(round: &Round) -> Option<[f64; 2]> {
     #[link(name = "solver", kind = "static")]
     #[link(name = "flint")]
     extern "C" {
-        fn flint_new(size: u32, blocks: u32, replies: *const u16) -> *mut Systems;
+        fn flint_new(size: u32, users: u32, blocks: u32, replies: *const u16) -> *mut Systems;
         fn flint_blocks(systems: *mut Systems);
         fn flint_columns(systems: *mut Systems);
         fn flint_unknown(systems: *const Systems, block: u32, i: u32) -> u32;
     }
     let p = round.plan;
     // SAFETY: the replies are those of all users, one for each block, and the systems live until the end.
-    let systems = unsafe { flint_new(p.threshold, p.blocks, round.replies.concat().as_ptr()) };
+    let systems = unsafe { flint_new(p.threshold, users, p.blocks, round.replies.concat().as_ptr()) };
     let (blocks, columns) = (|| unsafe { flint_blocks(systems) }, || unsafe { flint_columns(systems) });
     blocks();
     columns();
@@ -155,6 +156,6 @@ pub fn measure_flint(round: &Round) -> Option<[f64; 2]> {
 }
 
 #[cfg(not(feature = "flint"))]
-pub fn measure_flint(_: &Round) -> Option<[f64; 2]> {
+pub fn measure_flint(_: &Round, _: u32) -> Option<[f64; 2]> {
     None
 }

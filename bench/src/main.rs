@@ -32,9 +32,11 @@ fn main() {
     }
     for p in plans {
         let round = Round::new(p, &mut Random(7));
-        let finish = calls::measure_finish(&round);
-        report.call("finish", p, finish);
-        report.solver.push((named(p), finish[0], calls::measure_flint(&round)));
+        for replies in [p.threshold, p.users] {
+            let finish = calls::measure_finish(&round, replies);
+            report.call(&format!("finish of {replies} replies"), p, finish);
+            report.solver.push((format!("{}, {replies} replies", named(p)), finish[0], calls::measure_flint(&round, replies)));
+        }
     }
     for users in 3..=8 {
         report.growth.push((users, calls::measure_keys(plan(users, 2, 1, 16))));

@@ -53,14 +53,14 @@ impl Report {
         let [ours, rust] = self.memory;
         line(&format!("\nPeak memory over the mixed stream: ours {ours} KiB, Rust {rust} KiB.\n"));
         line("## Calls\n");
-        line("Through the static library, beside `bench/src/fast.rs`: the same algorithms and the same tests of the input, over `&mut` state, with loops that know their lengths and, in finish, all blocks side by side. A key is that of all users in turn; of a round all users survive and reply.\n");
+        line("Through the static library, beside `bench/src/fast.rs`: the same algorithms and the same tests of the input, over `&mut` state, with loops that know their lengths and, in finish, all blocks side by side. A key is that of all users in turn; of a round all users survive, and the first U or all of them reply.\n");
         line("| call and plan | ours, ns | Rust, ns | ratio |\n|---|---|---|---|");
         for (name, [ours, rust]) in &self.calls {
             line(&format!("| {name} | {ours:.0} | {rust:.0} | {:.2} |", ours / rust));
         }
         line("\n## Solving a round\n");
-        line("A whole finish of ours beside FLINT's `nmod_mat_solve` alone, on the same systems modulo 65521 in matrices that are already filled: M systems with one right side each, and its best shape, one system with M right sides. Here a number above 1 says how many times faster ours is.\n");
-        line("| plan | our finish, ns | FLINT by block, ns | times | FLINT by columns, ns | times |\n|---|---|---|---|---|---|");
+        line("A whole finish of ours, with its tests, the sums of the first messages and the clearing of the state, beside FLINT's `nmod_mat_solve` on the same systems modulo 65521 in matrices that are already filled; where more than U reply, FLINT sees by `nmod_mat_mul` and `nmod_mat_equal` whether the unknowns explain the others, as finish does. By block: M systems with one right side each; by columns, its best shape: one system with M right sides. Here a number above 1 says how many times faster ours is.\n");
+        line("| plan and replies | our finish, ns | FLINT by block, ns | times | FLINT by columns, ns | times |\n|---|---|---|---|---|---|");
         for (plan, ours, flint) in &self.solver {
             match flint {
                 Some([blocks, columns]) => line(&format!(
