@@ -13,6 +13,8 @@ use std::process::{Command, ExitCode, Stdio};
 
 const USAGE: &str = "usage: long PROGRAM COUNT";
 const PLAN: [u8; 4] = [3, 2, 1, 2];
+/// In kB: the system's own count is that rough. A byte kept for each round would show as ten times this.
+const SLACK: u64 = 64;
 /// The sets that can survive under this plan.
 const SURVIVORS: [Set; 4] = [3, 5, 6, 7];
 
@@ -91,11 +93,11 @@ fn check(output: impl io::Read, count: u32, process: u32) -> Result<String, Stri
         offset += open.to_bytes().len();
     }
     let late = peak_memory(process)?;
-    if early != late {
+    if early + SLACK < late {
         return Err(format!("peak memory grew from {early} kB to {late} kB"));
     }
     Ok(format!(
-        "{count} rounds, the last one {}: every line right, peak memory {late} kB throughout",
+        "{count} rounds, the last one {}: every line right, peak memory {early} kB after a tenth, {late} kB at the end",
         u32::MAX
     ))
 }
