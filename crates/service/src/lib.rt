@@ -1,19 +1,21 @@
 // The pooling service of document 01: one call for each kind of record but finish, which needs a solver (crate finish). The state goes in by value and is handed back.
 //   Phase, Head, Service         the state: its head, and the elements held
 //   Stepped, Closed              what the calls hand back: 0 or the refusal's number, and the state
+//   second_plan, open_refusal, not_gathering, not_replying     the refusals that the head alone decides
 //   element_refusal              the tests that both kinds of element share
 //   put_first, put_reply         the leaves that hold an element, on a lent array: the hot path
 //   complete_set                 the users with all their elements held
 //   Service::new, plan, open, first_element, close, reply_element
 // After a refusal the state is as before.
 ghost use mathlib.Core.Path.{_≡_};
+ghost use mathlib.Core.Bool.{not};
 ghost use Prim.Native.Nat.{_+_, _*_, _≤_, _<_};
 ghost use lib.ListN.{length};
 ghost use Rattle.scheme.specs.Service.{has-plan, is-gathering, is-replying, complete-set};
 ghost use Rattle.scheme.specs.Scheme.{_then_, unless};
 ghost use Rattle.plan.specs.Plan.{plan-of};
 ghost use Rattle.service.specs.View.{phase-of, row-held, look};
-ghost use Rattle.service.specs.Calls.{nothing-first, nothing-reply, new-service, plan-step, open-step, element-refusal, first-refusal, first-left, first-step, reply-refusal, reply-left, reply-step, close-step};
+ghost use Rattle.service.specs.Calls.{nothing-first, nothing-reply, new-service, plan-step, open-refusal, open-step, element-refusal, first-refusal, first-left, first-step, reply-refusal, reply-left, reply-step, close-step};
 use plan::Plan;
 
 // "At most 768 first elements are held": 8 rows of 96 places; and 8 rows of 16 blocks for the replies.
@@ -60,7 +62,7 @@ pub struct Closed {
 }
 
 // 11 before a plan, else 0.
-pub fn plan_missing(phase: Phase) -> u32
+fn plan_missing(phase: Phase) -> u32
     ensures { λ r. ⌜ r ≡ unless (has-plan (phase-of phase)) 11 ⌝ }
 {
     match phase {
@@ -69,6 +71,33 @@ pub fn plan_missing(phase: Phase) -> u32
         Phase::Gathering => 0,
         Phase::Replying => 0,
     }
+}
+
+// 11 of a plan after one was accepted, else 0.
+pub fn second_plan(phase: Phase) -> u32
+    ensures { λ r. ⌜ r ≡ unless (not (has-plan (phase-of phase))) 11 ⌝ }
+{
+    match phase {
+        Phase::Unplanned => 0,
+        Phase::Idle => 11,
+        Phase::Gathering => 11,
+        Phase::Replying => 11,
+    }
+}
+
+// 11, 17 of an open, which is for any phase.
+pub fn open_refusal(head: Head, round: u32) -> u32
+    ensures { λ r. ⌜ r ≡ open-refusal head round ⌝ }
+{
+    let phase = head.phase;
+    let number = plan_missing(phase);
+    if number != 0 {
+        return number;
+    }
+    if round <= head.round {
+        return 17;
+    }
+    0
 }
 
 // 11, 12 of a record that is for the gathering phase.
@@ -248,9 +277,10 @@ impl Service {
     {
         let head = self.head;
         let phase = head.phase;
-        if plan_missing(phase) == 0 {
+        let number = second_plan(phase);
+        if number != 0 {
             return Stepped {
-                number: 11,
+                number,
                 service: self,
             };
         }
@@ -281,8 +311,7 @@ impl Service {
         ensures { λ r. ⌜ r ≡ open-step self round ⌝ }
     {
         let head = self.head;
-        let phase = head.phase;
-        let number = plan_missing(phase);
+        let number = open_refusal(head, round);
         if number != 0 {
             return Stepped {
                 number,
@@ -290,12 +319,6 @@ impl Service {
             };
         }
         let plan = head.plan;
-        if round <= head.round {
-            return Stepped {
-                number: 17,
-                service: self,
-            };
-        }
         let gathering = Head {
             phase: Phase::Gathering,
             plan,

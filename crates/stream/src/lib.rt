@@ -6,11 +6,7 @@ ghost use mathlib.Core.Path.{_≡_};
 ghost use Prim.Native.Nat.{_+_, _*_, _≤_, _<_};
 ghost use lib.ListN.{length, getD, take};
 ghost use lib.Seq.{sets};
-ghost use mathlib.Core.Bool.{not};
-ghost use Rattle.scheme.specs.Scheme.{unless};
-ghost use Rattle.scheme.specs.Service.{has-plan, plan-record, open-record, close-record, finish-record, silent};
-ghost use Rattle.service.specs.View.{phase-of};
-ghost use Rattle.service.specs.Calls.{open-refusal};
+ghost use Rattle.scheme.specs.Service.{plan-record, open-record, close-record, finish-record, silent};
 ghost use Rattle.service.specs.Promise.{told};
 ghost use Rattle.lines.specs.Text.{line};
 ghost use Rattle.lines.specs.Put.{room, Put};
@@ -18,7 +14,6 @@ ghost use Rattle.stream.specs.Stream.{record-length, two-bytes, four-byt
 use lines::LINE;
 use plan::Plan;
 use service::Head;
-use service::Phase;
 use service::Service;
 
 // All bytes are used; an unknown kind or a record that is not whole comes next; no room for a line; offsets would pass 64 bits.
@@ -233,30 +228,6 @@ fn take_other(
     }
 }
 
-// 11 of a second plan.
-fn second_plan(phase: Phase) -> u32
-    ensures { λ r. ⌜ r ≡ unless (not (has-plan (phase-of phase))) 11 ⌝ }
-{
-    if service::plan_missing(phase) == 0 {
-        return 11;
-    }
-    0
-}
-
-fn open_refusal(head: Head, round: u32) -> u32
-    ensures { λ r. ⌜ r ≡ open-refusal head round ⌝ }
-{
-    let phase = head.phase;
-    let number = service::plan_missing(phase);
-    if number != 0 {
-        return number;
-    }
-    if round <= head.round {
-        return 17;
-    }
-    0
-}
-
 // The refusal of a record other than an element, as far as the head alone decides it: then nothing of the state need be moved.
 fn early_refusal(head: Head, b: &[u8], start: usize) -> u32
     requires { ⌜ (start + record-length (getD (now b) start 0) ≤ length (now b)) × (start < length (now b)) ⌝ }
@@ -266,8 +237,8 @@ fn early_refusal(head: Head, b: &[u8], start: usize) -> u32
     let phase = head.phase;
     let kind = b[start];
     match kind {
-        1 => second_plan(phase),
-        2 => open_refusal(head, four_at(b, start + 1)),
+        1 => service::second_plan(phase),
+        2 => service::open_refusal(head, four_at(b, start + 1)),
         4 => service::not_gathering(phase),
         _ => service::not_replying(phase),
     }

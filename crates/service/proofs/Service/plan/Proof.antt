@@ -16,19 +16,21 @@ use Rattle.service.proofs.Service.plan.Statement.{statement}
 use Rattle.service.proofs.Service.plan.Tie as tie
 
 none-yet : (c : tie.Else1) → has-plan (phase-of (c .before .before .before .args .self .head .phase)) ≡ false
-none-yet c = unless-not-zero _ 11 (λ z. c .if1 .left (c .before .plan-missing .ensures ∙ z))
+none-yet c = not-true _ (unless-zero _ 10 (sym (c .before .second-plan .ensures) ∙ c .if1 .left))
 
 is-good : (c : tie.Else2) → plan-good (plan-of (c .before .before .before .before .before .args .plan)) ≡ true
 is-good c = sym (c .before .is-good .ensures) ∙ not-false _ (c .if2 .left)
 
-plan-missing-requires : tie.Need-plan-missing-requires
-plan-missing-requires c κs = search needs
+second-plan-requires : tie.Need-second-plan-requires
+second-plan-requires c κs = search needs
 
 returns : tie.Need-returns
 unfolding plan-step plan-refusal after unless _then_
 returns c =
-    let h : has-plan (phase-of (c .before .before .before .args .self .head .phase)) ≡ true = unless-zero _ 10 (sym (c .before .plan-missing .ensures) ∙ c .if1 .taken) in
-    simp h
+    let e = c .before .second-plan .ensures in
+    let h : has-plan (phase-of (c .before .before .before .args .self .head .phase)) ≡ true = not-false _ (unless-not-zero _ 11 (λ z. c .if1 .taken (e ∙ z))) in
+    let n : c .before .second-plan .result ≡ 11 = e ∙ simp h in
+    simp (n, h)
 
 is-good-requires : tie.Need-is-good-requires
 is-good-requires c κs = search needs
@@ -59,7 +61,7 @@ pub plan-spec : {M : Type 1} → statement M
 plan-spec =
     tie.close
     (tie.spec
-    plan-missing-requires
+    second-plan-requires
     returns
     is-good-requires
     returns-2
