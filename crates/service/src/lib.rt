@@ -104,8 +104,12 @@ pub fn open_refusal(head: Head, round: u32) -> u32
 pub fn not_gathering(phase: Phase) -> u32
     ensures { λ r. ⌜ r ≡ (unless (has-plan (phase-of phase)) 11 then unless (is-gathering (phase-of phase)) 12) ⌝ }
 {
+    let number = plan_missing(phase);
+    if number != 0 {
+        return number;
+    }
     match phase {
-        Phase::Unplanned => 11,
+        Phase::Unplanned => 12,
         Phase::Idle => 12,
         Phase::Gathering => 0,
         Phase::Replying => 12,
@@ -116,8 +120,12 @@ pub fn not_gathering(phase: Phase) -> u32
 pub fn not_replying(phase: Phase) -> u32
     ensures { λ r. ⌜ r ≡ (unless (has-plan (phase-of phase)) 11 then unless (is-replying (phase-of phase)) 12) ⌝ }
 {
+    let number = plan_missing(phase);
+    if number != 0 {
+        return number;
+    }
     match phase {
-        Phase::Unplanned => 11,
+        Phase::Unplanned => 12,
         Phase::Idle => 12,
         Phase::Gathering => 12,
         Phase::Replying => 0,
@@ -125,7 +133,7 @@ pub fn not_replying(phase: Phase) -> u32
 }
 
 // 4, 8, 3 of an element that a user sends for one of `limit` places or blocks.
-fn element_refusal(users: u32, limit: u32, user: u32, at: u32, element: u16) -> u32
+fn element_refusal(users: u32, limit: u32, user: u32, at: u32, element: u32) -> u32
     ensures { λ r. ⌜ r ≡ element-refusal users limit user at element ⌝ }
 {
     if user == 0 {
@@ -137,14 +145,14 @@ fn element_refusal(users: u32, limit: u32, user: u32, at: u32, element: u16) -> 
     if limit <= at {
         return 8;
     }
-    if !element::is_element(element) {
+    if element::Q <= element {
         return 3;
     }
     0
 }
 
 // Holds a first element and answers 0, or answers why not: 11, 12, 4, 8, 3, 13.
-pub fn put_first(head: Head, first: &mut [u16; FIRSTS], user: u32, place: u32, element: u16) -> u32
+pub fn put_first(head: Head, first: &mut [u16; FIRSTS], user: u32, place: u32, element: u32) -> u32
     ensures number { λ r. ⌜ r ≡ first-refusal head (now (first .entry)) user place element ⌝ }
     ensures left { λ r. ⌜ now (first .exit) ≡ first-left head (now (first .entry)) user place element ⌝ }
 {
@@ -165,12 +173,12 @@ pub fn put_first(head: Head, first: &mut [u16; FIRSTS], user: u32, place: u32, e
     if first[at] != 0 {
         return 13;
     }
-    first[at] = element + 1;
+    first[at] = element as u16 + 1;
     0
 }
 
 // Holds a reply element and answers 0, or answers why not: 11, 12, 4, 8, 3, 14, 13.
-pub fn put_reply(head: Head, reply: &mut [u16; REPLIES], user: u32, block: u32, element: u16) -> u32
+pub fn put_reply(head: Head, reply: &mut [u16; REPLIES], user: u32, block: u32, element: u32) -> u32
     ensures number { λ r. ⌜ r ≡ reply-refusal head (now (reply .entry)) user block element ⌝ }
     ensures left { λ r. ⌜ now (reply .exit) ≡ reply-left head (now (reply .entry)) user block element ⌝ }
 {
@@ -194,7 +202,7 @@ pub fn put_reply(head: Head, reply: &mut [u16; REPLIES], user: u32, block: u32, 
     if reply[at] != 0 {
         return 13;
     }
-    reply[at] = element + 1;
+    reply[at] = element as u16 + 1;
     0
 }
 
@@ -342,7 +350,7 @@ impl Service {
         ensures { λ r. ⌜ r ≡ first-step self user place element ⌝ }
     {
         let head = self.head;
-        let number = put_first(head, &mut self.first, user, place, element);
+        let number = put_first(head, &mut self.first, user, place, element as u32);
         Stepped {
             number,
             service: self,
@@ -354,7 +362,7 @@ impl Service {
         ensures { λ r. ⌜ r ≡ reply-step self user block element ⌝ }
     {
         let head = self.head;
-        let number = put_reply(head, &mut self.reply, user, block, element);
+        let number = put_reply(head, &mut self.reply, user, block, element as u32);
         Stepped {
             number,
             service: self,

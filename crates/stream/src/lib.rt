@@ -64,11 +64,11 @@ fn both(low: u8, high: u8) -> u16
     low as u16 + high as u16 * 256
 }
 
-fn two_at(b: &[u8], i: usize) -> u16
+fn two_at(b: &[u8], i: usize) -> u32
     requires { ⌜ i + 2 ≤ length (now b) ⌝ }
-    ensures { λ r. ⌜ r ≡ two-bytes (now (b .entry)) i ⌝ }
+    ensures { λ r. ⌜ (r ≡ two-bytes (now (b .entry)) i) × (r < 65536) ⌝ }
 {
-    both(b[i], b[i + 1])
+    both(b[i], b[i + 1]) as u32
 }
 
 fn four_at(b: &[u8], i: usize) -> u32
@@ -77,7 +77,7 @@ fn four_at(b: &[u8], i: usize) -> u32
 {
     let low = two_at(b, i);
     let high = two_at(b, i + 2);
-    low as u32 + high as u32 * 65536
+    low + high * 65536
 }
 
 // The line of an element record: its refusal, or nothing.
@@ -292,7 +292,7 @@ pub fn feed(start: Service, b: &[u8], offset: u64, out: &mut [u8]) -> Fed
         if kind == 3 {
             let head = service.head;
             let user = wide(b[at + 1]);
-            let place = two_at(b, at + 2) as u32;
+            let place = two_at(b, at + 2);
             let element = two_at(b, at + 4);
             let number = service::put_first(head, &mut service.first, user, place, element);
             wrote = put_element(out, wrote, number, here);

@@ -82,9 +82,6 @@ two-at-requires : tie.Need-two-at-requires Inv-loop μ-loop
 unfolding record-length
 two-at-requires c κs = omega (arith, ap record-length (c .before .before .before .if5 .taken))
 
-cast-place : tie.Need-cast-place Inv-loop μ-loop
-cast-place c = search needs
-
 add-two-at-2 : tie.Need-add-two-at-2 Inv-loop μ-loop
 add-two-at-2 c = search needs
 
@@ -108,7 +105,7 @@ loop-again : tie.Need-loop-again Inv-loop μ-loop
 loop-again c =
     let l = c .before .before .before .before .before .before .before .before .before .before .before .before .before .before .before .before .before .before .loop in
     let n = c .before .before .before .before .before .before .before .before .before .before .before .before .before .before .before .record-length .result in
-    going-first _ _ _ _ _ _ _ _ (l .inv) (c .before .before .before .before .before .before .before .before .before .before .before .before .before .before .before .before .before .loop-test .taken) n (c .before .before .before .before .before .before .before .before .before .before .before .before .before .before .before .record-length .ensures .0) (c .before .before .before .before .before .before .before .before .before .before .before .before .before .before .if2 .left) (omega arith) (omega arith) _ _ _ _ _ _ _ (c .before .before .before .before .before .before .before .before .before .before .before .if5 .taken) (c .before .before .before .before .before .before .before .before .wide .ensures) (c .before .before .before .before .before .before .before .two-at .ensures) (c .before .before .before .before .before .before .two-at2 .ensures) (c .before .before .before .before .put-first .ensures .0) (c .before .before .before .before .put-first .ensures .1) (c .before .before .put-element .ensures)
+    going-first _ _ _ _ _ _ _ _ (l .inv) (c .before .before .before .before .before .before .before .before .before .before .before .before .before .before .before .before .before .loop-test .taken) n (c .before .before .before .before .before .before .before .before .before .before .before .before .before .before .before .record-length .ensures .0) (c .before .before .before .before .before .before .before .before .before .before .before .before .before .before .if2 .left) (omega arith) (omega arith) _ _ _ _ _ _ _ (c .before .before .before .before .before .before .before .before .before .before .before .if5 .taken) (c .before .before .before .before .before .before .before .before .wide .ensures) (c .before .before .before .before .before .before .before .two-at .ensures .0) (c .before .before .before .before .before .before .two-at2 .ensures .0) (c .before .before .before .before .put-first .ensures .0) (c .before .before .before .before .put-first .ensures .1) (c .before .before .put-element .ensures)
 
 add-wide-2 : tie.Need-add-wide-2 Inv-loop μ-loop
 add-wide-2 c = search needs
@@ -153,7 +150,7 @@ loop-again-2 : tie.Need-loop-again-2 Inv-loop μ-loop
 loop-again-2 c =
     let l = c .before .before .before .before .before .before .before .before .before .before .before .before .before .before .before .before .before .before .before .before .loop in
     let n = c .before .before .before .before .before .before .before .before .before .before .before .before .before .before .before .before .before .record-length .result in
-    going-reply _ _ _ _ _ _ _ _ (l .inv) (c .before .before .before .before .before .before .before .before .before .before .before .before .before .before .before .before .before .before .before .loop-test .taken) n (c .before .before .before .before .before .before .before .before .before .before .before .before .before .before .before .before .before .record-length .ensures .0) (c .before .before .before .before .before .before .before .before .before .before .before .before .before .before .before .before .if2 .left) (omega arith) (omega arith) _ _ _ _ _ _ _ (c .before .before .before .before .before .before .before .before .before .before .before .before .if6 .taken) (c .before .before .before .before .before .before .before .before .before .wide2 .ensures) (c .before .before .before .before .before .before .before .wide3 .ensures) (c .before .before .before .before .before .before .two-at3 .ensures) (c .before .before .before .before .put-reply .ensures .0) (c .before .before .before .before .put-reply .ensures .1) (c .before .before .put-element2 .ensures)
+    going-reply _ _ _ _ _ _ _ _ (l .inv) (c .before .before .before .before .before .before .before .before .before .before .before .before .before .before .before .before .before .before .before .loop-test .taken) n (c .before .before .before .before .before .before .before .before .before .before .before .before .before .before .before .before .before .record-length .ensures .0) (c .before .before .before .before .before .before .before .before .before .before .before .before .before .before .before .before .if2 .left) (omega arith) (omega arith) _ _ _ _ _ _ _ (c .before .before .before .before .before .before .before .before .before .before .before .before .if6 .taken) (c .before .before .before .before .before .before .before .before .before .wide2 .ensures) (c .before .before .before .before .before .before .before .wide3 .ensures) (c .before .before .before .before .before .before .two-at3 .ensures .0) (c .before .before .before .before .put-reply .ensures .0) (c .before .before .before .before .put-reply .ensures .1) (c .before .before .put-element2 .ensures)
 
 early-refusal-requires : tie.Need-early-refusal-requires Inv-loop μ-loop
 early-refusal-requires c κs = ((omega (arith, c .before .before .before .before .before .before .record-length .ensures .0), search needs), (c .before .before .if5 .left, c .before .if6 .left))
@@ -219,7 +216,6 @@ feed-spec =
     wide-requires
     add-two-at
     two-at-requires
-    cast-place
     add-two-at-2
     two-at-requires-2
     put-first-requires
