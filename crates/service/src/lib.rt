@@ -1,10 +1,12 @@
 // The pooling service of document 01: one call for each kind of record but finish, which needs a solver (crate finish). The state goes in by value and is handed back.
 //   Phase, Head, Service         the state: its head, and the elements held
 //   Stepped, Closed              what the calls hand back: 0 or the refusal's number, and the state
+//   SteppedHead, ClosedHead      what their leaves hand back: the same, with the head alone
 //   second_plan, open_refusal, not_gathering, not_replying     the refusals that the head alone decides
 //   element_refusal              the tests that both kinds of element share
 //   put_first, put_reply         the leaves that hold an element, on a lent array: the hot path
 //   complete_set                 the users with all their elements held
+//   plan_lent, open_lent, close_lent     the leaves of the other calls: they copy no array
 //   Service::new, plan, open, first_element, close, reply_element
 // After a refusal the state is as before.
 ghost use mathlib.Core.Path.{_≡_};
@@ -15,7 +17,7 @@ ghost use Rattle.scheme.specs.Service.{has-plan, is-gathering, is-replying, com
 ghost use Rattle.scheme.specs.Scheme.{_then_, unless};
 ghost use Rattle.plan.specs.Plan.{plan-of};
 ghost use Rattle.service.specs.View.{phase-of, row-held, look};
-ghost use Rattle.service.specs.Calls.{nothing-first, nothing-reply, new-service, plan-step, open-refusal, open-step, element-refusal, first-refusal, first-left, first-step, reply-refusal, reply-left, reply-step, close-step};
+ghost use Rattle.service.specs.Calls.{nothing-first, nothing-reply, new-service, plan-step, open-refusal, open-step, element-refusal, first-refusal, first-left, first-step, reply-refusal, reply-left, reply-step, close-step, lent, stepped, closing};
 use plan::Plan;
 
 // "At most 768 first elements are held": 8 rows of 96 places; and 8 rows of 16 blocks for the replies.
@@ -59,6 +61,17 @@ pub struct Closed {
     pub number: u32,
     pub set: u32,
     pub service: Service,
+}
+
+pub struct SteppedHead {
+    pub number: u32,
+    pub head: Head,
+}
+
+pub struct ClosedHead {
+    pub number: u32,
+    pub set: u32,
+    pub head: Head,
 }
 
 // 11 before a plan, else 0.
@@ -254,6 +267,114 @@ pub fn nothing_reply() -> [u16; REPLIES]
     [0; REPLIES]
 }
 
+// 11, 1, on lent arrays.
+pub fn plan_lent(
+    head: Head,
+    first: &mut [u16; FIRSTS],
+    reply: &mut [u16; REPLIES],
+    plan: Plan,
+) -> SteppedHead
+    ensures { λ r. ⌜ stepped r (now (first .exit)) (now (reply .exit)) ≡ plan-step (lent head (now (first .entry)) (now (reply .entry))) plan ⌝ }
+{
+    let phase = head.phase;
+    let number = second_plan(phase);
+    if number != 0 {
+        return SteppedHead { number, head };
+    }
+    if !plan::is_good(plan) {
+        return SteppedHead { number: 1, head };
+    }
+    let places = plan::places_of(plan) as u32;
+    let idle = Head {
+        phase: Phase::Idle,
+        plan,
+        places,
+        round: 0,
+        survivors: 0,
+    };
+    *first = nothing_first();
+    *reply = nothing_reply();
+    SteppedHead {
+        number: 0,
+        head: idle,
+    }
+}
+
+// 11, 17, on lent arrays.
+pub fn open_lent(
+    head: Head,
+    first: &mut [u16; FIRSTS],
+    reply: &mut [u16; REPLIES],
+    round: u32,
+) -> SteppedHead
+    ensures { λ r. ⌜ stepped r (now (first .exit)) (now (reply .exit)) ≡ open-step (lent head (now (first .entry)) (now (reply .entry))) round ⌝ }
+{
+    let number = open_refusal(head, round);
+    if number != 0 {
+        return SteppedHead { number, head };
+    }
+    let plan = head.plan;
+    let gathering = Head {
+        phase: Phase::Gathering,
+        plan,
+        places: head.places,
+        round,
+        survivors: 0,
+    };
+    *first = nothing_first();
+    *reply = nothing_reply();
+    SteppedHead {
+        number: 0,
+        head: gathering,
+    }
+}
+
+// 11, 12, 15, on lent arrays.
+pub fn close_lent(head: Head, first: &[u16; FIRSTS], reply: &mut [u16; REPLIES]) -> ClosedHead
+    ensures { λ r. ⌜ closing r (now (first .entry)) (now (reply .exit)) ≡ close-step (lent head (now (first .entry)) (now (reply .entry))) ⌝ }
+{
+    let phase = head.phase;
+    let number = not_gathering(phase);
+    if number != 0 {
+        return ClosedHead {
+            number,
+            set: 0,
+            head,
+        };
+    }
+    let plan = head.plan;
+    // never so in a state that calls have made
+    if !plan::is_good(plan) {
+        return ClosedHead {
+            number: 15,
+            set: 0,
+            head,
+        };
+    }
+    let each = plan::places_of(plan);
+    let set = complete_set(first, ROW, plan, each);
+    if u32::count_ones(set) < plan.threshold {
+        return ClosedHead {
+            number: 15,
+            set: 0,
+            head,
+        };
+    }
+    let replying = Head {
+        phase: Phase::Replying,
+        plan,
+        places: head.places,
+        round: head.round,
+        survivors: set,
+    };
+    *reply = nothing_reply();
+    ClosedHead {
+        number: 0,
+        set,
+        head: replying,
+    }
+}
+
 impl Service {
     // Before any record.
     pub fn new() -> Self
@@ -284,65 +405,35 @@ impl Service {
         ensures { λ r. ⌜ r ≡ plan-step self plan ⌝ }
     {
         let head = self.head;
-        let phase = head.phase;
-        let number = second_plan(phase);
-        if number != 0 {
-            return Stepped {
-                number,
-                service: self,
-            };
-        }
-        if !plan::is_good(plan) {
-            return Stepped {
-                number: 1,
-                service: self,
-            };
-        }
-        let places = plan::places_of(plan) as u32;
-        let idle = Head {
-            phase: Phase::Idle,
-            plan,
-            places,
-            round: 0,
-            survivors: 0,
-        };
+        let mut first = self.first;
+        let mut reply = self.reply;
+        let step = plan_lent(head, &mut first, &mut reply, plan);
+        let number = step.number;
+        let next = step.head;
         let service = Service {
-            head: idle,
-            first: nothing_first(),
-            reply: nothing_reply(),
+            head: next,
+            first,
+            reply,
         };
-        Stepped { number: 0, service }
+        Stepped { number, service }
     }
 
     // 11, 17. Works in any phase, drops what was held and begins gathering.
-    pub fn open(mut self, round: u32) -> Stepped
+    pub fn open(self, round: u32) -> Stepped
         ensures { λ r. ⌜ r ≡ open-step self round ⌝ }
     {
         let head = self.head;
-        let number = open_refusal(head, round);
-        if number != 0 {
-            return Stepped {
-                number,
-                service: self,
-            };
-        }
-        let plan = head.plan;
-        let gathering = Head {
-            phase: Phase::Gathering,
-            plan,
-            places: head.places,
-            round,
-            survivors: 0,
+        let mut first = self.first;
+        let mut reply = self.reply;
+        let step = open_lent(head, &mut first, &mut reply, round);
+        let number = step.number;
+        let next = step.head;
+        let service = Service {
+            head: next,
+            first,
+            reply,
         };
-        let first = nothing_first();
-        let reply = nothing_reply();
-        self.head = gathering;
-        self.first = first;
-        self.reply = reply;
-        Stepped {
-            number: 0,
-            service: self,
-        }
+        Stepped { number, service }
     }
 
     // 11, 12, 4, 8, 3, 13.
@@ -370,50 +461,25 @@ impl Service {
     }
 
     // 11, 12, 15. Makes survivors of the users with all places held, and begins replying.
-    pub fn close(mut self) -> Closed
+    pub fn close(self) -> Closed
         ensures { λ r. ⌜ r ≡ close-step self ⌝ }
     {
         let head = self.head;
-        let phase = head.phase;
-        let number = not_gathering(phase);
-        if number != 0 {
-            return Closed {
-                number,
-                set: 0,
-                service: self,
-            };
-        }
-        let plan = head.plan;
-        // never so in a state that calls have made
-        if !plan::is_good(plan) {
-            return Closed {
-                number: 15,
-                set: 0,
-                service: self,
-            };
-        }
-        let each = plan::places_of(plan);
-        let set = complete_set(&self.first, ROW, plan, each);
-        if u32::count_ones(set) < plan.threshold {
-            return Closed {
-                number: 15,
-                set: 0,
-                service: self,
-            };
-        }
-        let replying = Head {
-            phase: Phase::Replying,
-            plan,
-            places: head.places,
-            round: head.round,
-            survivors: set,
+        let first = self.first;
+        let mut reply = self.reply;
+        let step = close_lent(head, &first, &mut reply);
+        let number = step.number;
+        let set = step.set;
+        let next = step.head;
+        let service = Service {
+            head: next,
+            first,
+            reply,
         };
-        self.head = replying;
-        self.reply = nothing_reply();
         Closed {
-            number: 0,
+            number,
             set,
-            service: self,
+            service,
         }
     }
 }

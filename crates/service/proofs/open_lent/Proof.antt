@@ -1,11 +1,11 @@
--- `service::Service::open` meets its contract: `open_refusal` decides between the two states.
+-- `service::open_lent` meets its contract: `open_refusal` decides between the two states.
 -- Assumes nothing.
 use mathlib.Core.Path.{sym, _∙_}
 use borrow.Author.Needs.{needs}
 use Rattle.service.specs.Calls.{open-step, opened, after}
 use Rattle.service.proofs.Refused.{after-refused}
-use Rattle.service.proofs.Service.open.Statement.{statement}
-use Rattle.service.proofs.Service.open.Tie as tie
+use Rattle.service.proofs.open_lent.Statement.{statement}
+use Rattle.service.proofs.open_lent.Tie as tie
 
 open-refusal-requires : tie.Need-open-refusal-requires
 open-refusal-requires c κs = search needs
@@ -26,5 +26,5 @@ returns-2 c =
     let e = c .before .before in
     simp (sym (e .before .before .open-refusal .ensures) ∙ e .before .if1 .left, c .before .nothing-first .ensures, c .nothing-reply .ensures)
 
-pub open-spec : {M : Type 1} → statement M
-open-spec = tie.close (tie.spec open-refusal-requires returns nothing-first-requires nothing-reply-requires returns-2)
+pub open-lent-spec : {M : Type 1} → statement M
+open-lent-spec = tie.close (tie.spec open-refusal-requires returns nothing-first-requires nothing-reply-requires returns-2)
