@@ -3,15 +3,12 @@
 --   phase-at, head-at, state           what they stand for
 --   phase-number, numbers, arrays-of   the arrays of a state
 --   code-plan                          the plan of four numbers
---   narrowed                           an element in 16 bits
 --   left                               the arrays of the new state, or after a refusal as they came
 --   plan-left, open-left, close-left, finish-left     what each call leaves in them; the element calls leave first-left and reply-left
 --   closed-answer, finish-totals       what close hands back, and the buffer that finish writes
 -- Assumes nothing: these are definitions.
-use mathlib.Core.Bool.{cond}
 use mathlib.Core.List.{List, [], _∷_}
 use Prim.Native.Nat.{ℕ, zero, suc}
-use lib.Dec.{ltb}
 use lib.ListN.{getD}
 use Rattle.scheme.specs.Scheme.{written}
 use Rattle.plan.specs.declared.Plan.{Plan}
@@ -68,10 +65,6 @@ state a = record { head = head-at (a .head); first = a .first; reply = a .reply 
 
 abbrev pub arrays-of : Service → Arrays
 arrays-of s = arrays (numbers (s .head)) (s .first) (s .reply)
-
--- what 16 bits do not hold is no element, as 65535 is none
-unfoldable pub narrowed : (element : ℕ) → ℕ
-narrowed x = cond (ltb x 65536) x 65535
 
 unfoldable pub left : (refusal : ℕ) → (new : Service) → (old : Arrays) → Arrays
 left zero s a = arrays-of s

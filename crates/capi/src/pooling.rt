@@ -8,7 +8,7 @@
 ghost use mathlib.Core.Path.{_≡_};
 ghost use Rattle.service.specs.Calls.{plan-step, open-step, first-refusal, first-left, close-step, reply-refusal, reply-left};
 ghost use Rattle.finish.specs.Finish.{finish-step};
-ghost use Rattle.capi.specs.Lent.{arrays, state, code-plan, phase-at, phase-number, head-at, numbers, arrays-of, narrowed, plan-left, open-left, closed-answer, close-left, finish-left, finish-totals};
+ghost use Rattle.capi.specs.Lent.{arrays, state, code-plan, phase-at, phase-number, head-at, numbers, arrays-of, plan-left, open-left, closed-answer, close-left, finish-left, finish-totals};
 use plan::MOST_PLACES;
 use plan::Plan;
 use service::FIRSTS;
@@ -170,16 +170,6 @@ pub extern "C" fn cutawheno_service_open(
     0
 }
 
-// A number that 16 bits do not hold is no element, as 65535 is none.
-fn narrowed(element: u32) -> u16
-    ensures { λ r. ⌜ r ≡ narrowed element ⌝ }
-{
-    if element < 65536 {
-        return element as u16;
-    }
-    65535
-}
-
 // 11, 12, 4, 8, 3, 13.
 #[no_mangle]
 pub extern "C" fn cutawheno_service_first_element(
@@ -193,7 +183,7 @@ pub extern "C" fn cutawheno_service_first_element(
     ensures left { λ r. ⌜ now (first .exit) ≡ first-left (head-at (now (head .entry))) (now (first .entry)) user place element ⌝ }
 {
     let held = head_at(head);
-    service::put_first(held, first, user, place, narrowed(element))
+    service::put_first(held, first, user, place, element)
 }
 
 // 11, 12, 15.
@@ -234,7 +224,7 @@ pub extern "C" fn cutawheno_service_reply_element(
     ensures left { λ r. ⌜ now (reply .exit) ≡ reply-left (head-at (now (head .entry))) (now (reply .entry)) user block element ⌝ }
 {
     let held = head_at(head);
-    service::put_reply(held, reply, user, block, narrowed(element))
+    service::put_reply(held, reply, user, block, element)
 }
 
 // 11, 12, 15, 16. The totals come in the first L places, with 0 behind them.

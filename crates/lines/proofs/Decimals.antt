@@ -1,29 +1,58 @@
 -- Decimal digits.
---   spell, length-spell, spell-decimal   a given number of digits, the last one split off; those of a number
---   decimal-some, decimal-twenty         at least one digit, and at most 20
+--   length-spell, spell-parts            a given number of digits; those of a high part, then those of the low part
+--   decimal-one, decimal-whole           a number's digits, where their number is known
+--   decimal-parts                        those of a high part, then those of the low part
+--   decimal-twenty                       at most 20
 --   decimal-most, decimal-least          below a power of ten, and from one on
 --   decimal-five                         of 16 bits
 -- Assumes nothing.
-use mathlib.Core.Path.{_≡_, refl, ap, _∙_}
-use mathlib.Core.List.{List, [], _∷_, _++_}
-use Prim.Native.Nat.{ℕ, zero, suc, _+_, _/_, _%_, _^_, _≤_, _<_}
-use native.Mathlib.Nat.{pow-suc, one-le-pow}
+use mathlib.Core.Path.{_≡_, refl, sym, ap, ap₂, _∙_}
+use mathlib.Core.List.{List, [], _∷_, _++_, append-assoc, append-nil}
+use Prim.Native.Nat.{ℕ, zero, suc, _+_, _*_, _/_, _%_, _^_, _≤_, _<_}
+use native.Mathlib.Nat.{add-zero, add-suc, div-one, div-div-eq-div-mul, pow-suc, pow-succ', one-le-pow}
+use lib.Arith.{mod-mul}
 use native.Mathlib.Numerals.{add-one}
 use native.Mathlib.Decide.{decLt}
 use native.Mathlib.Omega.{arith}
 use lib.Dec.{lit<}
 use lib.ListN.{length, length-append}
 use borrow.Author.Tests.{lt-ltb, le-ltb}
-use Rattle.lines.specs.Text.{digits, decimal}
-
-unfoldable pub spell : (count n : ℕ) → List ℕ
-spell zero n = []
-spell (suc k) n = spell k (n / 10) ++ ((48 + n % 10) ∷ [])
+use Rattle.lines.specs.Text.{digits, decimal, spell}
 
 pub length-spell : (k n : ℕ) → length (spell k n) ≡ k
 unfolding spell
 length-spell zero n = refl
 length-spell (suc k) n = simp (length-append, length-spell k (n / 10), add-one)
+
+-- the low digits of the tenth part, and the last one
+module _ (k n : ℕ) where
+  low : n % 10 ^ suc k ≡ (n / 10 % 10 ^ k) * 10 + n % 10
+  low = ap (λ (m : ℕ). n % m) (pow-suc 10 k) ∙ mod-mul n (one-le-pow k 10 (lit< tt)) (lit< tt)
+
+  low-tenth : n % 10 ^ suc k / 10 ≡ n / 10 % 10 ^ k
+  low-tenth = omega (arith, low)
+
+  low-last : n % 10 ^ suc k % 10 ≡ n % 10
+  low-last = omega (arith, low)
+
+  high-tenth : n / 10 / 10 ^ k ≡ n / 10 ^ suc k
+  high-tenth = div-div-eq-div-mul n 10 (10 ^ k) ∙ ap (λ (m : ℕ). n / m) (sym (pow-succ' 10 k))
+
+spell-low : (k n : ℕ) → spell k (n % 10 ^ k) ≡ spell k n
+unfolding spell
+spell-low zero n = refl
+spell-low (suc k) n =
+    ap₂ (λ (l : List ℕ) (d : ℕ). l ++ ((48 + d) ∷ [])) (ap (spell k) (low-tenth k n) ∙ spell-low k (n / 10)) (low-last k n)
+
+spell-split : (j k n : ℕ) → spell (j + k) n ≡ spell j (n / 10 ^ k) ++ spell k n
+unfolding spell
+spell-split j zero n = simp (add-zero, div-one, append-nil)
+spell-split j (suc k) n =
+    ap (λ (i : ℕ). spell i n) (add-suc j k) ∙ ap (λ (l : List ℕ). l ++ ((48 + n % 10) ∷ [])) (spell-split j k (n / 10))
+    ∙ append-assoc (spell j (n / 10 / 10 ^ k)) (spell k (n / 10)) ((48 + n % 10) ∷ []) ∙ ap (λ (m : ℕ). spell j m ++ (spell k (n / 10) ++ ((48 + n % 10) ∷ []))) (high-tenth k n)
+
+pub spell-parts : (j k n : ℕ) → spell j (n / 10 ^ k) ++ spell k (n % 10 ^ k) ≡ spell (j + k) n
+spell-parts j k n = ap (λ (l : List ℕ). spell j (n / 10 ^ k) ++ l) (spell-low k n) ∙ sym (spell-split j k n)
 
 -- a fact of the digits: of none, of one, and of the tenth part's and one more
 module _
@@ -43,17 +72,12 @@ module _
 length-last : (l : List ℕ) (x : ℕ) → length (l ++ (x ∷ [])) ≡ suc (length l)
 length-last l x = length-append l (x ∷ []) ∙ add-one (length l)
 
-pub spell-decimal : (n : ℕ) → spell (length (decimal n)) n ≡ decimal n
+spell-decimal : (n : ℕ) → spell (length (decimal n)) n ≡ decimal n
 unfolding spell decimal
 spell-decimal =
     by-digits (λ m n l. spell (length l) n ≡ l) (λ n. refl) (λ m n h. let e : n % 10 ≡ n = omega arith in simp e)
     (λ m n l h p. rw length-last (ap (λ (k : List ℕ). k ++ ((48 + n % 10) ∷ [])) p))
     20
-
-pub decimal-some : (n : ℕ) → 1 ≤ length (decimal n)
-unfolding decimal
-decimal-some n =
-    by-digits (λ m n l. 1 ≤ m → 1 ≤ length l) (λ n h. h) (λ m n h i. omega arith) (λ m n l h p i. omega (arith, length-last l (48 + n % 10))) 20 n (omega arith)
 
 pub decimal-twenty : (n : ℕ) → length (decimal n) ≤ 20
 unfolding decimal
@@ -85,3 +109,42 @@ decimal-least k n =
 
 pub decimal-five : (n : ℕ) → n < 2 ^ 16 → length (decimal n) ≤ 5
 decimal-five n h = decimal-most 5 n (omega arith) (omega arith)
+
+-- ---- digits whose number is known, and a high part's
+pub decimal-one : (n : ℕ) → n < 10 → spell 1 n ≡ decimal n
+unfolding decimal digits spell
+decimal-one n h = let e : n % 10 ≡ n = omega arith in simp (lt-ltb n 10 h, e)
+
+pub decimal-whole : (k n : ℕ) → k < 19 → 10 ^ k ≤ n → n < 10 ^ suc k → spell (suc k) n ≡ decimal n
+decimal-whole k n few lo hi =
+    let e : suc k ≡ length (decimal n) = omega (arith, decimal-most (suc k) n (omega arith) hi, decimal-least k n (omega arith) lo) in
+    ap (λ (i : ℕ). spell i n) e ∙ spell-decimal n
+
+digits-last : (m n : ℕ) → 10 ≤ n → digits (suc m) n ≡ digits m (n / 10) ++ ((48 + n % 10) ∷ [])
+unfolding digits
+digits-last m n h = rw (le-ltb n 10 h)
+
+digits-more : (m n : ℕ) → n < 10 ^ suc m → digits (suc m) n ≡ digits (suc (suc m)) n
+unfolding digits
+digits-more zero n h = let l : n < 10 = omega arith in rw (lt-ltb n 10 l)
+digits-more (suc m) n h = pick (decLt n 10) (digits-more m (n / 10) (omega (arith, pow-suc 10 (suc m))))
+  where
+    pick : Dec (n < 10) → digits (suc m) (n / 10) ≡ digits (suc (suc m)) (n / 10) → digits (suc (suc m)) n ≡ digits (suc (suc (suc m))) n
+    pick (yes l) e = rw (lt-ltb n 10 l)
+    pick (no l) e = rw (le-ltb n 10 (omega arith)) (ap (λ (l : List ℕ). l ++ ((48 + n % 10) ∷ [])) e)
+
+decimal-last : (n : ℕ) → 10 ≤ n → n < 10 ^ 20 → decimal n ≡ decimal (n / 10) ++ ((48 + n % 10) ∷ [])
+unfolding decimal
+decimal-last n lo hi = digits-last 19 n lo ∙ ap (λ (l : List ℕ). l ++ ((48 + n % 10) ∷ [])) (digits-more 18 (n / 10) (omega arith))
+
+decimal-split : (k n : ℕ) → 10 ^ k ≤ n → n < 10 ^ 20 → decimal n ≡ decimal (n / 10 ^ k) ++ spell k n
+unfolding spell
+decimal-split zero n lo hi = simp (div-one, append-nil)
+decimal-split (suc k) n lo hi =
+    let p = one-le-pow k 10 (lit< tt) in
+    decimal-last n (omega (arith, pow-suc 10 k)) hi
+    ∙ ap (λ (l : List ℕ). l ++ ((48 + n % 10) ∷ [])) (decimal-split k (n / 10) (omega (arith, pow-suc 10 k)) (omega arith))
+    ∙ append-assoc (decimal (n / 10 / 10 ^ k)) (spell k (n / 10)) ((48 + n % 10) ∷ []) ∙ ap (λ (m : ℕ). decimal m ++ (spell k (n / 10) ++ ((48 + n % 10) ∷ []))) (high-tenth k n)
+
+pub decimal-parts : (k n : ℕ) → 10 ^ k ≤ n → n < 10 ^ 20 → decimal (n / 10 ^ k) ++ spell k (n % 10 ^ k) ≡ decimal n
+decimal-parts k n lo hi = ap (λ (l : List ℕ). decimal (n / 10 ^ k) ++ l) (spell-low k n) ∙ sym (decimal-split k n lo hi)

@@ -1,33 +1,25 @@
 -- Texts written behind one another.
---   sets-set                         a byte behind a text, written first
 --   take-sets, drop-sets             what stands before the text's end, and behind it
 --   put-none, put-append, put-as     of Put: no text, two texts, an equal text
 --   put-more, put-all                one byte more of a text, and the whole of it
 --   put-length                       the buffer keeps its length
---   spell-turn, spell-done           digits from the last on: one more, and all
 --   numbers-append, numbers-more     numbers behind numbers; one more of a list
 --   planned-text, .., refused-text   each line from its pieces
 -- Assumes nothing.
 use mathlib.Core.Path.{_≡_, refl, sym, ap, ap₂, _∙_}
 use mathlib.Core.List.{List, [], _∷_, _++_, append-assoc, append-nil}
-use Prim.Native.Nat.{ℕ, zero, suc, _+_, _-_, _/_, _%_, _≤_, _<_}
+use Prim.Native.Nat.{ℕ, zero, suc, _+_, _≤_, _<_}
 use native.Mathlib.Numerals.{add-one}
 use native.Mathlib.Omega.{arith}
 use lib.ListN.{length, getD, take, drop, set, length-append}
-use lib.Seq.{sets, sets-eq, length-sets, set-comm, take-at, drop-at, take-suc, take-length, length-take-le}
+use lib.Seq.{sets, sets-eq, length-sets, take-at, drop-at, take-suc, take-length, length-take-le}
 use Rattle.scheme.specs.Scheme.{Plan}
 use Rattle.scheme.specs.Service.{planned, opened, closed, totalled, refused}
 use Rattle.scheme.proofs.Lists.{sets-append}
 use Rattle.lines.specs.Text.{decimal, numbers, line, plan-word, open-word, survivors-word, total-word, refused-word, at-word, line-end}
 use Rattle.lines.specs.Put.{Put}
-use Rattle.lines.proofs.Decimals.{spell, length-spell, spell-decimal}
 
 -- ---- sets
-pub sets-set : (o : List ℕ) (at : ℕ) (xs : List ℕ) (j x : ℕ) → at + length xs ≤ j → sets (set o j x) at xs ≡ set (sets o at xs) j x
-sets-set o at [] j x h = refl
-sets-set o at (y ∷ ys) j x h =
-    ap (λ (l : List ℕ). sets l (suc at) ys) (set-comm o j at x y (λ e. omega (arith, e))) ∙ sets-set (set o at y) (suc at) ys j x (omega arith)
-
 module _ (o : List ℕ) (at : ℕ) (t : List ℕ) (h : at + length t ≤ length o) where
   front : length (take at o ++ t) ≡ at + length t
   front = length-append (take at o) t ∙ ap (λ (n : ℕ). n + length t) (length-take-le at o (omega arith))
@@ -64,25 +56,6 @@ pub put-length : {o p : List ℕ} {at a : ℕ} {xs : List ℕ} → Put o p at a 
 put-length {o} {p} {at} {a} {xs} x = ap length (x .bytes) ∙ length-sets o at xs
 
 -- ---- numbers
-pub spell-turn : (o : List ℕ) (at i n : ℕ) → 0 < i → sets (set o (at + i) (48 + n % 10)) (at + 1) (spell (i - 1) (n / 10)) ≡ sets o (at + 1) (spell i n)
-unfolding spell
-spell-turn o at zero n h = absurd (omega arith)
-spell-turn o at (suc k) n h =
-    let s = spell k (n / 10) in
-    let x = 48 + n % 10 in
-    let e : suc k - 1 ≡ k = omega arith in
-    let f : at + suc k ≡ at + 1 + length s = omega (arith, length-spell k (n / 10)) in
-    ap₂ (λ (j i : ℕ). sets (set o j x) (at + 1) (spell i (n / 10))) f e ∙ sets-set o (at + 1) s (at + 1 + length s) x (omega arith)
-    ∙ sets-append o (at + 1) s (x ∷ [])
-
-pub spell-done :
-    (o p : List ℕ) (at i n w m : ℕ) → i ≡ 0 → w ≡ length (decimal m) → sets p (at + 1) (spell i n) ≡ sets o (at + 1) (spell w m) →
-    p ≡ sets o (suc at) (decimal m)
-unfolding spell
-spell-done o p at i n w m e f h =
-    sym (ap (λ (k : ℕ). sets p (at + 1) (spell k n)) e) ∙ h
-    ∙ ap₂ (λ (a : ℕ) (l : List ℕ). sets o a l) (add-one at) (ap (λ (k : ℕ). spell k m) f ∙ spell-decimal m)
-
 numbers-one : (n : ℕ) → numbers (n ∷ []) ≡ 32 ∷ decimal n
 unfolding numbers
 numbers-one n = ap (λ (t : List ℕ). 32 ∷ t) (append-nil (decimal n))

@@ -1,5 +1,6 @@
 -- The lines that the program prints, byte for byte as document 01's example shows them.
 --   decimal, numbers       decimal digits; numbers, each behind one space
+--   spell                  so many digits of a number, the last ones
 --   line                   of an answer, with the record's offset
 -- Assumes nothing: these are definitions.
 use mathlib.Core.Bool.{cond}
@@ -16,6 +17,11 @@ digits (suc m) n = cond (ltb n 10) ((48 + n) ∷ []) (digits m (n / 10) ++ ((48 
 -- of a number of 64 bits
 unfoldable pub decimal : ℕ → List ℕ
 decimal n = digits 20 n
+
+-- the last `count` digits of a number, zeros included
+unfoldable pub spell : (count n : ℕ) → List ℕ
+spell zero n = []
+spell (suc k) n = spell k (n / 10) ++ ((48 + n % 10) ∷ [])
 
 unfoldable pub numbers : List ℕ → List ℕ
 numbers [] = []

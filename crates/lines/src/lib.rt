@@ -2,20 +2,25 @@
 // what it wrote; before and behind that, the buffer stays as it was.
 //   put_plan, put_open, put_survivors, put_total, put_refusal   a line for each kind of answer
 //   put_totals, put_short   the numbers of a total, each of 16 bits
-//   put_number, width       a number behind one space; how many digits it has
+//   put_number, put_digits  a number behind one space; its digits
+//   put_low, put_few        the digits, where they are 8 or 4 at most
+//   put_eight .. put_one    so many digits, zeros in front included
 //   put_bytes               any text
 ghost use mathlib.Core.Path.{_≡_};
 ghost use mathlib.Core.List.{_∷_};
-ghost use Prim.Native.Nat.{ℕ, _+_, _*_, _≤_};
+ghost use Prim.Native.Nat.{ℕ, _+_, _*_, _≤_, _<_};
 ghost use lib.ListN.{length, take};
 ghost use Rattle.scheme.specs.Service.{planned, opened, closed, totalled, refused};
-ghost use Rattle.lines.specs.Text.{decimal, numbers, line};
+ghost use Rattle.lines.specs.Text.{spell, decimal, numbers, line};
 ghost use Rattle.lines.specs.Put.{room, Put};
 
 // The bytes that any line fits into, and the most numbers of a total.
 pub const LINE: usize = 640;
 
 const MOST_TOTALS: usize = 96;
+
+// 10 ^ 8.
+const EIGHT_DIGITS: u64 = 100000000;
 
 // "plan 3 2 1 1"
 pub fn put_plan(
@@ -116,38 +121,102 @@ fn put_short(out: &mut [u8], at: usize, n: u16) -> usize
     put_number(out, at, n as u64)
 }
 
-// One space and the decimal digits, the last digit first.
+// One space and the decimal digits.
 fn put_number(out: &mut [u8], at: usize, n: u64) -> usize
     requires { ⌜ at + 21 ≤ length (now out) ⌝ }
     ensures short { λ r. ⌜ r ≤ at + 21 ⌝ }
     ensures put { λ r. ⌜ Put (now (out .entry)) (now (out .exit)) at r (32 ∷ decimal n) ⌝ }
 {
     out[at] = b' ';
-    let mut i = width(n);
-    let next = at + 1 + i;
-    let mut left = n;
-    while 0 < i {
-        out[at + i] = 48 + (left % 10) as u8;
-        left /= 10;
-        i -= 1;
-    }
-    next
+    put_digits(out, at + 1, n)
 }
 
-// The powers of ten up to n, compared: no division.
-fn width(n: u64) -> usize
-    ensures { λ r. ⌜ r ≡ length (decimal n) ⌝ }
+// The digits, the last 8 and the 8 before them apart.
+fn put_digits(out: &mut [u8], at: usize, n: u64) -> usize
+    requires { ⌜ at + 20 ≤ length (now out) ⌝ }
+    ensures { λ r. ⌜ Put (now (out .entry)) (now (out .exit)) at r (decimal n) ⌝ }
 {
-    let mut power: u64 = 10;
-    let mut k = 1;
-    while power <= n {
-        if k == 19 {
-            return 20;
-        }
-        power *= 10;
-        k += 1;
+    if n < EIGHT_DIGITS {
+        return put_low(out, at, n as u32);
     }
-    k
+    let high = n / EIGHT_DIGITS;
+    let low = (n % EIGHT_DIGITS) as u32;
+    if high < EIGHT_DIGITS {
+        let a = put_low(out, at, high as u32);
+        return put_eight(out, a, low);
+    }
+    let a = put_few(out, at, (high / EIGHT_DIGITS) as u32);
+    let b = put_eight(out, a, (high % EIGHT_DIGITS) as u32);
+    put_eight(out, b, low)
+}
+
+// The digits of a number below 10 ^ 8.
+fn put_low(out: &mut [u8], at: usize, n: u32) -> usize
+    requires { ⌜ (at + 8 ≤ length (now out)) × (n < 100000000) ⌝ }
+    ensures short { λ r. ⌜ r ≤ at + 8 ⌝ }
+    ensures put { λ r. ⌜ Put (now (out .entry)) (now (out .exit)) at r (decimal n) ⌝ }
+{
+    if n < 10000 {
+        return put_few(out, at, n);
+    }
+    let a = put_few(out, at, n / 10000);
+    put_four(out, a, n % 10000)
+}
+
+// The digits of a number below 10 ^ 4.
+fn put_few(out: &mut [u8], at: usize, n: u32) -> usize
+    requires { ⌜ (at + 4 ≤ length (now out)) × (n < 10000) ⌝ }
+    ensures short { λ r. ⌜ r ≤ at + 4 ⌝ }
+    ensures put { λ r. ⌜ Put (now (out .entry)) (now (out .exit)) at r (decimal n) ⌝ }
+{
+    if n < 10 {
+        return put_one(out, at, n);
+    }
+    if n < 100 {
+        return put_two(out, at, n);
+    }
+    if n < 1000 {
+        let a = put_one(out, at, n / 100);
+        return put_two(out, a, n % 100);
+    }
+    put_four(out, at, n)
+}
+
+// All of 8, 4, 2 digits, or one.
+fn put_eight(out: &mut [u8], at: usize, n: u32) -> usize
+    requires { ⌜ (at + 8 ≤ length (now out)) × (n < 100000000) ⌝ }
+    ensures end { λ r. ⌜ r ≡ at + 8 ⌝ }
+    ensures put { λ r. ⌜ Put (now (out .entry)) (now (out .exit)) at r (spell 8 n) ⌝ }
+{
+    let a = put_four(out, at, n / 10000);
+    put_four(out, a, n % 10000)
+}
+
+fn put_four(out: &mut [u8], at: usize, n: u32) -> usize
+    requires { ⌜ (at + 4 ≤ length (now out)) × (n < 10000) ⌝ }
+    ensures end { λ r. ⌜ r ≡ at + 4 ⌝ }
+    ensures put { λ r. ⌜ Put (now (out .entry)) (now (out .exit)) at r (spell 4 n) ⌝ }
+{
+    let a = put_two(out, at, n / 100);
+    put_two(out, a, n % 100)
+}
+
+fn put_two(out: &mut [u8], at: usize, n: u32) -> usize
+    requires { ⌜ (at + 2 ≤ length (now out)) × (n < 100) ⌝ }
+    ensures end { λ r. ⌜ r ≡ at + 2 ⌝ }
+    ensures put { λ r. ⌜ Put (now (out .entry)) (now (out .exit)) at r (spell 2 n) ⌝ }
+{
+    let a = put_one(out, at, n / 10);
+    put_one(out, a, n % 10)
+}
+
+fn put_one(out: &mut [u8], at: usize, n: u32) -> usize
+    requires { ⌜ (at + 1 ≤ length (now out)) × (n < 10) ⌝ }
+    ensures end { λ r. ⌜ r ≡ at + 1 ⌝ }
+    ensures put { λ r. ⌜ Put (now (out .entry)) (now (out .exit)) at r (spell 1 n) ⌝ }
+{
+    out[at] = 48 + n as u8;
+    at + 1
 }
 
 fn put_bytes(out: &mut [u8], at: usize, text: &[u8]) -> usize

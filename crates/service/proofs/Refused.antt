@@ -5,6 +5,7 @@
 --   Fit, fit, unfit     what element-refusal tells
 --   stopped             the first tests answer, whatever follows
 --   turned, taken       an array after a refusal, and after none
+--   after-refused       the state after a refusal
 --   close-refused, close-taken     what close hands back
 -- Assumes nothing.
 use mathlib.Core.Path.{_≡_, refl, sym, _∙_}
@@ -20,7 +21,7 @@ use Rattle.scheme.proofs.Refusals.{then-refused, unless-zero, written-taken, wr
 use Rattle.scheme.proofs.Well.{test-held}
 use Rattle.service.specs.declared.Service.{Service}
 use Rattle.service.specs.View.{view}
-use Rattle.service.specs.Calls.{element-refusal, close-refusal, closed, close-answer, close-step}
+use Rattle.service.specs.Calls.{after, element-refusal, close-refusal, closed, close-answer, close-step}
 
 pub under : (b c : Bool) (n : ℕ) {l m : ℕ} → b ≡ c → (b ≡ true → l ≡ m) → (unless b (suc n) then l) ≡ (unless c (suc n) then m)
 unfolding unless _then_
@@ -74,6 +75,11 @@ turned h e new old = (sym e, sym (written-refused (λ z. h (sym e ∙ z)) new ol
 
 pub taken : {r : ℕ} → r ≡ 0 → (new old : List ℕ) → (0 ≡ r) × (new ≡ written r new old)
 taken e new old = (sym e, sym (written-taken e new old))
+
+pub after-refused : {n : ℕ} → (n ≡ 0 → ⊥) → (t s : Service) → after n t s ≡ s
+unfolding after
+after-refused {n = zero} h t s = absurd (h refl)
+after-refused {n = suc n} h t s = refl
 
 -- ---- close
 pub close-refused : (s : Service) {n : ℕ} → (n ≡ 0 → ⊥) → close-refusal s ≡ n → record { number = n; set = 0; service = s } ≡ close-step s

@@ -2,6 +2,7 @@
 --   after                                  the new state, or after a refusal the old one
 --   new-service                            before any record
 --   plan-step, open-step, first-step, close-step, reply-step     the calls, one for each kind of record
+--   lent, stepped, closing                 the same where head and arrays stand apart
 --   element-refusal, first-refusal, first-left, reply-refusal, reply-left     what their leaves on the arrays answer and leave
 -- On a well-formed state no guard ever acts: a state whose plan is not good, or an index past an array, is none that calls make.
 -- Assumes nothing: these are definitions.
@@ -19,6 +20,8 @@ use Rattle.service.specs.declared.Head.{Head}
 use Rattle.service.specs.declared.Service.{Service}
 use Rattle.service.specs.declared.Stepped.{Stepped}
 use Rattle.service.specs.declared.Closed.{Closed}
+use Rattle.service.specs.declared.SteppedHead.{SteppedHead}
+use Rattle.service.specs.declared.ClosedHead.{ClosedHead}
 use Rattle.service.specs.View.{phase-of, slot, view}
 
 unfoldable pub after : (refusal : ℕ) → (new old : Service) → Service
@@ -30,6 +33,16 @@ nothing-first = replicate 768 0
 
 unfoldable pub nothing-reply : List ℕ
 nothing-reply = replicate 128 0
+
+-- the leaves of the calls take head and arrays apart, and hand back the head
+abbrev pub lent : Head → (first reply : List ℕ) → Service
+lent h xs ys = record { head = h; first = xs; reply = ys }
+
+abbrev pub stepped : SteppedHead → (first reply : List ℕ) → Stepped
+stepped r xs ys = record { number = r .number; service = lent (r .head) xs ys }
+
+abbrev pub closing : ClosedHead → (first reply : List ℕ) → Closed
+closing r xs ys = record { number = r .number; set = r .set; service = lent (r .head) xs ys }
 
 abbrev pub no-plan : Plan
 no-plan = record { users = 0; threshold = 0; collusion = 0; blocks = 0 }

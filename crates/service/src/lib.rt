@@ -1,19 +1,23 @@
 // The pooling service of document 01: one call for each kind of record but finish, which needs a solver (crate finish). The state goes in by value and is handed back.
 //   Phase, Head, Service         the state: its head, and the elements held
 //   Stepped, Closed              what the calls hand back: 0 or the refusal's number, and the state
+//   SteppedHead, ClosedHead      what their leaves hand back: the same, with the head alone
+//   second_plan, open_refusal, not_gathering, not_replying     the refusals that the head alone decides
 //   element_refusal              the tests that both kinds of element share
 //   put_first, put_reply         the leaves that hold an element, on a lent array: the hot path
 //   complete_set                 the users with all their elements held
+//   plan_lent, open_lent, close_lent     the leaves of the other calls: they copy no array
 //   Service::new, plan, open, first_element, close, reply_element
 // After a refusal the state is as before.
 ghost use mathlib.Core.Path.{_≡_};
+ghost use mathlib.Core.Bool.{not};
 ghost use Prim.Native.Nat.{_+_, _*_, _≤_, _<_};
 ghost use lib.ListN.{length};
 ghost use Rattle.scheme.specs.Service.{has-plan, is-gathering, is-replying, complete-set};
 ghost use Rattle.scheme.specs.Scheme.{_then_, unless};
 ghost use Rattle.plan.specs.Plan.{plan-of};
 ghost use Rattle.service.specs.View.{phase-of, row-held, look};
-ghost use Rattle.service.specs.Calls.{nothing-first, nothing-reply, new-service, plan-step, open-step, element-refusal, first-refusal, first-left, first-step, reply-refusal, reply-left, reply-step, close-step};
+ghost use Rattle.service.specs.Calls.{nothing-first, nothing-reply, new-service, plan-step, open-refusal, open-step, element-refusal, first-refusal, first-left, first-step, reply-refusal, reply-left, reply-step, close-step, lent, stepped, closing};
 use plan::Plan;
 
 // "At most 768 first elements are held": 8 rows of 96 places; and 8 rows of 16 blocks for the replies.
@@ -59,8 +63,19 @@ pub struct Closed {
     pub service: Service,
 }
 
+pub struct SteppedHead {
+    pub number: u32,
+    pub head: Head,
+}
+
+pub struct ClosedHead {
+    pub number: u32,
+    pub set: u32,
+    pub head: Head,
+}
+
 // 11 before a plan, else 0.
-pub fn plan_missing(phase: Phase) -> u32
+fn plan_missing(phase: Phase) -> u32
     ensures { λ r. ⌜ r ≡ unless (has-plan (phase-of phase)) 11 ⌝ }
 {
     match phase {
@@ -71,12 +86,43 @@ pub fn plan_missing(phase: Phase) -> u32
     }
 }
 
+// 11 of a plan after one was accepted, else 0.
+pub fn second_plan(phase: Phase) -> u32
+    ensures { λ r. ⌜ r ≡ unless (not (has-plan (phase-of phase))) 11 ⌝ }
+{
+    match phase {
+        Phase::Unplanned => 0,
+        Phase::Idle => 11,
+        Phase::Gathering => 11,
+        Phase::Replying => 11,
+    }
+}
+
+// 11, 17 of an open, which is for any phase.
+pub fn open_refusal(head: Head, round: u32) -> u32
+    ensures { λ r. ⌜ r ≡ open-refusal head round ⌝ }
+{
+    let phase = head.phase;
+    let number = plan_missing(phase);
+    if number != 0 {
+        return number;
+    }
+    if round <= head.round {
+        return 17;
+    }
+    0
+}
+
 // 11, 12 of a record that is for the gathering phase.
 pub fn not_gathering(phase: Phase) -> u32
     ensures { λ r. ⌜ r ≡ (unless (has-plan (phase-of phase)) 11 then unless (is-gathering (phase-of phase)) 12) ⌝ }
 {
+    let number = plan_missing(phase);
+    if number != 0 {
+        return number;
+    }
     match phase {
-        Phase::Unplanned => 11,
+        Phase::Unplanned => 12,
         Phase::Idle => 12,
         Phase::Gathering => 0,
         Phase::Replying => 12,
@@ -87,8 +133,12 @@ pub fn not_gathering(phase: Phase) -> u32
 pub fn not_replying(phase: Phase) -> u32
     ensures { λ r. ⌜ r ≡ (unless (has-plan (phase-of phase)) 11 then unless (is-replying (phase-of phase)) 12) ⌝ }
 {
+    let number = plan_missing(phase);
+    if number != 0 {
+        return number;
+    }
     match phase {
-        Phase::Unplanned => 11,
+        Phase::Unplanned => 12,
         Phase::Idle => 12,
         Phase::Gathering => 12,
         Phase::Replying => 0,
@@ -96,7 +146,7 @@ pub fn not_replying(phase: Phase) -> u32
 }
 
 // 4, 8, 3 of an element that a user sends for one of `limit` places or blocks.
-fn element_refusal(users: u32, limit: u32, user: u32, at: u32, element: u16) -> u32
+fn element_refusal(users: u32, limit: u32, user: u32, at: u32, element: u32) -> u32
     ensures { λ r. ⌜ r ≡ element-refusal users limit user at element ⌝ }
 {
     if user == 0 {
@@ -108,14 +158,14 @@ fn element_refusal(users: u32, limit: u32, user: u32, at: u32, element: u16) -> 
     if limit <= at {
         return 8;
     }
-    if !element::is_element(element) {
+    if element::Q <= element {
         return 3;
     }
     0
 }
 
 // Holds a first element and answers 0, or answers why not: 11, 12, 4, 8, 3, 13.
-pub fn put_first(head: Head, first: &mut [u16; FIRSTS], user: u32, place: u32, element: u16) -> u32
+pub fn put_first(head: Head, first: &mut [u16; FIRSTS], user: u32, place: u32, element: u32) -> u32
     ensures number { λ r. ⌜ r ≡ first-refusal head (now (first .entry)) user place element ⌝ }
     ensures left { λ r. ⌜ now (first .exit) ≡ first-left head (now (first .entry)) user place element ⌝ }
 {
@@ -136,12 +186,12 @@ pub fn put_first(head: Head, first: &mut [u16; FIRSTS], user: u32, place: u32, e
     if first[at] != 0 {
         return 13;
     }
-    first[at] = element + 1;
+    first[at] = element as u16 + 1;
     0
 }
 
 // Holds a reply element and answers 0, or answers why not: 11, 12, 4, 8, 3, 14, 13.
-pub fn put_reply(head: Head, reply: &mut [u16; REPLIES], user: u32, block: u32, element: u16) -> u32
+pub fn put_reply(head: Head, reply: &mut [u16; REPLIES], user: u32, block: u32, element: u32) -> u32
     ensures number { λ r. ⌜ r ≡ reply-refusal head (now (reply .entry)) user block element ⌝ }
     ensures left { λ r. ⌜ now (reply .exit) ≡ reply-left head (now (reply .entry)) user block element ⌝ }
 {
@@ -165,7 +215,7 @@ pub fn put_reply(head: Head, reply: &mut [u16; REPLIES], user: u32, block: u32, 
     if reply[at] != 0 {
         return 13;
     }
-    reply[at] = element + 1;
+    reply[at] = element as u16 + 1;
     0
 }
 
@@ -217,6 +267,114 @@ pub fn nothing_reply() -> [u16; REPLIES]
     [0; REPLIES]
 }
 
+// 11, 1, on lent arrays.
+pub fn plan_lent(
+    head: Head,
+    first: &mut [u16; FIRSTS],
+    reply: &mut [u16; REPLIES],
+    plan: Plan,
+) -> SteppedHead
+    ensures { λ r. ⌜ stepped r (now (first .exit)) (now (reply .exit)) ≡ plan-step (lent head (now (first .entry)) (now (reply .entry))) plan ⌝ }
+{
+    let phase = head.phase;
+    let number = second_plan(phase);
+    if number != 0 {
+        return SteppedHead { number, head };
+    }
+    if !plan::is_good(plan) {
+        return SteppedHead { number: 1, head };
+    }
+    let places = plan::places_of(plan) as u32;
+    let idle = Head {
+        phase: Phase::Idle,
+        plan,
+        places,
+        round: 0,
+        survivors: 0,
+    };
+    *first = nothing_first();
+    *reply = nothing_reply();
+    SteppedHead {
+        number: 0,
+        head: idle,
+    }
+}
+
+// 11, 17, on lent arrays.
+pub fn open_lent(
+    head: Head,
+    first: &mut [u16; FIRSTS],
+    reply: &mut [u16; REPLIES],
+    round: u32,
+) -> SteppedHead
+    ensures { λ r. ⌜ stepped r (now (first .exit)) (now (reply .exit)) ≡ open-step (lent head (now (first .entry)) (now (reply .entry))) round ⌝ }
+{
+    let number = open_refusal(head, round);
+    if number != 0 {
+        return SteppedHead { number, head };
+    }
+    let plan = head.plan;
+    let gathering = Head {
+        phase: Phase::Gathering,
+        plan,
+        places: head.places,
+        round,
+        survivors: 0,
+    };
+    *first = nothing_first();
+    *reply = nothing_reply();
+    SteppedHead {
+        number: 0,
+        head: gathering,
+    }
+}
+
+// 11, 12, 15, on lent arrays.
+pub fn close_lent(head: Head, first: &[u16; FIRSTS], reply: &mut [u16; REPLIES]) -> ClosedHead
+    ensures { λ r. ⌜ closing r (now (first .entry)) (now (reply .exit)) ≡ close-step (lent head (now (first .entry)) (now (reply .entry))) ⌝ }
+{
+    let phase = head.phase;
+    let number = not_gathering(phase);
+    if number != 0 {
+        return ClosedHead {
+            number,
+            set: 0,
+            head,
+        };
+    }
+    let plan = head.plan;
+    // never so in a state that calls have made
+    if !plan::is_good(plan) {
+        return ClosedHead {
+            number: 15,
+            set: 0,
+            head,
+        };
+    }
+    let each = plan::places_of(plan);
+    let set = complete_set(first, ROW, plan, each);
+    if u32::count_ones(set) < plan.threshold {
+        return ClosedHead {
+            number: 15,
+            set: 0,
+            head,
+        };
+    }
+    let replying = Head {
+        phase: Phase::Replying,
+        plan,
+        places: head.places,
+        round: head.round,
+        survivors: set,
+    };
+    *reply = nothing_reply();
+    ClosedHead {
+        number: 0,
+        set,
+        head: replying,
+    }
+}
+
 impl Service {
     // Before any record.
     pub fn new() -> Self
@@ -247,71 +405,35 @@ impl Service {
         ensures { λ r. ⌜ r ≡ plan-step self plan ⌝ }
     {
         let head = self.head;
-        let phase = head.phase;
-        if plan_missing(phase) == 0 {
-            return Stepped {
-                number: 11,
-                service: self,
-            };
-        }
-        if !plan::is_good(plan) {
-            return Stepped {
-                number: 1,
-                service: self,
-            };
-        }
-        let places = plan::places_of(plan) as u32;
-        let idle = Head {
-            phase: Phase::Idle,
-            plan,
-            places,
-            round: 0,
-            survivors: 0,
-        };
+        let mut first = self.first;
+        let mut reply = self.reply;
+        let step = plan_lent(head, &mut first, &mut reply, plan);
+        let number = step.number;
+        let next = step.head;
         let service = Service {
-            head: idle,
-            first: nothing_first(),
-            reply: nothing_reply(),
+            head: next,
+            first,
+            reply,
         };
-        Stepped { number: 0, service }
+        Stepped { number, service }
     }
 
     // 11, 17. Works in any phase, drops what was held and begins gathering.
-    pub fn open(mut self, round: u32) -> Stepped
+    pub fn open(self, round: u32) -> Stepped
         ensures { λ r. ⌜ r ≡ open-step self round ⌝ }
     {
         let head = self.head;
-        let phase = head.phase;
-        let number = plan_missing(phase);
-        if number != 0 {
-            return Stepped {
-                number,
-                service: self,
-            };
-        }
-        let plan = head.plan;
-        if round <= head.round {
-            return Stepped {
-                number: 17,
-                service: self,
-            };
-        }
-        let gathering = Head {
-            phase: Phase::Gathering,
-            plan,
-            places: head.places,
-            round,
-            survivors: 0,
+        let mut first = self.first;
+        let mut reply = self.reply;
+        let step = open_lent(head, &mut first, &mut reply, round);
+        let number = step.number;
+        let next = step.head;
+        let service = Service {
+            head: next,
+            first,
+            reply,
         };
-        let first = nothing_first();
-        let reply = nothing_reply();
-        self.head = gathering;
-        self.first = first;
-        self.reply = reply;
-        Stepped {
-            number: 0,
-            service: self,
-        }
+        Stepped { number, service }
     }
 
     // 11, 12, 4, 8, 3, 13.
@@ -319,7 +441,7 @@ impl Service {
         ensures { λ r. ⌜ r ≡ first-step self user place element ⌝ }
     {
         let head = self.head;
-        let number = put_first(head, &mut self.first, user, place, element);
+        let number = put_first(head, &mut self.first, user, place, element as u32);
         Stepped {
             number,
             service: self,
@@ -331,7 +453,7 @@ impl Service {
         ensures { λ r. ⌜ r ≡ reply-step self user block element ⌝ }
     {
         let head = self.head;
-        let number = put_reply(head, &mut self.reply, user, block, element);
+        let number = put_reply(head, &mut self.reply, user, block, element as u32);
         Stepped {
             number,
             service: self,
@@ -339,50 +461,25 @@ impl Service {
     }
 
     // 11, 12, 15. Makes survivors of the users with all places held, and begins replying.
-    pub fn close(mut self) -> Closed
+    pub fn close(self) -> Closed
         ensures { λ r. ⌜ r ≡ close-step self ⌝ }
     {
         let head = self.head;
-        let phase = head.phase;
-        let number = not_gathering(phase);
-        if number != 0 {
-            return Closed {
-                number,
-                set: 0,
-                service: self,
-            };
-        }
-        let plan = head.plan;
-        // never so in a state that calls have made
-        if !plan::is_good(plan) {
-            return Closed {
-                number: 15,
-                set: 0,
-                service: self,
-            };
-        }
-        let each = plan::places_of(plan);
-        let set = complete_set(&self.first, ROW, plan, each);
-        if u32::count_ones(set) < plan.threshold {
-            return Closed {
-                number: 15,
-                set: 0,
-                service: self,
-            };
-        }
-        let replying = Head {
-            phase: Phase::Replying,
-            plan,
-            places: head.places,
-            round: head.round,
-            survivors: set,
+        let first = self.first;
+        let mut reply = self.reply;
+        let step = close_lent(head, &first, &mut reply);
+        let number = step.number;
+        let set = step.set;
+        let next = step.head;
+        let service = Service {
+            head: next,
+            first,
+            reply,
         };
-        self.head = replying;
-        self.reply = nothing_reply();
         Closed {
-            number: 0,
+            number,
             set,
-            service: self,
+            service,
         }
     }
 }

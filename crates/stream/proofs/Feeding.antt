@@ -18,7 +18,7 @@ use lib.ListN.{length, getD, take, length-append}
 use borrow.Author.Tests.{eq-eqb, ne-eqb, lt-ltb, le-ltb, le-leb, lt-leb}
 use Rattle.scheme.specs.Service.{Record, first-record, reply-record, silent, refused}
 use Rattle.service.specs.declared.Service.{Service}
-use Rattle.service.specs.Calls.{first-refusal, first-left, first-step, reply-refusal, reply-left, reply-step}
+use Rattle.service.specs.Calls.{lent, first-refusal, first-left, first-step, reply-refusal, reply-left, reply-step}
 use Rattle.service.specs.Promise.{told}
 use Rattle.lines.specs.Text.{line}
 use Rattle.lines.specs.Put.{room, Put}
@@ -186,6 +186,6 @@ module _ (s : Service) (b : List ℕ) (o : ℕ) (out₀ : List ℕ) (t : Service
       let e = early-says t (record-at b at) (λ z. some (em ∙ z)) in
       going-as (record-at b at) t refl (e .1) (put-as p (ap (line (o + at)) (ap refused em ∙ sym (e .0))))
 
-  pub going-other : (u : Turned) → u .wrote ≡ next → Turns t (record-at b at) (o + at) out out′ wrote u → Going s b o out₀ (u .service) (at + n) next out′
-  going-other u w h =
-      going-as (record-at b at) (u .service) refl (sym (h .state)) (subst (λ (i : ℕ). Put out out′ wrote i (line (o + at) (step t (record-at b at) .answer))) w (h .put))
+  pub going-other : (u : Turned) (xs ys : List ℕ) → u .wrote ≡ next → Turns t (record-at b at) (o + at) out out′ wrote u xs ys → Going s b o out₀ (lent (u .head) xs ys) (at + n) next out′
+  going-other u xs ys w h =
+      going-as (record-at b at) (lent (u .head) xs ys) refl (sym (h .state)) (subst (λ (i : ℕ). Put out out′ wrote i (line (o + at) (step t (record-at b at) .answer))) w (h .put))

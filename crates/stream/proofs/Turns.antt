@@ -2,7 +2,7 @@
 --   told-taken, told-refused                  what a number answers
 --   turn-taken, turn-refused, turns-as        the call's answer decides the line
 --   record-plan .. record-finish              which record stands at a place
---   finish-good                               an accepted finish has a good plan
+--   finish-kept, finish-good                  a refused finish keeps the state; an accepted one has a good plan
 --   line-short                                every line fits into the room for one
 -- Assumes nothing.
 use mathlib.Core.Path.{_≡_, refl, sym, ap, _∙_, subst}
@@ -27,7 +27,9 @@ use Rattle.service.specs.declared.Service.{Service}
 use Rattle.service.specs.View.{view}
 use Rattle.service.specs.Promise.{told}
 use Rattle.solve.specs.Solve.{padded}
+use Rattle.finish.specs.declared.Finished.{Finished}
 use Rattle.finish.specs.Finish.{choice, finish-refusal, finish-answer, finish-step}
+use Rattle.finish.proofs.Answers.{refused-right}
 use Rattle.solve.proofs.Filled.{padded-take}
 use Rattle.lines.specs.Text.{decimal, numbers, line}
 use Rattle.lines.specs.Put.{room, Put}
@@ -49,14 +51,14 @@ told-refused {n = suc n} h a = refl
 -- one record that was refused, and one that was taken
 module _ (s : Service) (r : Record) (o : ℕ) (out out′ : List ℕ) (at : ℕ) (t : Service) (n w : ℕ) (a : Answer)
     (state : t ≡ step s r .service) (answer : told n a ≡ step s r .answer) where
-  pub turn-refused : (n ≡ 0 → ⊥) → Put out out′ at w (line o (refused n)) → Turns s r o out out′ at (record { service = t; wrote = w })
+  pub turn-refused : (n ≡ 0 → ⊥) → Put out out′ at w (line o (refused n)) → Turns s r o out out′ at (record { head = t .head; wrote = w }) (t .first) (t .reply)
   turn-refused h p = record { state = state; put = put-as p (ap (line o) (sym (told-refused h a) ∙ answer)) }
 
-  pub turn-taken : n ≡ 0 → Put out out′ at w (line o a) → Turns s r o out out′ at (record { service = t; wrote = w })
+  pub turn-taken : n ≡ 0 → Put out out′ at w (line o a) → Turns s r o out out′ at (record { head = t .head; wrote = w }) (t .first) (t .reply)
   turn-taken e p = record { state = state; put = put-as p (ap (line o) (sym (told-taken e a) ∙ answer)) }
 
-pub turns-as : {s : Service} {r r′ : Record} {o : ℕ} {out out′ : List ℕ} {at : ℕ} {t : Turned} → r ≡ r′ → Turns s r o out out′ at t → Turns s r′ o out out′ at t
-turns-as {s} {r} {r′} {o} {out} {out′} {at} {t} e h = subst (λ (x : Record). Turns s x o out out′ at t) e h
+pub turns-as : {s : Service} {r r′ : Record} {o : ℕ} {out out′ : List ℕ} {at : ℕ} {t : Turned} {xs ys : List ℕ} → r ≡ r′ → Turns s r o out out′ at t xs ys → Turns s r′ o out out′ at t xs ys
+turns-as {s} {r} {r′} {o} {out} {out′} {at} {t} {xs} {ys} e h = subst (λ (x : Record). Turns s x o out out′ at t xs ys) e h
 
 -- ---- which record stands at a place
 module _ (b : List ℕ) (at : ℕ) where
@@ -85,11 +87,15 @@ module _ (b : List ℕ) (at : ℕ) where
   record-finish p q r s t =
       rw (ne-eqb (getD b at 0) 1 p, ne-eqb (getD b at 0) 2 q, ne-eqb (getD b at 0) 3 r, ne-eqb (getD b at 0) 4 s, ne-eqb (getD b at 0) 5 t)
 
--- ---- an accepted finish has a good plan
+-- ---- a finish
 answer-number : (n : ℕ) (s : Service) → finish-answer n s .number ≡ n
 unfolding finish-answer
 answer-number zero s = refl
 answer-number (suc n) s = refl
+
+pub finish-kept : (s : Service) → (finish-step s .number ≡ 0 → ⊥) → s ≡ finish-step s .service
+unfolding finish-step
+finish-kept s h = ap (λ (r : Finished). r .service) (refused-right s (λ z. h (answer-number (finish-refusal s) s ∙ z)) refl)
 
 pub finish-good : (s : Service) → finish-step s .number ≡ 0 → Good (plan-of (s .head .plan))
 unfolding finish-step finish-refusal

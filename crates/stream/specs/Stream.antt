@@ -23,7 +23,7 @@ use Rattle.plan.specs.Plan.{plan-of}
 use Rattle.service.specs.declared.Head.{Head}
 use Rattle.service.specs.declared.Service.{Service}
 use Rattle.service.specs.View.{phase-of}
-use Rattle.service.specs.Calls.{open-refusal, plan-step, open-step, first-step, close-step, reply-step}
+use Rattle.service.specs.Calls.{lent, open-refusal, plan-step, open-step, first-step, close-step, reply-step}
 use Rattle.service.specs.Promise.{told}
 use Rattle.finish.specs.Finish.{finish-step}
 use Rattle.stream.specs.declared.Stop.{Stop}
@@ -139,9 +139,9 @@ early-refusal h close-record = unless (has-plan (phase-of (h .phase))) 11 then u
 early-refusal h (reply-record k b x) = 0
 early-refusal h finish-record = unless (has-plan (phase-of (h .phase))) 11 then unless (is-replying (phase-of (h .phase))) 12
 
--- one record: the next state, and its line written behind what was written before
-pub record Turns (s : Service) (r : Record) (o : ℕ) (out out-now : List ℕ) (at : ℕ) (t : Turned) : Type 0 where
-  pub state : t .service ≡ step s r .service
+-- one record: the next head and arrays, and its line written behind what was written before
+pub record Turns (s : Service) (r : Record) (o : ℕ) (out out-now : List ℕ) (at : ℕ) (t : Turned) (first reply : List ℕ) : Type 0 where
+  pub state : lent (t .head) first reply ≡ step s r .service
   pub put : Put out out-now at (t .wrote) (line o (step s r .answer))
 
 -- the line of refusal 7, where there is room for a line

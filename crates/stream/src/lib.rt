@@ -6,19 +6,17 @@ ghost use mathlib.Core.Path.{_≡_};
 ghost use Prim.Native.Nat.{_+_, _*_, _≤_, _<_};
 ghost use lib.ListN.{length, getD, take};
 ghost use lib.Seq.{sets};
-ghost use mathlib.Core.Bool.{not};
-ghost use Rattle.scheme.specs.Scheme.{unless};
-ghost use Rattle.scheme.specs.Service.{has-plan, plan-record, open-record, close-record, finish-record, silent};
-ghost use Rattle.service.specs.View.{phase-of};
-ghost use Rattle.service.specs.Calls.{open-refusal};
+ghost use Rattle.scheme.specs.Service.{plan-record, open-record, close-record, finish-record, silent};
+ghost use Rattle.service.specs.Calls.{lent};
 ghost use Rattle.service.specs.Promise.{told};
 ghost use Rattle.lines.specs.Text.{line};
 ghost use Rattle.lines.specs.Put.{room, Put};
 ghost use Rattle.stream.specs.Stream.{record-length, two-bytes, four-bytes, record-at, early-refusal, lines, Turns, fed, cut-length, cut-left};
 use lines::LINE;
 use plan::Plan;
+use service::FIRSTS;
 use service::Head;
-use service::Phase;
+use service::REPLIES;
 use service::Service;
 
 // All bytes are used; an unknown kind or a record that is not whole comes next; no room for a line; offsets would pass 64 bits.
@@ -38,7 +36,7 @@ pub struct Fed {
 }
 
 pub struct Turned {
-    pub service: Service,
+    pub head: Head,
     pub wrote: usize,
 }
 
@@ -69,11 +67,11 @@ fn both(low: u8, high: u8) -> u16
     low as u16 + high as u16 * 256
 }
 
-fn two_at(b: &[u8], i: usize) -> u16
+fn two_at(b: &[u8], i: usize) -> u32
     requires { ⌜ i + 2 ≤ length (now b) ⌝ }
-    ensures { λ r. ⌜ r ≡ two-bytes (now (b .entry)) i ⌝ }
+    ensures { λ r. ⌜ (r ≡ two-bytes (now (b .entry)) i) × (r < 65536) ⌝ }
 {
-    both(b[i], b[i + 1])
+    both(b[i], b[i + 1]) as u32
 }
 
 fn four_at(b: &[u8], i: usize) -> u32
@@ -82,7 +80,7 @@ fn four_at(b: &[u8], i: usize) -> u32
 {
     let low = two_at(b, i);
     let high = two_at(b, i + 2);
-    low as u32 + high as u32 * 65536
+    low + high * 65536
 }
 
 // The line of an element record: its refusal, or nothing.
@@ -112,19 +110,24 @@ fn plan_at(b: &[u8], at: usize) -> Plan
     }
 }
 
-fn take_plan(service: Service, plan: Plan, offset: u64, out: &mut [u8], at: usize) -> Turned
+fn take_plan(
+    head: Head,
+    first: &mut [u16; FIRSTS],
+    reply: &mut [u16; REPLIES],
+    plan: Plan,
+    offset: u64,
+    out: &mut [u8],
+    at: usize,
+) -> Turned
     requires { ⌜ at + room ≤ length (now out) ⌝ }
-    ensures { λ r. ⌜ Turns service (plan-record (record { users = plan .users; threshold = plan .threshold; collusion = plan .collusion; blocks = plan .blocks })) offset (now (out .entry)) (now (out .exit)) at r ⌝ }
+    ensures { λ r. ⌜ Turns (lent head (now (first .entry)) (now (reply .entry))) (plan-record (record { users = plan .users; threshold = plan .threshold; collusion = plan .collusion; blocks = plan .blocks })) offset (now (out .entry)) (now (out .exit)) at r (now (first .exit)) (now (reply .exit)) ⌝ }
 {
-    let stepped = service.plan(plan);
-    let number = stepped.number;
-    let next = stepped.service;
+    let step = service::plan_lent(head, first, reply, plan);
+    let number = step.number;
+    let next = step.head;
     if number != 0 {
         let wrote = lines::put_refusal(out, at, number, offset);
-        return Turned {
-            service: next,
-            wrote,
-        };
+        return Turned { head: next, wrote };
     }
     let wrote = lines::put_plan(
         out,
@@ -134,86 +137,99 @@ fn take_plan(service: Service, plan: Plan, offset: u64, out: &mut [u8], at: usiz
         plan.collusion,
         plan.blocks,
     );
-    Turned {
-        service: next,
-        wrote,
-    }
+    Turned { head: next, wrote }
 }
 
-fn take_open(service: Service, round: u32, offset: u64, out: &mut [u8], at: usize) -> Turned
+fn take_open(
+    head: Head,
+    first: &mut [u16; FIRSTS],
+    reply: &mut [u16; REPLIES],
+    round: u32,
+    offset: u64,
+    out: &mut [u8],
+    at: usize,
+) -> Turned
     requires { ⌜ at + room ≤ length (now out) ⌝ }
-    ensures { λ r. ⌜ Turns service (open-record round) offset (now (out .entry)) (now (out .exit)) at r ⌝ }
+    ensures { λ r. ⌜ Turns (lent head (now (first .entry)) (now (reply .entry))) (open-record round) offset (now (out .entry)) (now (out .exit)) at r (now (first .exit)) (now (reply .exit)) ⌝ }
 {
-    let stepped = service.open(round);
-    let number = stepped.number;
-    let next = stepped.service;
+    let step = service::open_lent(head, first, reply, round);
+    let number = step.number;
+    let next = step.head;
     if number != 0 {
         let wrote = lines::put_refusal(out, at, number, offset);
-        return Turned {
-            service: next,
-            wrote,
-        };
+        return Turned { head: next, wrote };
     }
     let wrote = lines::put_open(out, at, round);
-    Turned {
-        service: next,
-        wrote,
-    }
+    Turned { head: next, wrote }
 }
 
-fn take_close(service: Service, offset: u64, out: &mut [u8], at: usize) -> Turned
+fn take_close(
+    head: Head,
+    first: &[u16; FIRSTS],
+    reply: &mut [u16; REPLIES],
+    offset: u64,
+    out: &mut [u8],
+    at: usize,
+) -> Turned
     requires { ⌜ at + room ≤ length (now out) ⌝ }
-    ensures { λ r. ⌜ Turns service close-record offset (now (out .entry)) (now (out .exit)) at r ⌝ }
+    ensures { λ r. ⌜ Turns (lent head (now (first .entry)) (now (reply .entry))) close-record offset (now (out .entry)) (now (out .exit)) at r (now (first .entry)) (now (reply .exit)) ⌝ }
 {
-    let head = service.head;
     let round = head.round;
-    let closed = service.close();
-    let number = closed.number;
-    let set = closed.set;
-    let next = closed.service;
+    let step = service::close_lent(head, first, reply);
+    let number = step.number;
+    let set = step.set;
+    let next = step.head;
     if number != 0 {
         let wrote = lines::put_refusal(out, at, number, offset);
-        return Turned {
-            service: next,
-            wrote,
-        };
+        return Turned { head: next, wrote };
     }
     let wrote = lines::put_survivors(out, at, round, set);
-    Turned {
-        service: next,
-        wrote,
-    }
+    Turned { head: next, wrote }
 }
 
-fn take_finish(service: Service, offset: u64, out: &mut [u8], at: usize) -> Turned
+fn take_finish(
+    head: Head,
+    first: &mut [u16; FIRSTS],
+    reply: &mut [u16; REPLIES],
+    offset: u64,
+    out: &mut [u8],
+    at: usize,
+) -> Turned
     requires { ⌜ at + room ≤ length (now out) ⌝ }
-    ensures { λ r. ⌜ Turns service finish-record offset (now (out .entry)) (now (out .exit)) at r ⌝ }
+    ensures { λ r. ⌜ Turns (lent head (now (first .entry)) (now (reply .entry))) finish-record offset (now (out .entry)) (now (out .exit)) at r (now (first .exit)) (now (reply .exit)) ⌝ }
 {
-    let head = service.head;
     let round = head.round;
     let plan = head.plan;
-    let finished = finish::finish(service);
+    let firsts = *first;
+    let replies = *reply;
+    let before = Service {
+        head,
+        first: firsts,
+        reply: replies,
+    };
+    let finished = finish::finish(before);
     let number = finished.number;
     let totals = finished.totals;
-    let next = finished.service;
     if number != 0 {
         let wrote = lines::put_refusal(out, at, number, offset);
-        return Turned {
-            service: next,
-            wrote,
-        };
+        return Turned { head, wrote };
     }
+    let service = finished.service;
+    let next = service.head;
+    let firsts = service.first;
+    let replies = service.reply;
+    *first = firsts;
+    *reply = replies;
     let places = plan::places_of(plan);
     let wrote = lines::put_total(out, at, round, &totals, places);
-    Turned {
-        service: next,
-        wrote,
-    }
+    Turned { head: next, wrote }
 }
 
 // A record other than an element: plan, open, close or finish.
 fn take_other(
-    service: Service,
+    head: Head,
+    first: &mut [u16; FIRSTS],
+    reply: &mut [u16; REPLIES],
     b: &[u8],
     start: usize,
     offset: u64,
@@ -222,39 +238,15 @@ fn take_other(
 ) -> Turned
     requires { ⌜ (at + room ≤ length (now out)) × (start + record-length (getD (now b) start 0) ≤ length (now b)) × (start < length (now b)) ⌝ }
     requires { ⌜ ((getD (now b) start 0 ≡ 3 → ⊥) × (getD (now b) start 0 ≡ 5 → ⊥)) ⌝ }
-    ensures { λ r. ⌜ Turns service (record-at (now (b .entry)) start) offset (now (out .entry)) (now (out .exit)) at r ⌝ }
+    ensures { λ r. ⌜ Turns (lent head (now (first .entry)) (now (reply .entry))) (record-at (now (b .entry)) start) offset (now (out .entry)) (now (out .exit)) at r (now (first .exit)) (now (reply .exit)) ⌝ }
 {
     let kind = b[start];
     match kind {
-        1 => take_plan(service, plan_at(b, start), offset, out, at),
-        2 => take_open(service, four_at(b, start + 1), offset, out, at),
-        4 => take_close(service, offset, out, at),
-        _ => take_finish(service, offset, out, at),
+        1 => take_plan(head, first, reply, plan_at(b, start), offset, out, at),
+        2 => take_open(head, first, reply, four_at(b, start + 1), offset, out, at),
+        4 => take_close(head, first, reply, offset, out, at),
+        _ => take_finish(head, first, reply, offset, out, at),
     }
-}
-
-// 11 of a second plan.
-fn second_plan(phase: Phase) -> u32
-    ensures { λ r. ⌜ r ≡ unless (not (has-plan (phase-of phase))) 11 ⌝ }
-{
-    if service::plan_missing(phase) == 0 {
-        return 11;
-    }
-    0
-}
-
-fn open_refusal(head: Head, round: u32) -> u32
-    ensures { λ r. ⌜ r ≡ open-refusal head round ⌝ }
-{
-    let phase = head.phase;
-    let number = service::plan_missing(phase);
-    if number != 0 {
-        return number;
-    }
-    if round <= head.round {
-        return 17;
-    }
-    0
 }
 
 // The refusal of a record other than an element, as far as the head alone decides it: then nothing of the state need be moved.
@@ -266,8 +258,8 @@ fn early_refusal(head: Head, b: &[u8], start: usize) -> u32
     let phase = head.phase;
     let kind = b[start];
     match kind {
-        1 => second_plan(phase),
-        2 => open_refusal(head, four_at(b, start + 1)),
+        1 => service::second_plan(phase),
+        2 => service::open_refusal(head, four_at(b, start + 1)),
         4 => service::not_gathering(phase),
         _ => service::not_replying(phase),
     }
@@ -280,6 +272,7 @@ pub fn feed(start: Service, b: &[u8], offset: u64, out: &mut [u8]) -> Fed
     ensures left { λ r. ⌜ now (out .exit) ≡ sets (now (out .entry)) 0 (lines start offset (take (r .at) (now (b .entry)))) ⌝ }
 {
     let mut service = start;
+    let mut reply = start.reply;
     let mut at: usize = 0;
     let mut wrote: usize = 0;
     if u64::MAX - offset < b.len() as u64 {
@@ -294,6 +287,7 @@ pub fn feed(start: Service, b: &[u8], offset: u64, out: &mut [u8]) -> Fed
         let kind = b[at];
         let n = record_length(kind);
         if n == 0 {
+            service.reply = reply;
             return Fed {
                 service,
                 at,
@@ -302,6 +296,7 @@ pub fn feed(start: Service, b: &[u8], offset: u64, out: &mut [u8]) -> Fed
             };
         }
         if b.len() - at < n {
+            service.reply = reply;
             return Fed {
                 service,
                 at,
@@ -310,6 +305,7 @@ pub fn feed(start: Service, b: &[u8], offset: u64, out: &mut [u8]) -> Fed
             };
         }
         if out.len() - wrote < LINE {
+            service.reply = reply;
             return Fed {
                 service,
                 at,
@@ -321,7 +317,7 @@ pub fn feed(start: Service, b: &[u8], offset: u64, out: &mut [u8]) -> Fed
         if kind == 3 {
             let head = service.head;
             let user = wide(b[at + 1]);
-            let place = two_at(b, at + 2) as u32;
+            let place = two_at(b, at + 2);
             let element = two_at(b, at + 4);
             let number = service::put_first(head, &mut service.first, user, place, element);
             wrote = put_element(out, wrote, number, here);
@@ -331,7 +327,7 @@ pub fn feed(start: Service, b: &[u8], offset: u64, out: &mut [u8]) -> Fed
             let user = wide(b[at + 1]);
             let block = wide(b[at + 2]);
             let element = two_at(b, at + 3);
-            let number = service::put_reply(head, &mut service.reply, user, block, element);
+            let number = service::put_reply(head, &mut reply, user, block, element);
             wrote = put_element(out, wrote, number, here);
             at += n;
         } else {
@@ -341,14 +337,24 @@ pub fn feed(start: Service, b: &[u8], offset: u64, out: &mut [u8]) -> Fed
                 wrote = lines::put_refusal(out, wrote, number, here);
                 at += n;
             } else {
-                let turned = take_other(service, b, at, here, out, wrote);
-                let next = turned.service;
-                service = next;
+                let turned = take_other(
+                    head,
+                    &mut service.first,
+                    &mut reply,
+                    b,
+                    at,
+                    here,
+                    out,
+                    wrote,
+                );
+                let next = turned.head;
+                service.head = next;
                 wrote = turned.wrote;
                 at += n;
             }
         }
     }
+    service.reply = reply;
     Fed {
         service,
         at,

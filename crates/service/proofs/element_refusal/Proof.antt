@@ -1,10 +1,8 @@
 -- `service::element_refusal` meets its contract: the tests that led to each return decide the definition's.
 -- Assumes nothing.
-use mathlib.Core.Path.{sym, _∙_}
 use Prim.Native.Nat.{_≤_, _<_}
 use native.Mathlib.Omega.{arith}
-use borrow.Author.Needs.{needs}
-use borrow.Author.Tests.{le-leb, lt-leb, lt-ltb, le-ltb, not-true, not-false}
+use borrow.Author.Tests.{le-leb, lt-leb, lt-ltb, le-ltb}
 use Rattle.scheme.specs.Scheme.{unless, _then_}
 use Rattle.service.specs.Calls.{element-refusal}
 use Rattle.service.proofs.element_refusal.Statement.{statement}
@@ -28,24 +26,19 @@ returns-3 c =
     let h : 1 ≤ c .before .before .before .args .user = omega arith in
     simp (le-leb _ _ h, le-leb _ _ (c .before .if2 .left), le-ltb _ _ (c .if3 .taken))
 
-is-element-requires : tie.Need-is-element-requires
-is-element-requires c κs = search needs
-
 returns-4 : tie.Need-returns-4
 unfolding element-refusal unless _then_
 returns-4 c =
-    let d = c .before .before in
+    let d = c .before in
     let h : 1 ≤ d .before .before .before .args .user = omega arith in
-    let e = sym (c .before .is-element .ensures) ∙ not-true _ (c .if4 .taken) in
-    simp (le-leb _ _ h, le-leb _ _ (d .before .if2 .left), lt-ltb _ _ (d .if3 .left), e)
+    simp (le-leb _ _ h, le-leb _ _ (d .before .if2 .left), lt-ltb _ _ (d .if3 .left), le-ltb _ _ (c .if4 .taken))
 
 returns-5 : tie.Need-returns-5
 unfolding element-refusal unless _then_
 returns-5 c =
-    let d = c .before .before in
+    let d = c .before in
     let h : 1 ≤ d .before .before .before .args .user = omega arith in
-    let e = sym (c .before .is-element .ensures) ∙ not-false _ (c .if4 .left) in
-    simp (le-leb _ _ h, le-leb _ _ (d .before .if2 .left), lt-ltb _ _ (d .if3 .left), e)
+    simp (le-leb _ _ h, le-leb _ _ (d .before .if2 .left), lt-ltb _ _ (d .if3 .left), lt-ltb _ _ (c .if4 .left))
 
 pub element-refusal-spec : {M : Type 1} → statement M
-element-refusal-spec = tie.close (tie.spec returns returns-2 returns-3 is-element-requires returns-4 returns-5)
+element-refusal-spec = tie.close (tie.spec returns returns-2 returns-3 returns-4 returns-5)

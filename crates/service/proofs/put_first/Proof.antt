@@ -2,6 +2,7 @@
 -- Assumes nothing.
 use mathlib.Core.Path.{_≡_, sym, _∙_}
 use mathlib.Core.Bool.{true}
+use Prim.Native.Nat.{_<_}
 use native.Mathlib.Omega.{arith}
 use borrow.Author.Needs.{needs}
 use borrow.Author.Tests.{lt-ltb, le-ltb, ltb-true, eq-eqb, ne-eqb}
@@ -19,6 +20,9 @@ phase-right c = past-phase _ _ (sym (c .before .not-gathering .ensures) ∙ c .i
 
 fits : (c : tie.Else2) → let a = c .before .before .before .before .args in Fit (a .head .plan .users) (a .head .places) (a .user) (a .place) (a .element)
 fits c = fit _ _ _ _ _ (sym (c .before .element-refusal .ensures) ∙ c .if2 .left)
+
+below : (c : tie.Else4) → c .before .before .before .before .before .before .before .args .element < q
+below c = ltb-true _ _ (fits (c .before .before .before) .small)
 
 -- ---- the needs
 not-gathering-requires : tie.Need-not-gathering-requires
@@ -67,10 +71,11 @@ returns-4 c =
     let f = fits (e .before) in
     turned (λ z. omega arith) (simp (p .0, p .1, f .user, f .place, f .small, lt-ltb _ _ (e .if3 .left), ne-eqb _ _ (c .if4 .taken))) _ _
 
+cast-first : tie.Need-cast-first
+cast-first c = omega (arith, below c)
+
 add-first : tie.Need-add-first
-add-first c =
-    let e = c .before .before in
-    omega (arith, ltb-true (e .before .before .before .before .before .args .element) q (fits (e .before) .small))
+add-first c = omega (arith, below c)
 
 mul-first : tie.Need-mul-first
 mul-first c = search needs
@@ -101,6 +106,7 @@ put-first-spec =
     mul-if4
     element-copy-out-if4
     returns-4
+    cast-first
     add-first
     mul-first
     element-write-first

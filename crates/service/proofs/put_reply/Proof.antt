@@ -2,6 +2,7 @@
 -- Assumes nothing.
 use mathlib.Core.Path.{_≡_, sym, _∙_}
 use mathlib.Core.Bool.{true}
+use Prim.Native.Nat.{_<_}
 use native.Mathlib.Omega.{arith}
 use borrow.Author.Needs.{needs}
 use borrow.Author.Tests.{lt-ltb, le-ltb, ltb-true, eq-eqb, ne-eqb, not-true, not-false}
@@ -22,6 +23,9 @@ fits c = fit _ _ _ _ _ (sym (c .before .element-refusal .ensures) ∙ c .if2 .le
 
 survives : (c : tie.Else4) → let a = c .before .before .before .before .before .before .before .args in in-set (a .head .survivors) (a .user) ≡ true
 survives c = sym (c .before .holds .ensures) ∙ not-false _ (c .if4 .left)
+
+below : (c : tie.Else5) → c .before .before .before .before .before .before .before .before .before .args .element < q
+below c = ltb-true _ _ (fits (c .before .before .before .before .before) .small)
 
 -- ---- the needs
 not-replying-requires : tie.Need-not-replying-requires
@@ -84,10 +88,11 @@ returns-5 c =
     let f = fits (e .before) in
     turned (λ z. omega arith) (simp (p .0, p .1, f .user, f .place, f .small, lt-ltb _ _ (e .if3 .left), survives (c .before .before), ne-eqb _ _ (c .if5 .taken))) _ _
 
+cast-reply : tie.Need-cast-reply
+cast-reply c = omega (arith, below c)
+
 add-reply : tie.Need-add-reply
-add-reply c =
-    let e = c .before .before .before .before in
-    omega (arith, ltb-true (e .before .before .before .before .before .args .element) q (fits (e .before) .small))
+add-reply c = omega (arith, below c)
 
 mul-reply : tie.Need-mul-reply
 mul-reply c = search needs
@@ -120,6 +125,7 @@ put-reply-spec =
     mul-if5
     element-copy-out-if5
     returns-5
+    cast-reply
     add-reply
     mul-reply
     element-write-reply

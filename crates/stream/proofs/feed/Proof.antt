@@ -5,16 +5,17 @@ use Prim.Native.Nat.{_-_}
 use native.Mathlib.Omega.{arith}
 use lib.ListN.{length}
 use borrow.Author.Needs.{needs}
+use Rattle.service.specs.Calls.{lent}
 use Rattle.stream.specs.Stream.{record-length, items-from, items, answers, text, lines}
 use Rattle.stream.proofs.Feeding.{fed-far, Going, going-start, going-used, going-unknown, going-partial, going-full, going-first, going-reply, going-early, going-other}
 use Rattle.stream.proofs.feed.Statement.{statement}
 use Rattle.stream.proofs.feed.Tie as tie
 
 abbrev Inv-loop : tie.InvT-loop
-Inv-loop b offset out₀ service₀ at₀ wrote₀ out service at wrote = Going service₀ b offset out₀ service at wrote out
+Inv-loop b offset out₀ service₀ reply₀ at₀ wrote₀ out service reply at wrote = Going service₀ b offset out₀ (lent (service .head) (service .first) reply) at wrote out
 
 abbrev μ-loop : tie.MeasureT-loop
-μ-loop b offset out₀ service₀ at₀ wrote₀ out service at wrote = length b - at
+μ-loop b offset out₀ service₀ reply₀ at₀ wrote₀ out service reply at wrote = length b - at
 
 sub-if1 : tie.Need-sub-if1 Inv-loop μ-loop
 sub-if1 c = search needs
@@ -82,9 +83,6 @@ two-at-requires : tie.Need-two-at-requires Inv-loop μ-loop
 unfolding record-length
 two-at-requires c κs = omega (arith, ap record-length (c .before .before .before .if5 .taken))
 
-cast-place : tie.Need-cast-place Inv-loop μ-loop
-cast-place c = search needs
-
 add-two-at-2 : tie.Need-add-two-at-2 Inv-loop μ-loop
 add-two-at-2 c = search needs
 
@@ -106,9 +104,10 @@ loop-less c = search needs
 
 loop-again : tie.Need-loop-again Inv-loop μ-loop
 loop-again c =
-    let l = c .before .before .before .before .before .before .before .before .before .before .before .before .before .before .before .before .before .before .loop in
-    let n = c .before .before .before .before .before .before .before .before .before .before .before .before .before .before .before .record-length .result in
-    going-first _ _ _ _ _ _ _ _ (l .inv) (c .before .before .before .before .before .before .before .before .before .before .before .before .before .before .before .before .before .loop-test .taken) n (c .before .before .before .before .before .before .before .before .before .before .before .before .before .before .before .record-length .ensures .0) (c .before .before .before .before .before .before .before .before .before .before .before .before .before .before .if2 .left) (omega arith) (omega arith) _ _ _ _ _ _ _ (c .before .before .before .before .before .before .before .before .before .before .before .if5 .taken) (c .before .before .before .before .before .before .before .before .wide .ensures) (c .before .before .before .before .before .before .before .two-at .ensures) (c .before .before .before .before .before .before .two-at2 .ensures) (c .before .before .before .before .put-first .ensures .0) (c .before .before .before .before .put-first .ensures .1) (c .before .before .put-element .ensures)
+    let d = c .before .before .before .before .before .before .before .before .before .before .before .before in
+    let x = d .before .before .before in
+    going-first _ _ _ _ _ _ _ _ (x .before .before .before .loop .inv) (x .before .before .loop-test .taken) (x .record-length .result) (x .record-length .ensures .0) (d .before .before .if2 .left) (omega arith) (omega arith) _ _
+    _ _ _ _ _ (c .before .before .before .before .before .before .before .before .before .before .before .if5 .taken) (c .before .before .before .before .before .before .before .before .wide .ensures) (c .before .before .before .before .before .before .before .two-at .ensures .0) (c .before .before .before .before .before .before .two-at2 .ensures .0) (c .before .before .before .before .put-first .ensures .0) (c .before .before .before .before .put-first .ensures .1) (c .before .before .put-element .ensures)
 
 add-wide-2 : tie.Need-add-wide-2 Inv-loop μ-loop
 add-wide-2 c = search needs
@@ -151,9 +150,10 @@ loop-less-2 c = search needs
 
 loop-again-2 : tie.Need-loop-again-2 Inv-loop μ-loop
 loop-again-2 c =
-    let l = c .before .before .before .before .before .before .before .before .before .before .before .before .before .before .before .before .before .before .before .before .loop in
-    let n = c .before .before .before .before .before .before .before .before .before .before .before .before .before .before .before .before .before .record-length .result in
-    going-reply _ _ _ _ _ _ _ _ (l .inv) (c .before .before .before .before .before .before .before .before .before .before .before .before .before .before .before .before .before .before .before .loop-test .taken) n (c .before .before .before .before .before .before .before .before .before .before .before .before .before .before .before .before .before .record-length .ensures .0) (c .before .before .before .before .before .before .before .before .before .before .before .before .before .before .before .before .if2 .left) (omega arith) (omega arith) _ _ _ _ _ _ _ (c .before .before .before .before .before .before .before .before .before .before .before .before .if6 .taken) (c .before .before .before .before .before .before .before .before .before .wide2 .ensures) (c .before .before .before .before .before .before .before .wide3 .ensures) (c .before .before .before .before .before .before .two-at3 .ensures) (c .before .before .before .before .put-reply .ensures .0) (c .before .before .before .before .put-reply .ensures .1) (c .before .before .put-element2 .ensures)
+    let d = c .before .before .before .before .before .before .before .before .before .before .before .before .before .before in
+    let x = d .before .before .before in
+    going-reply _ _ _ _ _ _ _ _ (x .before .before .before .loop .inv) (x .before .before .loop-test .taken) (x .record-length .result) (x .record-length .ensures .0) (d .before .before .if2 .left) (omega arith) (omega arith) _ _
+    _ _ _ _ _ (c .before .before .before .before .before .before .before .before .before .before .before .before .if6 .taken) (c .before .before .before .before .before .before .before .before .before .wide2 .ensures) (c .before .before .before .before .before .before .before .wide3 .ensures) (c .before .before .before .before .before .before .two-at3 .ensures .0) (c .before .before .before .before .put-reply .ensures .0) (c .before .before .before .before .put-reply .ensures .1) (c .before .before .put-element2 .ensures)
 
 early-refusal-requires : tie.Need-early-refusal-requires Inv-loop μ-loop
 early-refusal-requires c κs = ((omega (arith, c .before .before .before .before .before .before .record-length .ensures .0), search needs), (c .before .before .if5 .left, c .before .if6 .left))
@@ -169,12 +169,13 @@ loop-less-3 c = search needs
 
 loop-again-3 : tie.Need-loop-again-3 Inv-loop μ-loop
 loop-again-3 c =
-    let l = c .before .before .before .before .before .before .before .before .before .before .before .before .before .before .before .loop in
-    let n = c .before .before .before .before .before .before .before .before .before .before .before .before .record-length .result in
-    going-early _ _ _ _ _ _ _ _ (l .inv) (c .before .before .before .before .before .before .before .before .before .before .before .before .before .before .loop-test .taken) n (c .before .before .before .before .before .before .before .before .before .before .before .before .record-length .ensures .0) (c .before .before .before .before .before .before .before .before .before .before .before .if2 .left) (omega arith) (omega arith) _ _ _ (c .before .before .before .before .before .early-refusal .ensures) (c .before .before .before .before .if7 .taken) (c .before .before .put-refusal .ensures .1)
+    let d = c .before .before .before .before .before .before .before .before .before in
+    let x = d .before .before .before in
+    going-early _ _ _ _ _ _ _ _ (x .before .before .before .loop .inv) (x .before .before .loop-test .taken) (x .record-length .result) (x .record-length .ensures .0) (d .before .before .if2 .left) (omega arith) (omega arith) _ _
+    _ (c .before .before .before .before .before .early-refusal .ensures) (c .before .before .before .before .if7 .taken) (c .before .before .put-refusal .ensures .1)
 
 take-other-requires : tie.Need-take-other-requires Inv-loop μ-loop
-take-other-requires c κs = ((search needs, omega (arith, c .before .before .before .before .before .before .before .before .before .record-length .ensures .0), search needs), (c .before .before .before .before .before .if5 .left, c .before .before .before .before .if6 .left))
+take-other-requires c κs = ((search needs, omega (arith, c .before .before .before .before .before .before .before .before .before .before .before .record-length .ensures .0), search needs), (c .before .before .before .before .before .before .before .if5 .left, c .before .before .before .before .before .before .if6 .left))
 
 add-at-4 : tie.Need-add-at-4 Inv-loop μ-loop
 add-at-4 c = search needs
@@ -184,9 +185,10 @@ loop-less-4 c = search needs
 
 loop-again-4 : tie.Need-loop-again-4 Inv-loop μ-loop
 loop-again-4 c =
-    let l = c .before .before .before .before .before .before .before .before .before .before .before .before .before .before .before .before .loop in
-    let n = c .before .before .before .before .before .before .before .before .before .before .before .before .before .record-length .result in
-    going-other _ _ _ _ _ _ _ _ (l .inv) (c .before .before .before .before .before .before .before .before .before .before .before .before .before .before .before .loop-test .taken) n (c .before .before .before .before .before .before .before .before .before .before .before .before .before .record-length .ensures .0) (c .before .before .before .before .before .before .before .before .before .before .before .before .if2 .left) (omega arith) (omega arith) _ _ (c .before .before .before .take-other .result) refl (c .before .before .before .take-other .ensures)
+    let d = c .before .before .before .before .before .before .before .before .before .before .before .before in
+    let x = d .before .before .before in
+    going-other _ _ _ _ _ _ _ _ (x .before .before .before .loop .inv) (x .before .before .loop-test .taken) (x .record-length .result) (x .record-length .ensures .0) (d .before .before .if2 .left) (omega arith) (omega arith) _ _
+    (c .before .before .before .take-other .result) _ _ refl (c .before .before .before .take-other .ensures)
 
 same-length-4 : tie.Need-same-length-4 Inv-loop μ-loop
 same-length-4 c = search needs
@@ -219,7 +221,6 @@ feed-spec =
     wide-requires
     add-two-at
     two-at-requires
-    cast-place
     add-two-at-2
     two-at-requires-2
     put-first-requires

@@ -10,8 +10,8 @@ use Rattle.stream.proofs.Turns.{turn-taken, turn-refused}
 use Rattle.stream.proofs.take_close.Statement.{statement}
 use Rattle.stream.proofs.take_close.Tie as tie
 
-close-requires : tie.Need-close-requires
-close-requires c κs = search needs
+close-lent-requires : tie.Need-close-lent-requires
+close-lent-requires c κs = search needs
 
 put-refusal-requires : tie.Need-put-refusal-requires
 put-refusal-requires c κs = search needs
@@ -22,10 +22,11 @@ same-length c = search needs
 returns : tie.Need-returns
 unfolding step
 returns c =
-    let e = c .before .before .before .before .before .before .close .ensures in
-    let n = c .before .before .before .before .before .before .before .before .before .args .service .head .round in
-    let p = c .before .before .put-refusal .ensures in
-    turn-refused _ _ _ _ _ _ _ _ _ (closed (c .before .before .before .before .before .before .before .before .before .args .service .head .round) (c .before .before .before .before .before .before .close .result .set)) (ap (λ (r : Closed). r .service) e) (ap (λ (r : Closed). told (r .number) (closed n (r .set))) e) (c .before .before .before .before .if1 .taken) (p .1)
+    let x = c .before .before .before .before .before .before in
+    let a = x .before .before .before .args in
+    let e = x .close-lent .ensures in
+    turn-refused _ _ _ _ _ _ _ _ _ (closed (a .head .round) (x .close-lent .result .set))
+    (ap (λ (r : Closed). r .service) e) (ap (λ (r : Closed). told (r .number) (closed (a .head .round) (r .set))) e) (c .before .before .before .before .if1 .taken) (c .before .before .put-refusal .ensures .1)
 
 put-survivors-requires : tie.Need-put-survivors-requires
 put-survivors-requires c κs = search needs
@@ -36,16 +37,17 @@ same-length-2 c = search needs
 returns-2 : tie.Need-returns-2
 unfolding step
 returns-2 c =
-    let e = c .before .before .before .before .before .before .close .ensures in
-    let n = c .before .before .before .before .before .before .before .before .before .args .service .head .round in
-    let p = c .before .before .put-survivors .ensures in
-    turn-taken _ _ _ _ _ _ _ _ _ (closed (c .before .before .before .before .before .before .before .before .before .args .service .head .round) (c .before .before .before .before .before .before .close .result .set)) (ap (λ (r : Closed). r .service) e) (ap (λ (r : Closed). told (r .number) (closed n (r .set))) e) (c .before .before .before .before .if1 .left) (p .1 _)
+    let x = c .before .before .before .before .before .before in
+    let a = x .before .before .before .args in
+    let e = x .close-lent .ensures in
+    turn-taken _ _ _ _ _ _ _ _ _ (closed (a .head .round) (x .close-lent .result .set))
+    (ap (λ (r : Closed). r .service) e) (ap (λ (r : Closed). told (r .number) (closed (a .head .round) (r .set))) e) (c .before .before .before .before .if1 .left) (c .before .before .put-survivors .ensures .1 _)
 
 pub take-close-spec : {M : Type 1} → statement M
 take-close-spec =
     tie.close
     (tie.spec
-    close-requires
+    close-lent-requires
     put-refusal-requires
     same-length
     returns

@@ -10,8 +10,8 @@ use Rattle.stream.proofs.Turns.{turn-taken, turn-refused}
 use Rattle.stream.proofs.take_open.Statement.{statement}
 use Rattle.stream.proofs.take_open.Tie as tie
 
-open-requires : tie.Need-open-requires
-open-requires c κs = search needs
+open-lent-requires : tie.Need-open-lent-requires
+open-lent-requires c κs = search needs
 
 put-refusal-requires : tie.Need-put-refusal-requires
 put-refusal-requires c κs = search needs
@@ -22,9 +22,11 @@ same-length c = search needs
 returns : tie.Need-returns
 unfolding step
 returns c =
-    let e = c .before .before .before .before .before .before .«open» .ensures in
-    let p = c .before .before .put-refusal .ensures in
-    turn-refused _ _ _ _ _ _ _ _ _ (opened (c .before .before .before .before .before .before .before .before .args .round)) (ap (λ (r : Stepped). r .service) e) (ap (λ (r : Stepped). told (r .number) (opened (c .before .before .before .before .before .before .before .before .args .round))) e) (c .before .before .before .before .if1 .taken) (p .1)
+    let x = c .before .before .before .before .before .before in
+    let a = x .before .before .before .before .args in
+    let e = x .open-lent .ensures in
+    turn-refused _ _ _ _ _ _ _ _ _ (opened (a .round))
+    (ap (λ (r : Stepped). r .service) e) (ap (λ (r : Stepped). told (r .number) (opened (a .round))) e) (c .before .before .before .before .if1 .taken) (c .before .before .put-refusal .ensures .1)
 
 put-open-requires : tie.Need-put-open-requires
 put-open-requires c κs = search needs
@@ -35,15 +37,17 @@ same-length-2 c = search needs
 returns-2 : tie.Need-returns-2
 unfolding step
 returns-2 c =
-    let e = c .before .before .before .before .before .before .«open» .ensures in
-    let p = c .before .before .put-open .ensures in
-    turn-taken _ _ _ _ _ _ _ _ _ (opened (c .before .before .before .before .before .before .before .before .args .round)) (ap (λ (r : Stepped). r .service) e) (ap (λ (r : Stepped). told (r .number) (opened (c .before .before .before .before .before .before .before .before .args .round))) e) (c .before .before .before .before .if1 .left) (p .1 _)
+    let x = c .before .before .before .before .before .before in
+    let a = x .before .before .before .before .args in
+    let e = x .open-lent .ensures in
+    turn-taken _ _ _ _ _ _ _ _ _ (opened (a .round))
+    (ap (λ (r : Stepped). r .service) e) (ap (λ (r : Stepped). told (r .number) (opened (a .round))) e) (c .before .before .before .before .if1 .left) (c .before .before .put-open .ensures .1 _)
 
 pub take-open-spec : {M : Type 1} → statement M
 take-open-spec =
     tie.close
     (tie.spec
-    open-requires
+    open-lent-requires
     put-refusal-requires
     same-length
     returns

@@ -16,7 +16,7 @@ shared-slice-read-kind c = search needs
 
 plan-at-requires : tie.Need-plan-at-requires
 unfolding record-length
-plan-at-requires c κs = omega (arith, c .before .before .before .before .pre .0 .1, ap record-length (c .match .keys1))
+plan-at-requires c κs = omega (arith, c .before .before .before .before .before .before .pre .0 .1, ap record-length (c .before .before .match .keys1))
 
 take-plan-requires : tie.Need-take-plan-requires
 take-plan-requires c κs = search needs
@@ -26,7 +26,7 @@ add-four-at c = search needs
 
 four-at-requires : tie.Need-four-at-requires
 unfolding record-length
-four-at-requires c κs = omega (arith, c .before .before .before .before .pre .0 .1, ap record-length (c .match .keys2))
+four-at-requires c κs = omega (arith, c .before .before .before .before .before .before .pre .0 .1, ap record-length (c .before .before .match .keys2))
 
 take-open-requires : tie.Need-take-open-requires
 take-open-requires c κs = search needs
@@ -42,27 +42,27 @@ same-length c = search needs
 
 returns : tie.Need-returns
 returns c =
-    turns-as (ap (λ (p : Plan). plan-record (plan-of p)) (c .before .before .before .before .plan-at .ensures) ∙ sym (record-plan _ _ (c .before .before .before .before .before .match .keys1))) (c .before .before .take-plan .ensures)
+    turns-as (ap (λ (p : Plan). plan-record (plan-of p)) (c .before .before .before .before .plan-at .ensures) ∙ sym (record-plan _ _ (c .before .before .before .before .before .before .before .match .keys1))) (c .before .before .take-plan .ensures)
 
 same-length-2 : tie.Need-same-length-2
 same-length-2 c = search needs
 
 returns-2 : tie.Need-returns-2
-returns-2 c = rw (record-open _ _ (c .before .before .before .before .before .match .keys2), ← c .before .before .before .before .four-at .ensures) (c .before .before .take-open .ensures)
+returns-2 c = rw (record-open _ _ (c .before .before .before .before .before .before .before .match .keys2), ← c .before .before .before .before .four-at .ensures) (c .before .before .take-open .ensures)
 
 same-length-3 : tie.Need-same-length-3
 same-length-3 c = search needs
 
 returns-3 : tie.Need-returns-3
-returns-3 c = rw (record-close _ _ (c .before .before .before .before .match .keys3)) (c .before .before .take-close .ensures)
+returns-3 c = rw (record-close _ _ (c .before .before .before .before .before .before .match .keys3)) (c .before .before .take-close .ensures)
 
 same-length-4 : tie.Need-same-length-4
 same-length-4 c = search needs
 
 returns-4 : tie.Need-returns-4
 returns-4 c =
-    let r = c .before .before .before .before .match .rest in
-    let p = c .before .before .before .before .before .before .before .before .pre .1 in
+    let r = c .before .before .before .before .before .before .match .rest in
+    let p = c .before .before .before .before .before .before .before .before .before .before .pre .1 in
     rw (record-finish _ _ (r .0 .0 .1) (r .0 .1) (p .0) (r .1) (p .1)) (c .before .before .take-finish .ensures)
 
 pub take-other-spec : {M : Type 1} → statement M

@@ -1,4 +1,4 @@
--- `service::Service::plan` meets its contract: the tests that led to each return decide the definition's.
+-- `service::plan_lent` meets its contract: the tests that led to each return decide the definition's.
 -- Assumes nothing.
 use mathlib.Core.Path.{_≡_, sym, _∙_}
 use mathlib.Core.Bool.{true, false}
@@ -12,23 +12,25 @@ use Rattle.plan.specs.Plan.{plan-of}
 use Rattle.service.specs.View.{phase-of}
 use Rattle.service.specs.Calls.{plan-step, plan-refusal, planned, after}
 use Rattle.service.proofs.Refused.{unless-not-zero}
-use Rattle.service.proofs.Service.plan.Statement.{statement}
-use Rattle.service.proofs.Service.plan.Tie as tie
+use Rattle.service.proofs.plan_lent.Statement.{statement}
+use Rattle.service.proofs.plan_lent.Tie as tie
 
-none-yet : (c : tie.Else1) → has-plan (phase-of (c .before .before .before .args .self .head .phase)) ≡ false
-none-yet c = unless-not-zero _ 11 (λ z. c .if1 .left (c .before .plan-missing .ensures ∙ z))
+none-yet : (c : tie.Else1) → has-plan (phase-of (c .before .before .args .head .phase)) ≡ false
+none-yet c = not-true _ (unless-zero _ 10 (sym (c .before .second-plan .ensures) ∙ c .if1 .left))
 
-is-good : (c : tie.Else2) → plan-good (plan-of (c .before .before .before .before .before .args .plan)) ≡ true
+is-good : (c : tie.Else2) → plan-good (plan-of (c .before .before .before .before .args .plan)) ≡ true
 is-good c = sym (c .before .is-good .ensures) ∙ not-false _ (c .if2 .left)
 
-plan-missing-requires : tie.Need-plan-missing-requires
-plan-missing-requires c κs = search needs
+second-plan-requires : tie.Need-second-plan-requires
+second-plan-requires c κs = search needs
 
 returns : tie.Need-returns
 unfolding plan-step plan-refusal after unless _then_
 returns c =
-    let h : has-plan (phase-of (c .before .before .before .args .self .head .phase)) ≡ true = unless-zero _ 10 (sym (c .before .plan-missing .ensures) ∙ c .if1 .taken) in
-    simp h
+    let e = c .before .second-plan .ensures in
+    let h : has-plan (phase-of (c .before .before .args .head .phase)) ≡ true = not-false _ (unless-not-zero _ 11 (λ z. c .if1 .taken (e ∙ z))) in
+    let n : c .before .second-plan .result ≡ 11 = e ∙ simp h in
+    simp (n, h)
 
 is-good-requires : tie.Need-is-good-requires
 is-good-requires c κs = search needs
@@ -55,11 +57,11 @@ returns-3 c =
     let e = c .before .before .before in
     simp (none-yet (e .before .before), is-good e, c .before .before .places-of .ensures .0, c .before .nothing-first .ensures, c .nothing-reply .ensures)
 
-pub plan-spec : {M : Type 1} → statement M
-plan-spec =
+pub plan-lent-spec : {M : Type 1} → statement M
+plan-lent-spec =
     tie.close
     (tie.spec
-    plan-missing-requires
+    second-plan-requires
     returns
     is-good-requires
     returns-2

@@ -1,17 +1,16 @@
--- `stream::open_refusal` meets its contract: the tests that led to each return decide the definition's.
+-- `service::open_refusal` meets its contract: the tests that led to each return decide the definition's.
 -- Assumes nothing.
 use mathlib.Core.Path.{_≡_, sym, _∙_}
-use mathlib.Core.Bool.{true, false}
+use mathlib.Core.Bool.{true}
 use borrow.Author.Needs.{needs}
 use borrow.Author.Tests.{lt-ltb, le-ltb}
 use Rattle.scheme.specs.Scheme.{unless, _then_}
 use Rattle.scheme.specs.Service.{has-plan}
-use Rattle.scheme.proofs.Refusals.{unless-zero, unless-failed}
+use Rattle.scheme.proofs.Refusals.{then-refused, unless-zero}
 use Rattle.service.specs.View.{phase-of}
 use Rattle.service.specs.Calls.{open-refusal}
-use Rattle.service.proofs.Refused.{unless-not-zero}
-use Rattle.stream.proofs.open_refusal.Statement.{statement}
-use Rattle.stream.proofs.open_refusal.Tie as tie
+use Rattle.service.proofs.open_refusal.Statement.{statement}
+use Rattle.service.proofs.open_refusal.Tie as tie
 
 has-one : (c : tie.Else1) → has-plan (phase-of (c .before .before .args .head .phase)) ≡ true
 has-one c = unless-zero _ 10 (sym (c .before .plan-missing .ensures) ∙ c .if1 .left)
@@ -20,12 +19,10 @@ plan-missing-requires : tie.Need-plan-missing-requires
 plan-missing-requires c κs = search needs
 
 returns : tie.Need-returns
-unfolding open-refusal unless _then_
+unfolding open-refusal
 returns c =
     let e = c .before .plan-missing .ensures in
-    let h : has-plan (phase-of (c .before .before .args .head .phase)) ≡ false = unless-not-zero _ 11 (λ z. c .if1 .taken (e ∙ z)) in
-    let n : c .before .plan-missing .result ≡ 11 = e ∙ unless-failed h 11 in
-    simp (n, h)
+    e ∙ sym (then-refused (λ z. c .if1 .taken (e ∙ z)) _)
 
 returns-2 : tie.Need-returns-2
 unfolding open-refusal unless _then_

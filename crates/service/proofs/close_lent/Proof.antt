@@ -1,4 +1,4 @@
--- `service::Service::close` meets its contract: the tests that led to each return decide the definition's.
+-- `service::close_lent` meets its contract: the tests that led to each return decide the definition's.
 -- The complete set has no member above K, so the machine counts the ones that the definition counts. Assumes nothing.
 use mathlib.Core.Path.{_≡_, ap, sym, _∙_}
 use mathlib.Core.Bool.{true}
@@ -14,31 +14,33 @@ use Rattle.scheme.proofs.Good.{good}
 use Rattle.scheme.proofs.Held.{complete-below}
 use Rattle.plan.specs.Plan.{plan-of}
 use Rattle.plan.proofs.Laws.{ones-same}
+use Rattle.service.specs.declared.Service.{Service}
 use Rattle.service.specs.View.{phase-of, view}
-use Rattle.service.specs.Calls.{close-refusal, closed}
+use Rattle.service.specs.Calls.{lent, close-refusal, closed}
 use Rattle.service.proofs.Refused.{past-phase, stopped, close-refused, close-taken}
-use Rattle.service.proofs.Service.close.Statement.{statement}
-use Rattle.service.proofs.Service.close.Tie as tie
+use Rattle.service.proofs.close_lent.Statement.{statement}
+use Rattle.service.proofs.close_lent.Tie as tie
 
 -- ---- what the tests that were passed tell
-phase-right : (c : tie.Else1) → let p = phase-of (c .before .before .before .args .t1 .head .phase) in (has-plan p ≡ true) × (is-gathering p ≡ true)
+phase-right : (c : tie.Else1) → let p = phase-of (c .before .before .args .head .phase) in (has-plan p ≡ true) × (is-gathering p ≡ true)
 phase-right c = past-phase _ _ (sym (c .before .not-gathering .ensures) ∙ c .if1 .left)
 
-a-plan : (c : tie.Else2) → plan-good (plan-of (c .before .before .before .before .before .before .args .t1 .head .plan)) ≡ true
+a-plan : (c : tie.Else2) → plan-good (plan-of (c .before .before .before .before .before .args .head .plan)) ≡ true
 a-plan c = sym (c .before .is-good .ensures) ∙ not-false _ (c .if2 .left)
 
-whole : (c : tie.After-complete-set) → c .complete-set .result ≡ gathered (view (c .before .before .before .before .before .before .before .before .before .before .before .args .t1))
+abbrev at-start : (c : tie.Else2) → Service
+at-start c = let a = c .before .before .before .before .before .args in lent (a .head) (a .first .now) (a .reply .now)
+
+whole : (c : tie.After-complete-set) → c .complete-set .result ≡ gathered (view (at-start (c .before .before .before)))
 unfolding gathered view
-whole c =
-    let e = c .before .before .before .before in
-    c .complete-set .ensures ∙ ap (complete-set _ _) (e .places-of .ensures .0)
+whole c = c .complete-set .ensures ∙ ap (complete-set _ _) (c .before .before .places-of .ensures .0)
 
 counted :
-    (c : tie.After-complete-set) → let s = c .before .before .before .before .before .before .before .before .before .before .before .args .t1 in
+    (c : tie.After-complete-set) → let s = at-start (c .before .before .before) in
     machine.ones (c .complete-set .result) ≡ ones (s .head .plan .users) (gathered (view s))
 unfolding gathered view
 counted c =
-    let s = c .before .before .before .before .before .before .before .before .before .before .before .args .t1 in
+    let s = at-start (c .before .before .before) in
     let h : c .complete-set .result < 2 ^ s .head .plan .users = rw (c .complete-set .ensures) (complete-below _ _ _) in
     ones-same _ _ h ∙ ap (ones (s .head .plan .users)) (whole c)
 
@@ -65,21 +67,20 @@ places-of-requires c κs = good _ (a-plan c)
 
 complete-set-requires : tie.Need-complete-set-requires
 complete-set-requires c κs =
-    let e = c .before .before .before .before in
-    let s = e .before .before .before .before .before .before .args .t1 in
+    let e = c .before .before in
     let g = good _ (a-plan e) in
-    let n : length (s .first) ≡ 768 = search needs in
-    (g .users-high, omega arith, c .before .before .before .places-of .ensures .1, omega arith)
+    let n : length (at-start e .first) ≡ 768 = search needs in
+    (g .users-high, omega arith, c .before .places-of .ensures .1, omega arith)
 
 returns-3 : tie.Need-returns-3
 unfolding close-refusal unless _then_
 returns-3 c =
     let d = c .before .before in
-    let e = d .before .before .before .before .before in
-    let s = e .before .before .before .before .before .before .args .t1 in
+    let e = d .before .before .before in
+    let s = at-start e in
     let p = phase-right (e .before .before .before) in
     let h : ones (s .head .plan .users) (gathered (view s)) < s .head .plan .threshold = omega (arith, counted d, c .if3 .taken) in
-    close-refused _ (λ z. omega arith) (simp (p .0, p .1, a-plan e, lt-leb _ _ h))
+    close-refused s (λ z. omega arith) (simp (p .0, p .1, a-plan e, lt-leb _ _ h))
 
 nothing-reply-requires : tie.Need-nothing-reply-requires
 nothing-reply-requires c κs = search needs
@@ -89,14 +90,14 @@ unfolding close-refusal closed unless _then_
 returns-4 c =
     let f = c .before in
     let d = f .before .before in
-    let e = d .before .before .before .before .before in
-    let s = e .before .before .before .before .before .before .args .t1 in
+    let e = d .before .before .before in
+    let s = at-start e in
     let p = phase-right (e .before .before .before) in
     let h : s .head .plan .threshold ≤ ones (s .head .plan .users) (gathered (view s)) = omega (arith, counted d, f .if3 .left) in
     rw (c .nothing-reply .ensures) (close-taken s (simp (p .0, p .1, a-plan e, le-leb _ _ h)) (whole d))
 
-pub close-spec : {M : Type 1} → statement M
-close-spec =
+pub close-lent-spec : {M : Type 1} → statement M
+close-lent-spec =
     tie.close
     (tie.spec
     not-gathering-requires

@@ -1,0 +1,78 @@
+-- `lines::put_few` meets its contract: how large the number is says how many digits it has.
+use mathlib.Core.Path.{_∙_}
+use native.Mathlib.Omega.{arith}
+use borrow.Author.Needs.{needs}
+use Rattle.lines.proofs.Decimals.{spell-parts, decimal-one, decimal-whole}
+use Rattle.lines.proofs.Lines.{put-append, put-as}
+use Rattle.lines.proofs.put_few.Statement.{statement}
+use Rattle.lines.proofs.put_few.Tie as tie
+
+put-one-requires : tie.Need-put-one-requires
+put-one-requires c κs = search needs
+
+same-length : tie.Need-same-length
+same-length c = search needs
+
+returns : tie.Need-returns
+returns c =
+    let n = c .before .before .before .before .before .before .args .n in
+    let p = c .before .before .put-one .ensures in
+    (omega (arith, p .0), put-as (p .1) (decimal-one n (omega arith)))
+
+put-two-requires : tie.Need-put-two-requires
+put-two-requires c κs = search needs
+
+same-length-2 : tie.Need-same-length-2
+same-length-2 c = search needs
+
+returns-2 : tie.Need-returns-2
+returns-2 c =
+    let n = c .before .before .before .before .before .before .before .args .n in
+    let p = c .before .before .put-two .ensures in
+    (omega (arith, p .0), put-as (p .1) (decimal-whole 1 n (omega arith) (omega arith) (omega arith)))
+
+put-one-requires-2 : tie.Need-put-one-requires-2
+put-one-requires-2 c κs = search needs
+
+put-two-requires-2 : tie.Need-put-two-requires-2
+put-two-requires-2 c κs = search needs
+
+same-length-3 : tie.Need-same-length-3
+same-length-3 c = search needs
+
+returns-3 : tie.Need-returns-3
+returns-3 c =
+    let n = c .before .before .before .before .before .before .before .before .before .before .before .before .args .n in
+    let p = c .before .before .put-two2 .ensures in
+    let q = c .before .before .before .before .before .before .put-one2 .ensures in
+    (omega (arith, p .0, q .0), put-as (put-append (q .1) (p .1)) (spell-parts 1 2 n ∙ decimal-whole 2 n (omega arith) (omega arith) (omega arith)))
+
+put-four-requires : tie.Need-put-four-requires
+put-four-requires c κs = search needs
+
+same-length-4 : tie.Need-same-length-4
+same-length-4 c = search needs
+
+returns-4 : tie.Need-returns-4
+returns-4 c =
+    let n = c .before .before .before .before .before .before .before .before .args .n in
+    let p = c .before .before .put-four .ensures in
+    (omega (arith, p .0), put-as (p .1) (decimal-whole 3 n (omega arith) (omega arith) (omega arith)))
+
+pub put-few-spec : {M : Type 1} → statement M
+put-few-spec =
+    tie.close
+    (tie.spec
+    put-one-requires
+    same-length
+    returns
+    put-two-requires
+    same-length-2
+    returns-2
+    put-one-requires-2
+    put-two-requires-2
+    same-length-3
+    returns-3
+    put-four-requires
+    same-length-4
+    returns-4)
