@@ -177,7 +177,7 @@ module _ (p : Plan) (r : ℕ) (good : Good p) (many : p .threshold ≤ ones (p .
         (row-value-small sixteen 8 7 laws16 (p .threshold) k (λ j. getD w (j - 1) 0))))
         (elements-zeros (8 - length (map (λ k. y k b) (users-in p r))))
 
--- ---- the system of the complete replies, and one block as the code solves it
+-- ---- the system of the complete replies
 module _ (s : System) (h : Prepared (s .plan) (s .users .set) s) where
   abbrev p : Plan
   p = plan-of (s .plan)

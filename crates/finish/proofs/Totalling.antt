@@ -15,7 +15,7 @@ use Rattle.scheme.specs.Scheme.{span, q, sixteen, sum, Plan, items, places, use
 use Rattle.scheme.specs.Totals.{total-of, totals}
 use Rattle.scheme.proofs.Lists.{span-in, map-same, high, low}
 use Rattle.solve.specs.Solve.{padded, cell}
-use Rattle.finish.specs.Finish.{rows-of, choice-of}
+use Rattle.finish.specs.Finish.{rows-of}
 use Rattle.finish.specs.Parts.{held-in, first-of, First-sums, total-from, place-total}
 use Rattle.finish.proofs.Padded.{padded-sets, sum-by-place}
 

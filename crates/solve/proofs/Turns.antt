@@ -1,14 +1,14 @@
 -- One turn of each loop.
 --   span-start, span-next, span-end                           what is left of the positions
 --   Weighing, weighing-start, weighing-more, weighing-end     a weight, factor by factor
---   sum-four, sum-eight, sum-short                            sums that are reduced at their end; summands that are 0
+--   sum-two, sum-both, sum-short                              sums that are reduced at their end; summands that are 0
 --   fits-next, fits-stop, fits-end                            a test of each further row
 -- Assumes nothing.
 use mathlib.Core.Path.{_≡_, refl, sym, ap, ap₂, _∙_}
 use mathlib.Core.Bool.{Bool, true, false, cond}
-use mathlib.Core.List.{List, [], _∷_}
+use mathlib.Core.List.{List, [], _∷_, _++_}
 use Prim.Native.Nat.{ℕ, zero, suc, _+_, _*_, _-_, _%_, _≤_, _<_}
-use native.Mathlib.Nat.{add-assoc, add-zero, zero-add, add-mod, mod-add-mod, mod-lt}
+use native.Mathlib.Nat.{add-zero, add-mod, mod-lt}
 use native.Mathlib.Numerals.{add-one}
 use native.Mathlib.Decide.{ℕ-discrete}
 use native.Mathlib.Omega.{arith}
@@ -18,12 +18,14 @@ use lib.ListN.{getD}
 use Rattle.algebra.specs.Field.{Field, sub}
 use Rattle.algebra.specs.Cauchy.{gap, weight}
 use Rattle.algebra.proofs.Field.{expand, one-mul}
+use Rattle.algebra.proofs.Sums.{sum-append as field-sum-append}
 use Rattle.algebra.proofs.Residue.{mods}
 use Rattle.scheme.specs.Scheme.{span, q, sixteen, sum}
 use Rattle.scheme.specs.Totals.{all-of}
 use Rattle.scheme.specs.Laws.{Laws}
+use Rattle.scheme.proofs.Sums.{el-same, sum-el, sum-small}
 use Rattle.solve.specs.Solve.{laws16, point, Points, gap-of, weight-at}
-use Rattle.solve.proofs.Numbers.{el-one, el-plus, el-times, val-of, gap-el}
+use Rattle.solve.proofs.Numbers.{el-one, el-plus, el-rest, el-times, val-of, gap-el}
 
 pub span-next : (n i : ℕ) → i < n → span (n - i) i ≡ i ∷ span (n - (i + 1)) (i + 1)
 span-next n i h = let e : n - i ≡ suc (n - (i + 1)) = omega arith in rw (e, add-one)
@@ -93,22 +95,18 @@ module _ (own other : List ℕ) (n a : ℕ) where
 
 -- ---- SUMS
 module _ (f : ℕ → ℕ) where
-  pub sum-four : (i s t u v : ℕ) → s % q ≡ f i % q → t % q ≡ f (i + 1) % q → u % q ≡ f (i + 2) % q → v % q ≡ f (i + 3) % q
-      → (s + (t + (u + v))) % q ≡ sum sixteen (span 4 i) f
+  pub sum-two : (i s t : ℕ) → s % q ≡ f i % q → t % q ≡ f (i + 1) % q → (s + t) % q ≡ sum sixteen (span 2 i) f
   unfolding sum
-  sum-four i s t u v a b c d =
-      let e : i + 2 ≡ suc (suc i) = omega arith in
-      let g : i + 3 ≡ suc (suc (suc i)) = omega arith in
-      more _ _ _ _ a
-      (more _ _ _ _ (b ∙ ap (λ (k : ℕ). f k % q) (add-one i))
-      (more _ _ _ _ (c ∙ ap (λ (k : ℕ). f k % q) e) (d ∙ ap (λ (k : ℕ). f k % q) g ∙ ap (λ (x : ℕ). x % q) (sym (add-zero (f (suc (suc (suc i)))))))))
-    where
-      more : (t x r s : ℕ) → t % q ≡ x % q → r % q ≡ s → (t + r) % q ≡ (x + s) % q
-      more t x r s e h = add-mod t r q ∙ ap₂ (λ (m n : ℕ). (m + n) % q) e h ∙ mod-add-mod x q s
+  sum-two i s t a b =
+      add-mod s t q ∙ ap₂ (λ (m n : ℕ). (m + n) % q) a (b ∙ ap (λ (k : ℕ). f k % q) (add-one i)) ∙ simp (mods, add-zero)
 
-  pub sum-eight : (s t : ℕ) → s % q ≡ sum sixteen (span 4 0) f → t % q ≡ sum sixteen (span 4 4) f → (s + t) % q ≡ sum sixteen (span 8 0) f
-  unfolding sum
-  sum-eight s t a b = add-mod s t q ∙ ap₂ (λ (m n : ℕ). (m + n) % q) a b ∙ simp mods (simp (add-assoc, zero-add))
+  -- the sums over two lists
+  pub sum-both : (l m : List ℕ) (s t : ℕ) → s % q ≡ sum sixteen l f → t % q ≡ sum sixteen m f → (s + t) % q ≡ sum sixteen (l ++ m) f
+  sum-both l m s t a b =
+      el-same sixteen 8 7 laws16 (mod-lt _ (lit< tt)) (sum-small sixteen 8 7 laws16 (l ++ m) f)
+      (el-rest (s + t) ∙ el-plus s t
+      ∙ ap₂ _⊕_ (sym (el-rest s) ∙ ap el a ∙ sum-el sixteen 8 7 laws16 l f) (sym (el-rest t) ∙ ap el b ∙ sum-el sixteen 8 7 laws16 m f)
+      ∙ sym (field-sum-append K l m (λ k. el (f k))) ∙ sym (sum-el sixteen 8 7 laws16 (l ++ m) f))
 
   -- summands that are 0 do not count
   sum-none : (n k : ℕ) → ((i : ℕ) → k ≤ i → f i ≡ 0) → sum sixteen (span n k) f ≡ 0

@@ -9,7 +9,7 @@
 --   unknown-at, solution-of    algebra's closed solution
 --   dot-of, fits-of            the value of a row; the rows from n to m - 1 have the values that follow from the unknowns
 --   cell, block                a grid: the number of a row and a block; the numbers of a block
---   Factors, combined          n factors; their sum of products with the numbers of a block
+--   Factors, product, combined n factors; the product of one with a number of a block; the sum of these
 --   inverse-at                 what the value of a row counts for an unknown
 --   Put                        numbers written from a place on
 --   Solved, row-fits           the unknowns of every block; whether a row of several blocks has the values that follow
@@ -97,8 +97,11 @@ pub record Factors (n : ℕ) (cs : List ℕ) : Type 0 where
   pub few : n ≤ 8
   pub behind : (i : ℕ) → n ≤ i → getD cs i 0 ≡ 0
 
+abbrev pub product : (factors grid : List ℕ) → (b i : ℕ) → ℕ
+product cs g b i = sixteen .multiply (getD cs i 0) (cell g i b)
+
 unfoldable pub combined : (factors grid : List ℕ) → (n b : ℕ) → ℕ
-combined cs g n b = sum sixteen (span n 0) (λ i. sixteen .multiply (getD cs i 0) (cell g i b))
+combined cs g n b = sum sixteen (span n 0) (product cs g b)
 
 -- in the row of the unknown with the point x and the weight w
 unfoldable pub inverse-at : (x : ℕ) → (points alpha : List ℕ) → (w a : ℕ) → ℕ

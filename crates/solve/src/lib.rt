@@ -1,7 +1,7 @@
 // Square Cauchy systems modulo 65521 by their closed solution, the systems of 16 blocks side by side.
 //   gap_of, weights         what depends on the points alone
 //   factors, inverse_row    a row of the system, and a row of its inverse
-//   dot, four               a row times the numbers of a block
+//   dot, two                a row times the numbers of a block
 //   put_row, solve          the unknowns of every block
 //   same_row, fits          whether further rows have the values that follow
 // Everything goes by position: row a has the point rows[a], 1 to 8, column i the point columns[i], 1 to 7, and of each array the
@@ -13,7 +13,7 @@ ghost use lib.Dec.{eqb};
 ghost use lib.ListN.{length, getD, replicate};
 ghost use Rattle.scheme.specs.Scheme.{span, q, sixteen, sum};
 ghost use Rattle.scheme.specs.Totals.{all-of};
-ghost use Rattle.solve.specs.Solve.{Points, Near, Ready, gap-of, weight-at, weights-of, filled, cell, Factors, combined, inverse-at, Put, Solved, row-fits};
+ghost use Rattle.solve.specs.Solve.{Points, Near, Ready, gap-of, weight-at, weights-of, filled, product, Factors, combined, inverse-at, Put, Solved, row-fits};
 
 // A plan has at most 16 blocks; with eight rows that makes 128 cells.
 pub const BLOCKS: usize = 16;
@@ -111,29 +111,31 @@ fn inverse_row(x: u32, points: &[u32; 8], alpha: &[u16; 8], weight: u16, n: usiz
     out
 }
 
-// Four products of a row and the numbers of a block, from position i on, not reduced.
-fn four(list: &[u16; 8], grid: &[u16; CELLS], i: usize, b: usize) -> u32
-    requires { ⌜ (i ≤ 4) × (b < 16) ⌝ }
-    ensures { λ r. ⌜ (r % q ≡ sum sixteen (span 4 i) (λ j. sixteen .multiply (getD (now (list .entry)) j 0) (cell (now (grid .entry)) j b))) × (r ≤ 4 * 1048560) ⌝ }
+// Two products of a row and the numbers of a block, from position i on, not reduced.
+fn two(list: &[u16; 8], grid: &[u16; CELLS], i: usize, b: usize) -> u32
+    requires { ⌜ (i ≤ 6) × (b < 16) ⌝ }
+    ensures { λ r. ⌜ (r % q ≡ sum sixteen (span 2 i) (product (now (list .entry)) (now (grid .entry)) b)) × (r ≤ 2 * 1048560) ⌝ }
 {
     let at = i * BLOCKS + b;
     let s = element::folded(list[i], grid[at]);
     let t = element::folded(list[i + 1], grid[at + 16]);
-    let u = element::folded(list[i + 2], grid[at + 32]);
-    let v = element::folded(list[i + 3], grid[at + 48]);
-    s + (t + (u + v))
+    s + t
 }
 
-// All products; the second four are 0 where at most four positions count.
+// The products of all positions that count; the others are 0.
 fn dot(list: &[u16; 8], grid: &[u16; CELLS], n: usize, b: usize) -> u32
     requires { ⌜ Factors n (now list) × (b < 16) ⌝ }
     ensures { λ r. ⌜ (r % q ≡ combined (now (list .entry)) (now (grid .entry)) n b) × (r ≤ 8 * 1048560) ⌝ }
 {
-    let low = four(list, grid, 0, b);
-    if n <= 4 {
+    let low = two(list, grid, 0, b);
+    if n <= 2 {
         return low;
     }
-    low + four(list, grid, 4, b)
+    let four = low + two(list, grid, 2, b);
+    if n <= 4 {
+        return four;
+    }
+    four + (two(list, grid, 4, b) + two(list, grid, 6, b))
 }
 
 // A row times the numbers of each block, written from `at` on.

@@ -1,6 +1,6 @@
 -- `finish::all_blocks` meets its contract. The loop's invariant: the totals of b blocks are written.
 -- The measure is how many are left. Assumes nothing.
-use Prim.Native.Nat.{_+_, _*_, _-_}
+use Prim.Native.Nat.{_-_}
 use native.Mathlib.Omega.{arith}
 use borrow.Author.Needs.{needs}
 use Rattle.finish.proofs.Totalling.{Totalling, totalling-start, totalling-room, totalling-more, totalling-end}

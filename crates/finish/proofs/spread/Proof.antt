@@ -1,6 +1,6 @@
 -- `finish::spread` meets its contract. The loop's invariant: the stores so far and those that are left are all of them.
 -- The measure is how many are left. Assumes nothing.
-use Prim.Native.Nat.{_+_, _-_}
+use Prim.Native.Nat.{_-_}
 use native.Mathlib.Omega.{arith}
 use borrow.Author.Needs.{needs}
 use Rattle.finish.specs.Parts.{total-from}
