@@ -243,12 +243,6 @@ fn no_totals() -> [u16; MOST_PLACES]
     [0; MOST_PLACES]
 }
 
-// Whether the complete replies are explained, and then the totals.
-struct Summed {
-    explained: bool,
-    totals: [u16; MOST_PLACES],
-}
-
 // The totals of all blocks: the sums of the first elements less those of the masks.
 fn all_blocks(
     sums: &[u32; MOST_PLACES],
@@ -268,6 +262,12 @@ fn all_blocks(
         b += 1;
     }
     totals
+}
+
+// Whether the complete replies are explained, and then the totals.
+struct Summed {
+    explained: bool,
+    totals: [u16; MOST_PLACES],
 }
 
 // From a set of at least U complete replies.

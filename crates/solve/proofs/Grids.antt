@@ -5,9 +5,9 @@
 use mathlib.Core.Path.{_≡_, refl, _∙_}
 use mathlib.Core.Logic.{⊎-elim}
 use mathlib.Core.List.{List}
-use Prim.Native.Nat.{ℕ, _+_, _*_, _≤_, _<_}
+use Prim.Native.Nat.{ℕ, _+_, _*_, _-_, _≤_, _<_}
 use native.Mathlib.Nat.{eq-or-lt-of-le}
-use native.Mathlib.Decide.{ℕ-discrete}
+use native.Mathlib.Decide.{decLt}
 use native.Mathlib.Omega.{arith}
 use lib.ListN.{length, getD, set, replicate, length-set, length-replicate}
 use lib.Seq.{getD-set-same, getD-set-other}
@@ -23,7 +23,7 @@ module _ (f : ℕ → ℕ) (n at : ℕ) (old : List ℕ) where
   pub putting-start : Putting f n at old 0 old
   putting-start = record {
     inside = omega arith;
-    put = record { long = refl; each = λ b h. absurd (none b h); kept = λ i h. refl; rest = λ i h. refl; small = λ m h l. l };
+    put = record { long = refl; each = λ b h. absurd (none b h); kept = λ i h. refl; rest = λ i h. refl };
   }
     where
       none : (b : ℕ) → b < 0 → ⊥
@@ -40,16 +40,21 @@ module _ (f : ℕ → ℕ) (n at : ℕ) (old : List ℕ) where
           (eq-or-lt-of-le (omega arith));
       kept = λ i m. getD-set-other new (at + b) i x 0 (λ same. omega arith) ∙ s .put .kept i m;
       rest = λ i m. getD-set-other new (at + b) i x 0 (λ same. omega arith) ∙ s .put .rest i (omega arith);
-      small = λ m low all i. keeps m low all i (ℕ-discrete i (at + b));
     };
   }
-    where
-      keeps : (m : ℕ) → ((j : ℕ) → j < b + 1 → f j < m) → ((i : ℕ) → getD old i 0 < m) → (i : ℕ) → Dec (i ≡ at + b) → getD (set new (at + b) x) i 0 < m
-      keeps m low all i (yes d) = rw (d, getD-set-same new (at + b) x 0 (omega (arith, s .put .long)), e) (low b (omega arith))
-      keeps m low all i (no d) = rw (getD-set-other new (at + b) i x 0 d) (s .put .small m (λ j k. low j (omega arith)) all i)
 
   pub putting-end : (b : ℕ) (new : List ℕ) → n ≤ b → Putting f n at old b new → Put f n at old new
   putting-end b new h s = let e : b ≡ n = omega (arith, s .inside) in rw (← e) (s .put)
+
+-- numbers below a bound stay below it
+put-small : {f : ℕ → ℕ} {n at : ℕ} {old new : List ℕ} → Put f n at old new → (m : ℕ) → ((b : ℕ) → b < n → f b < m) → ((i : ℕ) → getD old i 0 < m)
+    → (i : ℕ) → getD new i 0 < m
+put-small {n = n} {at = at} {new = new} p m low all i = go (decLt i at) (decLt i (at + n))
+  where
+    go : Dec (i < at) → Dec (i < at + n) → getD new i 0 < m
+    go (yes h) l = rw (p .kept i h) (all i)
+    go (no h) (yes l) = let e : i ≡ at + (i - at) = omega arith in rw (e, p .each (i - at) (omega arith)) (low (i - at) (omega arith))
+    go (no h) (no l) = rw (p .rest i (omega arith)) (all i)
 
 -- ---- i rows are written, in each the first m numbers
 pub record Rows (f : (a b : ℕ) → ℕ) (m i at : ℕ) (g : List ℕ) : Type 0 where
@@ -71,7 +76,7 @@ module _ (f : (a b : ℕ) → ℕ) (m : ℕ) where
     place = omega (arith, r .place);
     long = p .long ∙ r .long;
     each = λ a b l k. ⊎-elim (λ (d : a ≡ i). here a b d k) (λ (d : a < i). p .kept (a * 16 + b) (omega (arith, r .place)) ∙ r .each a b d k) (eq-or-lt-of-le (omega arith));
-    small = λ s z low. p .small s (λ b k. rw (same b k) (low i b (omega arith) k)) (r .small s z (λ a b l. low a b (omega arith)));
+    small = λ s z low. put-small p s (λ b k. rw (same b k) (low i b (omega arith) k)) (r .small s z (λ a b l. low a b (omega arith)));
   }
     where
       here : (a b : ℕ) → a ≡ i → b < m → cell new a b ≡ f a b

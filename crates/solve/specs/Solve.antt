@@ -107,13 +107,12 @@ combined cs g n b = sum sixteen (span n 0) (product cs g b)
 unfoldable pub inverse-at : (x : ℕ) → (points alpha : List ℕ) → (w a : ℕ) → ℕ
 inverse-at x ps ws w a = sixteen .multiply w (sixteen .multiply (getD ws a 0) (sixteen .coefficient x (getD ps a 0)) % q) % q
 
--- new is old with n numbers written from `at` on; the others stay, and numbers below a bound stay below it
+-- new is old with n numbers written from `at` on; the others stay
 pub record Put (f : ℕ → ℕ) (n at : ℕ) (old new : List ℕ) : Type 0 where
   pub long : length new ≡ length old
   pub each : (b : ℕ) → b < n → getD new (at + b) 0 ≡ f b
   pub kept : (i : ℕ) → i < at → getD new i 0 ≡ getD old i 0
   pub rest : (i : ℕ) → at + n ≤ i → getD new i 0 ≡ getD old i 0
-  pub small : (m : ℕ) → ((b : ℕ) → b < n → f b < m) → ((i : ℕ) → getD old i 0 < m) → (i : ℕ) → getD new i 0 < m
 
 pub record Solved (rows columns values : List ℕ) (n : ℕ) (out : List ℕ) : Type 0 where
   pub each : (i b : ℕ) → i < n → b < 16 → cell out i b ≡ unknown-at rows columns (block values b) n i

@@ -1,8 +1,8 @@
--- `finish::explain` meets its contract: proofs/Blocks.antt has what the solver's answer says of the replies. Assumes nothing.
+-- `finish::explain` meets its contract: proofs/Systems.antt has what the solver's answer says of the replies. Assumes nothing.
 use mathlib.Core.Path.{sym, _∙_}
 use borrow.Author.Needs.{needs}
 use borrow.Author.Tests.{not-true, not-false}
-use Rattle.finish.proofs.Blocks.{system-few, system-many, system-points, system-ready, unknowns-right, fits-right, nothing-fits}
+use Rattle.finish.proofs.Systems.{system-few, system-many, system-points, system-ready, unknowns-right, fits-right, nothing-fits}
 use Rattle.finish.proofs.explain.Statement.{statement}
 use Rattle.finish.proofs.explain.Tie as tie
 
