@@ -6,6 +6,7 @@
 //   element_refusal              the tests that both kinds of element share
 //   put_first, put_reply         the leaves that hold an element, on a lent array: the hot path
 //   complete_set                 the users with all their elements held
+//   clear                        drops all elements
 //   plan_lent, open_lent, close_lent     the leaves of the other calls: they copy no array
 //   Service::new, plan, open, first_element, close, reply_element
 // After a refusal the state is as before.
@@ -267,6 +268,14 @@ pub fn nothing_reply() -> [u16; REPLIES]
     [0; REPLIES]
 }
 
+// Drops what was held.
+pub fn clear(first: &mut [u16; FIRSTS], reply: &mut [u16; REPLIES])
+    ensures { λ r. ⌜ (now (first .exit) ≡ nothing-first) × (now (reply .exit) ≡ nothing-reply) ⌝ }
+{
+    *first = nothing_first();
+    *reply = nothing_reply();
+}
+
 // 11, 1, on lent arrays.
 pub fn plan_lent(
     head: Head,
@@ -292,8 +301,7 @@ pub fn plan_lent(
         round: 0,
         survivors: 0,
     };
-    *first = nothing_first();
-    *reply = nothing_reply();
+    clear(first, reply);
     SteppedHead {
         number: 0,
         head: idle,
@@ -321,8 +329,7 @@ pub fn open_lent(
         round,
         survivors: 0,
     };
-    *first = nothing_first();
-    *reply = nothing_reply();
+    clear(first, reply);
     SteppedHead {
         number: 0,
         head: gathering,

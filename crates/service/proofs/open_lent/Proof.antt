@@ -14,17 +14,14 @@ returns : tie.Need-returns
 unfolding open-step
 returns c = rw (← c .before .open-refusal .ensures, after-refused (c .if1 .taken) _ _)
 
-nothing-first-requires : tie.Need-nothing-first-requires
-nothing-first-requires c κs = search needs
-
-nothing-reply-requires : tie.Need-nothing-reply-requires
-nothing-reply-requires c κs = search needs
+clear-requires : tie.Need-clear-requires
+clear-requires c κs = search needs
 
 returns-2 : tie.Need-returns-2
 unfolding open-step opened after
 returns-2 c =
-    let e = c .before .before in
-    simp (sym (e .before .before .open-refusal .ensures) ∙ e .before .if1 .left, c .before .nothing-first .ensures, c .nothing-reply .ensures)
+    let e = c .before .before .before .before in
+    simp (sym (e .before .open-refusal .ensures) ∙ e .if1 .left, c .clear .ensures .0, c .clear .ensures .1)
 
 pub open-lent-spec : {M : Type 1} → statement M
-open-lent-spec = tie.close (tie.spec open-refusal-requires returns nothing-first-requires nothing-reply-requires returns-2)
+open-lent-spec = tie.close (tie.spec open-refusal-requires returns clear-requires returns-2)

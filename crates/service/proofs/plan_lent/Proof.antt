@@ -45,17 +45,15 @@ places-of-requires c κs = good _ (is-good c)
 cast-places : tie.Need-cast-places
 cast-places c = search needs
 
-nothing-first-requires : tie.Need-nothing-first-requires
-nothing-first-requires c κs = search needs
-
-nothing-reply-requires : tie.Need-nothing-reply-requires
-nothing-reply-requires c κs = search needs
+clear-requires : tie.Need-clear-requires
+clear-requires c κs = search needs
 
 returns-3 : tie.Need-returns-3
 unfolding plan-step plan-refusal planned after unless _then_
 returns-3 c =
-    let e = c .before .before .before in
-    simp (none-yet (e .before .before), is-good e, c .before .before .places-of .ensures .0, c .before .nothing-first .ensures, c .nothing-reply .ensures)
+    let d = c .before .before .before in
+    let e = d .before in
+    simp (none-yet (e .before .before), is-good e, d .places-of .ensures .0, c .clear .ensures .0, c .clear .ensures .1)
 
 pub plan-lent-spec : {M : Type 1} → statement M
 plan-lent-spec =
@@ -67,6 +65,5 @@ plan-lent-spec =
     returns-2
     places-of-requires
     cast-places
-    nothing-first-requires
-    nothing-reply-requires
+    clear-requires
     returns-3)
