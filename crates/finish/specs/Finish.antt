@@ -3,7 +3,8 @@
 --   choice-of, choice             the sums and noise of each block: the closed solution of the first U complete replies
 --   finish-refusal                11, 12, 15, 16; on a well-formed state the plan's test never acts
 --   finished, finish-refused      the state after a finish; what a refused one hands back
---   finish-step                   the whole answer
+--   finishing                     the same where head and arrays stand apart
+--   finish-answer, finish-step    the whole answer, of a refusal's number and of a state
 -- Assumes nothing: these are definitions.
 use mathlib.Core.List.{List, [], _∷_, map}
 use Prim.Native.Nat.{ℕ, zero, suc, _-_}
@@ -17,7 +18,8 @@ use Rattle.service.specs.declared.Phase.the-variants.{Idle}
 use Rattle.service.specs.declared.Head.{Head}
 use Rattle.service.specs.declared.Service.{Service}
 use Rattle.service.specs.View.{phase-of, view}
-use Rattle.service.specs.Calls.{nothing-first, nothing-reply}
+use Rattle.service.specs.Calls.{lent, nothing-first, nothing-reply}
+use Rattle.finish.specs.declared.FinishedHead.{FinishedHead}
 use Rattle.finish.specs.declared.Finished.{Finished}
 
 unfoldable pub rows-of : Plan → (set : ℕ) → List ℕ
@@ -53,6 +55,10 @@ finished h =
 -- a refused finish hands back its number alone: the totals are 0
 abbrev pub finish-refused : (number : ℕ) → Service → Finished
 finish-refused n s = record { number = n; totals = replicate 96 0; service = s }
+
+-- where head and arrays stand apart
+abbrev pub finishing : FinishedHead → (first reply : List ℕ) → Finished
+finishing r xs ys = record { number = r .number; totals = r .totals; service = lent (r .head) xs ys }
 
 unfoldable pub finish-answer : (refusal : ℕ) → Service → Finished
 finish-answer zero s = record { number = 0; totals = padded 96 (totals-by sixteen (view s) (choice s)); service = finished (s .head) }

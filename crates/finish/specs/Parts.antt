@@ -5,7 +5,7 @@
 --   first-of, Low, First-sums   the sum of the first elements of a place; of each place, not reduced
 --   total-from, place-total     the totals of a block, from a place on; of a place
 --   Totalled                    whether the replies are explained, and then the totals
---   state, given                a state by its parts; what finish answers of it
+--   given-refused, given        what finish answers of a state, without the state after it
 -- Assumes nothing: these are definitions.
 use mathlib.Core.Path.{_≡_}
 use mathlib.Core.Bool.{true}
@@ -19,7 +19,6 @@ use Rattle.scheme.specs.Service.{values}
 use Rattle.plan.specs.declared.Plan as code
 use Rattle.plan.specs.Plan.{plan-of}
 use Rattle.solve.specs.Solve.{padded, weights-of, cell}
-use Rattle.service.specs.declared.Head.{Head}
 use Rattle.service.specs.declared.Service.{Service}
 use Rattle.service.specs.View.{look}
 use Rattle.finish.specs.declared.Users.{Users}
@@ -78,9 +77,6 @@ pub record Totalled (p : Plan) (r v : ℕ) (first reply : List ℕ) (t : Summed)
   pub totals-right : t .explained ≡ true → t .totals ≡ padded 96 (totals sixteen p v (held-in 96 first) (choice-of p r (held-in 16 reply)))
 
 -- what finish hands back of a state, without the state after it
-abbrev pub state : Head → (first reply : List ℕ) → Service
-state h xs ys = record { head = h; first = xs; reply = ys }
-
 abbrev pub given-refused : (number : ℕ) → Given
 given-refused n = record { number = n; totals = replicate 96 0 }
 

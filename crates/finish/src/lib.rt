@@ -7,8 +7,9 @@
 //   first_sums, add_first            the sum of the first elements of each place
 //   all_blocks, spread, total        the totals: of all blocks, of a block, of a place
 //   Summed, totals_of                both, from the complete replies of a set
-//   Given, totals_given              what finish answers of lent arrays: 11, 12, 15, 16
-//   Finished, idle, finish           the call, with the state
+//   Given, totals_given              the answer: 11, 12, 15, 16
+//   FinishedHead, idle, finish_lent  the call on lent arrays
+//   Finished, finish                 the call with the state
 // The call is no method of the service: it is the only one that needs the solver.
 ghost use mathlib.Core.Path.{_≡_};
 ghost use mathlib.Core.List.{map};
@@ -18,9 +19,10 @@ ghost use lib.Seq.{sets};
 ghost use Rattle.scheme.specs.Scheme.{span, sixteen, ones};
 ghost use Rattle.scheme.specs.Good.{Good};
 ghost use Rattle.plan.specs.Plan.{plan-of};
+ghost use Rattle.service.specs.Calls.{lent};
 ghost use Rattle.solve.specs.Solve.{Points, padded, Put};
-ghost use Rattle.finish.specs.Finish.{columns, finished, finish-step};
-ghost use Rattle.finish.specs.Parts.{Listed, Prepared, Gathered, Blocks-solved, First-sums, Low, total-from, place-total, Totalled, state, given-refused, given};
+ghost use Rattle.finish.specs.Finish.{columns, finished, finishing, finish-step};
+ghost use Rattle.finish.specs.Parts.{Listed, Prepared, Gathered, Blocks-solved, First-sums, Low, total-from, place-total, Totalled, given-refused, given};
 use plan::MOST_PLACES;
 use plan::Plan;
 use service::BLOCKS;
@@ -302,7 +304,7 @@ fn totals_of<'a>(
 }
 
 // 0 and the totals in the first L places, or the refusal's number and no totals.
-pub struct Given {
+struct Given {
     pub number: u32,
     pub totals: [u16; MOST_PLACES],
 }
@@ -317,8 +319,8 @@ fn refused(number: u32) -> Given
 }
 
 // What finish answers of a state whose arrays are lent. The plan's test never acts on a state that calls make.
-pub fn totals_given<'a>(head: Head, first: &'a [u16; FIRSTS], reply: &'a [u16; REPLIES]) -> Given
-    ensures { λ r. ⌜ r ≡ given (state head (now (first .entry)) (now (reply .entry))) ⌝ }
+fn totals_given<'a>(head: Head, first: &'a [u16; FIRSTS], reply: &'a [u16; REPLIES]) -> Given
+    ensures { λ r. ⌜ r ≡ given (lent head (now (first .entry)) (now (reply .entry))) ⌝ }
 {
     let phase = head.phase;
     let number = service::not_replying(phase);
@@ -342,7 +344,7 @@ pub fn totals_given<'a>(head: Head, first: &'a [u16; FIRSTS], reply: &'a [u16; R
 }
 
 // Idle, with no survivors.
-pub fn idle(head: Head) -> Head
+fn idle(head: Head) -> Head
     ensures { λ r. ⌜ r ≡ finished head .head ⌝ }
 {
     let plan = head.plan;
@@ -355,6 +357,13 @@ pub fn idle(head: Head) -> Head
     }
 }
 
+// The answer, and the head after it.
+pub struct FinishedHead {
+    pub number: u32,
+    pub totals: [u16; MOST_PLACES],
+    pub head: Head,
+}
+
 // The answer and the state.
 pub struct Finished {
     pub number: u32,
@@ -363,29 +372,46 @@ pub struct Finished {
 }
 
 // "Finish uses every survivor with all M blocks held, ignores partial replies, gives the total and returns to idle." After a refusal
-// the state is as before.
+// the state is as before. On lent arrays.
+pub fn finish_lent(head: Head, first: &mut [u16; FIRSTS], reply: &mut [u16; REPLIES]) -> FinishedHead
+    ensures { λ r. ⌜ finishing r (now (first .exit)) (now (reply .exit)) ≡ finish-step (lent head (now (first .entry)) (now (reply .entry))) ⌝ }
+{
+    let given = totals_given(head, first, reply);
+    let number = given.number;
+    let totals = given.totals;
+    if number != 0 {
+        return FinishedHead {
+            number,
+            totals,
+            head,
+        };
+    }
+    service::clear(first, reply);
+    FinishedHead {
+        number,
+        totals,
+        head: idle(head),
+    }
+}
+
 pub fn finish(service: Service) -> Finished
     ensures { λ r. ⌜ r ≡ finish-step service ⌝ }
 {
     let head = service.head;
-    let given = totals_given(head, &service.first, &service.reply);
-    let number = given.number;
-    let totals = given.totals;
-    if number != 0 {
-        return Finished {
-            number,
-            totals,
-            service,
-        };
-    }
-    let cleared = Service {
-        head: idle(head),
-        first: service::nothing_first(),
-        reply: service::nothing_reply(),
+    let mut first = service.first;
+    let mut reply = service.reply;
+    let step = finish_lent(head, &mut first, &mut reply);
+    let number = step.number;
+    let totals = step.totals;
+    let next = step.head;
+    let service = Service {
+        head: next,
+        first,
+        reply,
     };
     Finished {
         number,
         totals,
-        service: cleared,
+        service,
     }
 }

@@ -17,10 +17,10 @@ use Rattle.plan.specs.Plan.{plan-of}
 use Rattle.plan.proofs.Laws.{ones-same}
 use Rattle.solve.specs.Solve.{padded}
 use Rattle.service.specs.declared.Service.{Service}
+use Rattle.service.specs.Calls.{lent}
 use Rattle.service.specs.View.{phase-of, view}
 use Rattle.service.proofs.Refused.{past-phase, stopped}
 use Rattle.finish.specs.Finish.{choice, finish-refusal}
-use Rattle.finish.specs.Parts as parts
 use Rattle.finish.proofs.Answers.{refused-right, given-right, Ripe, ripe-refusal, totalled-right}
 use Rattle.finish.proofs.totals_given.Statement.{statement}
 use Rattle.finish.proofs.totals_given.Tie as tie
@@ -34,7 +34,7 @@ a-plan c = sym (c .before .is-good .ensures) ∙ not-false _ (c .if2 .left)
 
 -- the state, where the complete set is known
 abbrev state : tie.After-complete-set → Service
-state c = let a = c .before .before .before .before .before .before .before .before .args in parts.state (a .head) (a .first .now) (a .reply .now)
+state c = let a = c .before .before .before .before .before .before .before .before .args in lent (a .head) (a .first .now) (a .reply .now)
 
 whole : (c : tie.After-complete-set) → c .complete-set .result ≡ replied (view (state c))
 unfolding replied view
