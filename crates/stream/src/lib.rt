@@ -200,26 +200,14 @@ fn take_finish(
 {
     let round = head.round;
     let plan = head.plan;
-    let firsts = *first;
-    let replies = *reply;
-    let before = Service {
-        head,
-        first: firsts,
-        reply: replies,
-    };
-    let finished = finish::finish(before);
-    let number = finished.number;
-    let totals = finished.totals;
+    let step = finish::finish_lent(head, first, reply);
+    let number = step.number;
+    let totals = step.totals;
+    let next = step.head;
     if number != 0 {
         let wrote = lines::put_refusal(out, at, number, offset);
-        return Turned { head, wrote };
+        return Turned { head: next, wrote };
     }
-    let service = finished.service;
-    let next = service.head;
-    let firsts = service.first;
-    let replies = service.reply;
-    *first = firsts;
-    *reply = replies;
     let places = plan::places_of(plan);
     let wrote = lines::put_total(out, at, round, &totals, places);
     Turned { head: next, wrote }

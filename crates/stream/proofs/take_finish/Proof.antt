@@ -7,18 +7,17 @@ use borrow.Author.Needs.{needs}
 use Rattle.scheme.specs.Scheme.{places}
 use Rattle.scheme.specs.Service.{totalled}
 use Rattle.plan.specs.Plan.{plan-of}
-use Rattle.service.specs.Calls.{lent}
 use Rattle.service.specs.Promise.{told}
 use Rattle.finish.specs.declared.Finished.{Finished}
 use Rattle.lines.specs.Text.{line}
 use Rattle.lines.proofs.Lines.{put-as}
 use Rattle.stream.specs.Stream.{step}
-use Rattle.stream.proofs.Turns.{turn-taken, turn-refused, finish-kept, finish-good}
+use Rattle.stream.proofs.Turns.{turn-taken, turn-refused, finish-good}
 use Rattle.stream.proofs.take_finish.Statement.{statement}
 use Rattle.stream.proofs.take_finish.Tie as tie
 
-finish-requires : tie.Need-finish-requires
-finish-requires c κs = search needs
+finish-lent-requires : tie.Need-finish-lent-requires
+finish-lent-requires c κs = search needs
 
 put-refusal-requires : tie.Need-put-refusal-requires
 put-refusal-requires c κs = search needs
@@ -29,18 +28,16 @@ same-length c = search needs
 returns : tie.Need-returns
 unfolding step
 returns c =
-    let x = c .before .before .before .before .before .before in
+    let x = c .before .before .before .before .before .before .before in
     let a = x .before .before .before .before .before .args in
-    let e = x .finish .ensures in
-    let s = lent (a .head) (a .first .now) (a .reply .now) in
-    let n = ap (λ (r : Finished). r .number) e in
-    turn-refused s _ _ _ _ _ s _ _ (totalled (a .head .round) (take (places (plan-of (a .head .plan))) (x .finish .result .totals)))
-    (finish-kept s (λ z. c .before .before .before .before .if1 .taken (n ∙ z)))
+    let e = x .finish-lent .ensures in
+    turn-refused _ _ _ _ _ _ _ _ _ (totalled (a .head .round) (take (places (plan-of (a .head .plan))) (x .finish-lent .result .totals)))
+    (ap (λ (r : Finished). r .service) e)
     (ap (λ (r : Finished). told (r .number) (totalled (a .head .round) (take (places (plan-of (a .head .plan))) (r .totals)))) e)
     (c .before .before .before .before .if1 .taken) (c .before .before .put-refusal .ensures .1)
 
 places-of-requires : tie.Need-places-of-requires
-places-of-requires c κs = finish-good _ (sym (ap (λ (r : Finished). r .number) (c .before .before .before .before .before .before .finish .ensures)) ∙ c .before .before .before .before .if1 .left)
+places-of-requires c κs = finish-good _ (sym (ap (λ (r : Finished). r .number) (c .before .before .before .finish-lent .ensures)) ∙ c .if1 .left)
 
 put-total-requires : tie.Need-put-total-requires
 put-total-requires c κs = search needs
@@ -51,21 +48,21 @@ same-length-2 c = search needs
 returns-2 : tie.Need-returns-2
 unfolding step
 returns-2 c =
-    let x = c .before .before .before .before .before .before .before .before .before .before .before .before in
+    let x = c .before .before .before .before .before .before .before .before .before in
     let a = x .before .before .before .before .before .args in
-    let e = x .finish .ensures in
-    let ts = x .finish .result .totals in
+    let e = x .finish-lent .ensures in
+    let ts = x .finish-lent .result .totals in
     turn-taken _ _ _ _ _ _ _ _ _ (totalled (a .head .round) (take (places (plan-of (a .head .plan))) ts))
     (ap (λ (r : Finished). r .service) e)
     (ap (λ (r : Finished). told (r .number) (totalled (a .head .round) (take (places (plan-of (a .head .plan))) (r .totals)))) e)
-    (c .before .before .before .before .before .before .before .before .before .before .if1 .left)
+    (c .before .before .before .before .before .before .if1 .left)
     (put-as (c .before .before .put-total .ensures .1 _) (ap (λ (i : ℕ). line (a .offset) (totalled (a .head .round) (take i ts))) (c .before .before .before .before .before .places-of .ensures .0)))
 
 pub take-finish-spec : {M : Type 1} → statement M
 take-finish-spec =
     tie.close
     (tie.spec
-    finish-requires
+    finish-lent-requires
     put-refusal-requires
     same-length
     returns
