@@ -239,15 +239,17 @@ pub extern "C" fn cutawheno_service_finish(
     ensures left { λ r. ⌜ arrays (now (head .exit)) (now (first .exit)) (now (reply .exit)) ≡ finish-left (arrays (now (head .entry)) (now (first .entry)) (now (reply .entry))) ⌝ }
     ensures totals { λ r. ⌜ now (totals .exit) ≡ finish-totals (arrays (now (head .entry)) (now (first .entry)) (now (reply .entry))) (now (totals .entry)) ⌝ }
 {
-    let before = state(head, first, reply);
-    let finished = finish::finish(before);
-    let number = finished.number;
-    let sums = finished.totals;
+    let held = head_at(head);
+    let given = finish::totals_given(held, first, reply);
+    let number = given.number;
+    let sums = given.totals;
     if number != 0 {
         return number;
     }
-    let next = finished.service;
-    store(next, head, first, reply);
+    let idle = finish::idle(held);
+    *head = numbers(idle);
+    *first = service::nothing_first();
+    *reply = service::nothing_reply();
     *totals = sums;
     0
 }

@@ -1,13 +1,15 @@
 -- What several proofs share.
---   message-fits, message-written        where a first message is taken: the buffer is no longer than figures and key, and the message fills it
+--   message-fits, message-clean, message-written    where a first message is taken: the buffer is no longer than figures and key, both are elements,
+--                                                   and the message fills it
 --   Answers, reply-answers, reply-taken, answers-held    what holds where a reply is taken, and that it is taken
 --   start-refused, moved-number, moved-taken, moved-refused, part-given    what start, first message, reply and part hand back
 -- Assumes nothing.
 use mathlib.Core.Path.{_≡_, refl, ap}
-use mathlib.Core.Bool.{true, false}
+use mathlib.Core.Bool.{true, false, _&&_}
 use mathlib.Core.List.{List}
 use Prim.Native.Nat.{ℕ, zero, suc, _≤_}
 use native.Mathlib.Omega.{arith}
+use lib.Dec.{eqb}
 use lib.ListN.{length}
 use borrow.Author.Tests.{eqb-true, eq-eqb}
 use Rattle.scheme.specs.Scheme as scheme
@@ -23,15 +25,21 @@ use Rattle.client.specs.declared.Start.the-variants.{Refused}
 use Rattle.client.specs.Client.{answer-refusal, start-answer, moved, has-answered, gives, part-of}
 
 module _ (A : Arithmetic) (p : scheme.Plan) (k : ℕ) (g : scheme.Stage) (ks fs : List ℕ) (out : ℕ) (e : message-refusal A p k g ks fs out ≡ 0) where
-  message-lengths : (length ks ≡ key-length p k) × (length fs ≡ places p) × (out ≡ places p)
+  message-tests : (unless (eqb (length ks) (key-length p k) && (eqb (length fs) (places p) && eqb out (places p))) 2 ≡ 0) × (unless (elements A ks && elements A fs) 3 ≡ 0)
   unfolding message-refusal
+  message-tests = then-zero _ _ (then-zero _ _ (then-zero _ _ e .1) .1)
+
+  message-lengths : (length ks ≡ key-length p k) × (length fs ≡ places p) × (out ≡ places p)
   message-lengths =
-      let l = both _ _ (unless-zero _ _ (then-zero _ _ (then-zero _ _ (then-zero _ _ e .1) .1) .0)) in
+      let l = both _ _ (unless-zero _ _ (message-tests .0)) in
       let m = both _ _ (l .1) in
       (eqb-true _ _ (l .0), eqb-true _ _ (m .0), eqb-true _ _ (m .1))
 
   pub message-fits : (out ≤ length fs) × (out ≤ length ks)
   message-fits = let l = message-lengths in (omega arith, omega (arith, masks-inside p k))
+
+  pub message-clean : (elements A fs ≡ true) × (elements A ks ≡ true)
+  message-clean = let l = both _ _ (unless-zero _ _ (message-tests .1)) in (l .1, l .0)
 
   pub message-written : each (A .add) out fs ks ≡ first-message A p ks fs
   unfolding first-message
@@ -69,7 +77,6 @@ module _ {A : Arithmetic} {p : scheme.Plan} {k : ℕ} {ks : List ℕ} {v : ℕ} 
   unfolding usable-with
   answers-held a = joined (a .whole) (a .member)
 
--- ---- a row written place by place
 -- ---- what is handed back
 pub start-refused : {n : ℕ} → (n ≡ 0 → ⊥) → (p : Plan) (k : ℕ) → start-answer n p k ≡ Refused n
 unfolding start-answer

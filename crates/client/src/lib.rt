@@ -5,9 +5,10 @@
 //   Client::start, first_message, reply, part
 // A refused call hands back its number alone: the end and every lent buffer are as before.
 ghost use mathlib.Core.Path.{_≡_};
+ghost use mathlib.Core.Bool.{true};
 ghost use Prim.Native.Nat.{_+_, _*_, _≤_};
 ghost use lib.ListN.{length};
-ghost use Rattle.scheme.specs.Scheme.{each, sixteen, is-fresh, open-to};
+ghost use Rattle.scheme.specs.Scheme.{each, sixteen, elements, is-fresh, open-to};
 ghost use Rattle.client.specs.Client.{stage-of, started, first-refusal, first-answer, message-left, answer-refusal, reply-answer, has-answered, part-of, part-start};
 use plan::Plan;
 
@@ -66,6 +67,7 @@ fn has_answered(set: u32, stage: Stage) -> bool
 // Figures plus masks, place by place: the first elements of a key are its masks.
 fn add_masks(figures: &[u16], key: &[u16], out: &mut [u16])
     requires { ⌜ (length (now out) ≤ length (now figures)) × (length (now out) ≤ length (now key)) ⌝ }
+    requires { ⌜ (elements sixteen (now figures) ≡ true) × (elements sixteen (now key) ≡ true) ⌝ }
     ensures { λ r. ⌜ now (out .exit) ≡ each (sixteen .add) (length (now (out .entry))) (now (figures .entry)) (now (key .entry)) ⌝ }
 {
     let mut i = 0;

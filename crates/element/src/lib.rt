@@ -1,20 +1,27 @@
 // Elements of document 01: whole numbers modulo 65521, held in 16 bits.
 //   Q                         the modulus
 //   add, subtract, multiply   of any two 16-bit numbers, through wider integers; the result is an element
+//   reduce, folded            n % Q and a product without a division
 //   inverse_of, coefficient   from a table of the inverses below 16
 //   is_element, all_elements  test 3 of document 01
 ghost use mathlib.Core.Path.{_≡_};
-ghost use Prim.Native.Nat.{_+_, _%_, _<_};
+ghost use Prim.Native.Nat.{_+_, _-_, _*_, _%_, _≤_, _<_};
 ghost use lib.Dec.{ltb};
 ghost use Rattle.algebra.specs.Residue.{inverse};
 ghost use Rattle.scheme.specs.Scheme.{q, sixteen, elements};
 
 pub const Q: u32 = 65521;
 
+// Of two elements, all in 16 bits, so that many are added at a time.
 pub fn add(a: u16, b: u16) -> u16
+    requires { ⌜ (a < q) × (b < q) ⌝ }
     ensures { λ r. ⌜ r ≡ sixteen .add a b ⌝ }
 {
-    ((a as u32 + b as u32) % Q) as u16
+    let rest = 65521 - b;
+    if a < rest {
+        return a + b;
+    }
+    a - rest
 }
 
 // The subtrahend is reduced first, so that nothing falls below zero.
@@ -28,6 +35,26 @@ pub fn multiply(a: u16, b: u16) -> u16
     ensures { λ r. ⌜ r ≡ sixteen .multiply a b % q ⌝ }
 {
     (a as u32 * b as u32 % Q) as u16
+}
+
+// n % Q without a division: 65536 is 15 more than Q, so the high half counts 15 fold.
+pub fn reduce(n: u32) -> u16
+    requires { ⌜ n < 268435456 ⌝ }
+    ensures { λ r. ⌜ r ≡ n % q ⌝ }
+{
+    let once = n % 65536 + n / 65536 * 15;
+    if once < Q {
+        return once as u16;
+    }
+    (once - Q) as u16
+}
+
+// A product not reduced, but below 2 ^ 20, so that many are added in 32 bits.
+pub fn folded(a: u16, b: u16) -> u32
+    ensures { λ r. ⌜ (r % q ≡ a * b % q) × (r ≤ 1048560) ⌝ }
+{
+    let n = a as u32 * b as u32;
+    n % 65536 + n / 65536 * 15
 }
 
 // The inverses of 1 to 15 modulo Q; at 0, which has none, the 1 that the definition gives.
@@ -71,17 +98,25 @@ pub fn is_element(x: u16) -> bool
     (x as u32) < Q
 }
 
+// How far x is past the last element: 0 of an element.
+fn excess(x: u16) -> u16
+    ensures { λ r. ⌜ r ≡ x - 65520 ⌝ }
+{
+    if 65520 < x {
+        return x - 65520;
+    }
+    0
+}
+
 // "Test 3 looks through every list lent to be read, whole." Without an early end many numbers are tested at a time.
 pub fn all_elements(list: &[u16]) -> bool
     ensures { λ r. ⌜ r ≡ elements sixteen (now (list .entry)) ⌝ }
 {
-    let mut good = true;
+    let mut past: u16 = 0;
     let mut i = 0;
     while i < list.len() {
-        if !is_element(list[i]) {
-            good = false;
-        }
+        past = past | excess(list[i]);
         i += 1;
     }
-    good
+    past == 0
 }

@@ -1,10 +1,16 @@
 -- What finish hands back.
-use mathlib.Core.Path.{_≡_, refl, sym, subst}
+--   prepared-own, solved-same        the system by the plan and the set that it holds
+--   refused-right, given-right       the answer, refused and taken
+--   left-refused, left-taken         the answer with the state
+--   Ripe, ripe-refusal               the tests before 16 are passed
+--   totalled-right                   the totals of the code, where its set is that of the complete replies
+-- Assumes nothing.
+use mathlib.Core.Path.{_≡_, refl, sym, ap, _∙_, subst}
 use mathlib.Core.List.{List}
 use mathlib.Core.Bool.{true}
 use Prim.Native.Nat.{ℕ, zero, suc, _≤_}
+use native.Mathlib.Omega.{arith}
 use borrow.Author.Tests.{le-leb}
-use Rattle.scheme.specs.Scheme as scheme
 use Rattle.scheme.specs.Scheme.{sixteen, plan-good, ones, unless, _then_}
 use Rattle.scheme.specs.Service.{has-plan, is-replying, replied, explained-by, totals-by}
 use Rattle.plan.specs.declared.Plan.{Plan}
@@ -12,34 +18,49 @@ use Rattle.plan.specs.Plan.{plan-of}
 use Rattle.solve.specs.Solve.{padded}
 use Rattle.service.specs.declared.Service.{Service}
 use Rattle.service.specs.View.{phase-of, view}
-use Rattle.finish.specs.declared.Users.{Users}
 use Rattle.finish.specs.declared.System.{System}
+use Rattle.finish.specs.declared.Explained.{Explained}
 use Rattle.finish.specs.declared.Summed.{Summed}
-use Rattle.finish.specs.Finish.{choice, finish-refusal, finished, finish-refused, finish-answer, finish-step}
-use Rattle.finish.specs.Parts.{Listed, Prepared, Totalled}
+use Rattle.finish.specs.declared.Given.{Given}
+use Rattle.finish.specs.Finish.{choice, finish-refusal, finished, finish-answer, finish-step}
+use Rattle.finish.specs.Parts.{Prepared, Blocks-solved, Totalled, given-refused, given}
 
--- ---- the users, the system and the totals by the plan and the sets that they hold
-pub listed-own : {p : scheme.Plan} {v : ℕ} {us : Users} → Listed p v us → Listed p (us .set) us
-listed-own {p} {v} {us} h = subst (λ (w : ℕ). Listed p w us) (sym (h .set-kept)) h
-
+-- ---- the system by the plan and the set that it holds
 pub prepared-own : {p : Plan} {r : ℕ} {s : System} → Prepared p r s → Prepared (s .plan) (s .users .set) s
 prepared-own {p} {r} {s} h =
     subst (λ (k : Plan). Prepared k (s .users .set) s) (sym (h .plan-kept)) (subst (λ (w : ℕ). Prepared p w s) (sym (h .listed .set-kept)) h)
 
-pub totalled-same : {p q : Plan} {r s v w : ℕ} {xs ys : List ℕ} {t : Summed} → p ≡ q → r ≡ s → v ≡ w
-    → Totalled (plan-of p) r v xs ys t → Totalled (plan-of q) s w xs ys t
-totalled-same e d f h = rw (← e, ← d, ← f) h
+pub solved-same : {p : Plan} {r : ℕ} {s : System} {ys : List ℕ} {e : Explained} → Prepared p r s
+    → Blocks-solved (plan-of (s .plan)) (s .users .set) ys e → Blocks-solved (plan-of p) r ys e
+solved-same h b = rw (← h .plan-kept, ← h .listed .set-kept) b
 
 -- ---- refused, and taken
-pub refused-right : (s : Service) {n : ℕ} → (n ≡ 0 → ⊥) → finish-refusal s ≡ n → finish-refused n s ≡ finish-step s
-unfolding finish-step finish-answer
+pub refused-right : (s : Service) {n : ℕ} → (n ≡ 0 → ⊥) → finish-refusal s ≡ n → given-refused n ≡ given s
+unfolding given finish-step finish-answer
 refused-right s {n = zero} h e = absurd (h refl)
 refused-right s {n = suc n} h e = rw e
 
-pub finished-right : (s : Service) (ts : List ℕ) → finish-refusal s ≡ 0 → ts ≡ padded 96 (totals-by sixteen (view s) (choice s))
-    → record { number = 0; totals = ts; service = finished (s .head) } ≡ finish-step s
-unfolding finish-step finish-answer
-finished-right s ts h e = rw (h, e)
+pub given-right : (s : Service) (ts : List ℕ) → finish-refusal s ≡ 0 → ts ≡ padded 96 (totals-by sixteen (view s) (choice s))
+    → record { number = 0; totals = ts } ≡ given s
+unfolding given finish-step finish-answer
+given-right s ts h e = rw (h, e)
+
+-- ---- the answer with the state
+pub left-refused : (s : Service) (g : Given) → (g .number ≡ 0 → ⊥) → g ≡ given s → record { number = g .number; totals = g .totals; service = s } ≡ finish-step s
+unfolding given finish-step finish-answer
+left-refused s g h e = (λ i. record { number = e i .number; totals = e i .totals; service = s }) ∙ kept (finish-refusal s) (λ z. h (ap (λ (g : Given). g .number) e ∙ z))
+  where
+    kept : (m : ℕ) → (finish-answer m s .number ≡ 0 → ⊥) → record { number = finish-answer m s .number; totals = finish-answer m s .totals; service = s } ≡ finish-answer m s
+    kept zero h = absurd (h refl)
+    kept (suc m) h = refl
+
+pub left-taken : (s : Service) (g : Given) → g .number ≡ 0 → g ≡ given s → record { number = g .number; totals = g .totals; service = finished (s .head) } ≡ finish-step s
+unfolding given finish-step finish-answer
+left-taken s g h e = (λ i. record { number = e i .number; totals = e i .totals; service = finished (s .head) }) ∙ left (finish-refusal s) (sym (ap (λ (g : Given). g .number) e) ∙ h)
+  where
+    left : (m : ℕ) → finish-answer m s .number ≡ 0 → record { number = finish-answer m s .number; totals = finish-answer m s .totals; service = finished (s .head) } ≡ finish-answer m s
+    left zero z = refl
+    left (suc m) z = absurd (omega arith)
 
 -- ---- the tests before 16 are passed
 pub record Ripe (s : Service) : Type 0 where

@@ -1,17 +1,17 @@
 -- One block: the closed solution of the first U complete replies.
---   columns-points, rows-square, listed-few, listed-points      the points of columns and rows
+--   columns-points, users-few, enough-rows, rows-square, listed-few, listed-points      the points of columns and rows
+--   value-at                        the reply of a row
 --   values-small, choice-first      where the replies are elements, it explains the first U of them
 --   fits-same                       and it explains all exactly if the further replies fit
 --   explained-small                 replies that something explains are elements
---   system-few, system-many, system-points, system-ready        the system as the code has it
---   block-right, block-wrong        the block as the code solves it
+--   same-test                       two tests of which each gives the other
 -- Assumes nothing.
-use mathlib.Core.Path.{_≡_, refl, sym, ap, ap₂, _∙_, subst}
+use mathlib.Core.Path.{_≡_, refl, sym, _∙_, subst}
 use mathlib.Core.Bool.{Bool, true, false, _&&_}
 use mathlib.Core.List.{List, map}
 use Prim.Native.Nat.{ℕ, zero, suc, _+_, _-_, _≤_, _<_}
 use native.Mathlib.Omega.{arith}
-use lib.Dec.{eqb, lit<}
+use lib.Dec.{eqb}
 use lib.ListN.{length, getD, take, replicate, length-map}
 use lib.Seq.{take-at}
 use borrow.Author.Tests.{eq-eqb, eqb-true}
@@ -21,20 +21,15 @@ use Rattle.scheme.specs.Good.{Good}
 use Rattle.scheme.specs.Totals.{all-of, explains}
 use Rattle.scheme.proofs.Lists.{map-span-length, in-span, members-once, members-le}
 use Rattle.scheme.proofs.Sums.{row-value-small}
-use Rattle.scheme.proofs.Keys.{elements-at, elements-map, elements-append}
+use Rattle.scheme.proofs.Keys.{elements-map, elements-append}
 use Rattle.scheme.proofs.Tests.{both, joined, is-false, holds}
 use Rattle.scheme.proofs.Sets.{users-in-in, users-in-size}
 use Rattle.scheme.proofs.Totals.{all-of-in, at-all-of, in-at, at-apart, Explained}
-use Rattle.plan.specs.Plan.{plan-of}
-use Rattle.solve.specs.Solve.{laws16, Points, Square, Ready, padded, filled, solution-of, fits-of}
-use Rattle.solve.specs.Solve as solved
-use Rattle.solve.specs.declared.Explained as code
+use Rattle.solve.specs.Solve.{laws16, Points, Square, padded, filled, solution-of, fits-of}
 use Rattle.solve.proofs.Explains.{points-some, Block, explains-first, fits-explains, explains-fits}
 use Rattle.solve.proofs.Filled.{padded-at}
 use Rattle.finish.specs.Finish.{rows-of, values-of, columns, choice-of}
-use Rattle.finish.specs.Parts.{held-in, Prepared, Block-solved}
-use Rattle.finish.specs.declared.System.{System}
-use Rattle.finish.proofs.Padded.{map-at, map-by-place}
+use Rattle.finish.proofs.Padded.{map-at}
 
 -- ---- the points
 column-at : (i : ℕ) → i < 7 → getD columns i 0 ≡ i + 1
@@ -47,7 +42,7 @@ columns-points n h = record {
   apart = λ i k a b ne e. ne (omega (arith, column-at i (omega arith), column-at k (omega arith)));
 }
 
-users-few : (p : Plan) (v : ℕ) → length (users-in p v) ≤ p .users
+pub users-few : (p : Plan) (v : ℕ) → length (users-in p v) ≤ p .users
 unfolding users-in
 users-few p v = members-le (in-set v) (p .users) 1
 
@@ -87,7 +82,7 @@ unfolding explains
 facts-explains p r y w e =
     joined (joined (eq-eqb _ _ (e .long)) (e .small)) (at-all-of _ (users-in p r) (λ a i. eq-eqb _ _ (e .fits a i)))
 
-same-test : (a b : Bool) → (a ≡ true → b ≡ true) → (b ≡ true → a ≡ true) → a ≡ b
+pub same-test : (a b : Bool) → (a ≡ true → b ≡ true) → (b ≡ true → a ≡ true) → a ≡ b
 same-test true b f g = sym (f refl)
 same-test false b f g = sym (is-false b (λ e. holds (g e)))
 
@@ -97,7 +92,7 @@ elements-zeros zero = refl
 elements-zeros (suc n) = elements-zeros n
 
 module _ (p : Plan) (r : ℕ) (good : Good p) (many : p .threshold ≤ ones (p .users) r) where
-  enough-rows : p .threshold ≤ length (users-in p r)
+  pub enough-rows : p .threshold ≤ length (users-in p r)
   enough-rows = omega (arith, users-in-size p r)
 
   pub rows-square : Square (rows-of p r) columns (p .threshold)
@@ -109,7 +104,7 @@ module _ (p : Plan) (r : ℕ) (good : Good p) (many : p .threshold ≤ ones (p .
 
   -- ---- one block
   module _ (y : (k block : ℕ) → ℕ) (b : ℕ) where
-    value-at : (a : ℕ) → a < length (users-in p r) → getD (values-of p r y b) a 0 ≡ y (getD (users-in p r) a 0) b
+    pub value-at : (a : ℕ) → a < length (users-in p r) → getD (values-of p r y b) a 0 ≡ y (getD (users-in p r) a 0) b
     unfolding values-of
     value-at a h =
         padded-at 8 (map (λ k. y k b) (users-in p r)) a (omega (arith, length-map (users-in p r) (λ k. y k b))) ∙ map-at (λ k. y k b) (users-in p r) a h
@@ -131,10 +126,6 @@ module _ (p : Plan) (r : ℕ) (good : Good p) (many : p .threshold ≤ ones (p .
     choice-take : take (p .threshold) (solution-of (rows-of p r) columns (values-of p r y b) (p .threshold)) ≡ choice-of p r y b
     unfolding solution-of filled choice-of padded
     choice-take = take-at _ _ (p .threshold) (map-span-length _ (p .threshold) 0)
-
-    choice-unknowns : solution-of (rows-of p r) columns (values-of p r y b) (p .threshold) ≡ padded 8 (choice-of p r y b)
-    unfolding solution-of filled choice-of
-    choice-unknowns = refl
 
     module _ (small : (a : ℕ) → a < length (users-in p r) → getD (values-of p r y b) a 0 < q) where
       abbrev users : List ℕ
@@ -165,61 +156,3 @@ module _ (p : Plan) (r : ℕ) (good : Good p) (many : p .threshold ≤ ones (p .
         (eqb-true (row-value sixteen (p .threshold) k (λ j. getD w (j - 1) 0)) (y k b) (all-of-in _ (users-in p r) (both (eqb (length w) (p .threshold) && elements sixteen w) _ h .1) k m))
         (row-value-small sixteen 8 7 laws16 (p .threshold) k (λ j. getD w (j - 1) 0))))
         (elements-zeros (8 - length (map (λ k. y k b) (users-in p r))))
-
--- the replies of a block by the places of their users
-filled-values : (p : Plan) (r : ℕ) (y : (k block : ℕ) → ℕ) (b : ℕ) → filled (length (users-in p r)) (λ a. y (getD (rows-of p r) a 0) b) ≡ values-of p r y b
-unfolding filled values-of rows-of
-filled-values p r y b = ap (padded 8) (sym (map-by-place (λ k. y k b) 8 (users-in p r)))
-
--- ---- the system of the complete replies, and one block as the code solves it
-module _ (s : System) (h : Prepared (s .plan) (s .users .set) s) where
-  abbrev p : Plan
-  p = plan-of (s .plan)
-
-  abbrev r : ℕ
-  r = s .users .set
-
-  pub system-few : s .users .count ≤ 8
-  system-few = listed-few p r (s .users .list) (s .users .count) (h .listed .list-right) (h .listed .count-right) (h .good .users-high)
-
-  pub system-many : s .plan .threshold ≤ s .users .count
-  system-many = omega (arith, enough-rows p r (h .good) (h .enough), h .listed .count-right)
-
-  pub system-points : Points 8 (s .users .count) (s .users .list)
-  system-points = listed-points p r (s .users .list) (s .users .count) (h .listed .list-right) (h .listed .count-right) (h .good .users-high)
-
-  pub system-ready : (cs : List ℕ) → cs ≡ columns → Ready (s .users .list) cs (s .alpha) (s .beta) (s .plan .threshold)
-  system-ready cs e =
-      rw (h .listed .list-right, e) (record { square = rows-square p r (h .good) (h .enough); alpha-right = h .alpha-right; beta-right = h .beta-right })
-
-  module _ (ys : List ℕ) (b : ℕ) (cs vs : List ℕ) (e : code.Explained) (c : cs ≡ columns)
-      (v : vs ≡ filled (s .users .count) (λ a. held-in 16 ys (getD (s .users .list) a 0) b))
-      (x : e ≡ solved.explained (s .users .list) cs vs (s .plan .threshold) (s .users .count)) where
-    values-right : vs ≡ values-of p r (held-in 16 ys) b
-    values-right =
-        v ∙ ap₂ (λ (n : ℕ) (l : List ℕ). filled n (λ a. held-in 16 ys (getD l a 0) b)) (h .listed .count-right) (h .listed .list-right)
-        ∙ filled-values p r (held-in 16 ys) b
-
-    answer : e ≡ solved.explained (rows-of p r) columns (values-of p r (held-in 16 ys) b) (s .plan .threshold) (length (users-in p r))
-    answer = x ∙ rw (h .listed .list-right, c, values-right, h .listed .count-right)
-
-    unknowns : e .unknowns ≡ padded 8 (choice-of p r (held-in 16 ys) b)
-    unfolding solved.explained
-    unknowns = ap (λ (z : code.Explained). z .unknowns) answer ∙ choice-unknowns p r (h .good) (h .enough) (held-in 16 ys) b
-
-    pub block-right : elements sixteen vs ≡ true → Block-solved s ys b e
-    unfolding solved.explained
-    block-right ok = record {
-      fits-right =
-          ap (λ (z : code.Explained). z .fits) answer
-          ∙ fits-same p r (h .good) (h .enough) (held-in 16 ys) b (λ a l. elements-at sixteen (lit< tt) (values-of p r (held-in 16 ys) b) a (ap (elements sixteen) (sym values-right) ∙ ok));
-      unknowns-right = unknowns;
-    }
-
-    -- a reply that is no element
-    pub block-wrong : elements sixteen vs ≡ false → Block-solved s ys b (record { fits = false; unknowns = e .unknowns })
-    block-wrong bad = record {
-      fits-right =
-          sym (is-false _ (λ d. holds (sym bad ∙ ap (elements sixteen) values-right ∙ explained-small p r (h .good) (h .enough) (held-in 16 ys) b _ d)));
-      unknowns-right = unknowns;
-    }

@@ -2,6 +2,7 @@
 pub mod Padded
 pub mod Turns
 pub mod Blocks
+pub mod Systems
 pub mod Totalling
 pub mod Answers
 pub mod Steps

@@ -1,9 +1,9 @@
 -- A list in the first places of n.
 --   padded-sets                               several entries more, one behind the other
---   map-at, map-by-place, sum-by-place        a map and a sum over a list, by the places of its padded form
+--   map-at, sum-by-place                      a map over a list, and a sum, by the places of its padded form
 -- Assumes nothing.
 use mathlib.Core.Path.{_≡_, refl, sym, ap, _∙_}
-use mathlib.Core.List.{List, [], _∷_, map, map-map}
+use mathlib.Core.List.{List, [], _∷_, map}
 use Prim.Native.Nat.{ℕ, zero, suc, _+_, _-_, _≤_, _<_}
 use native.Mathlib.Nat.{add-zero}
 use native.Mathlib.Numerals.{add-one}
@@ -12,7 +12,7 @@ use lib.ListN.{length, getD, set}
 use lib.Seq.{sets}
 use Rattle.algebra.specs.Sums.{In}
 use Rattle.scheme.specs.Scheme.{span, sixteen, sum}
-use Rattle.scheme.proofs.Lists.{span-in, map-same, map-span-length}
+use Rattle.scheme.proofs.Lists.{span-in, map-span-length}
 use Rattle.scheme.proofs.Sums.{sum-same}
 use Rattle.scheme.proofs.Keys.{whole-list}
 use Rattle.solve.specs.Solve.{padded}
@@ -43,9 +43,6 @@ sum-map f g (x ∷ l) = ap (sixteen .add (f (g x))) (sum-map f g l)
 module _ (f : ℕ → ℕ) (n : ℕ) (l : List ℕ) where
   at-place : (a : ℕ) → In a (span (length l) 0) → f (getD l a 0) ≡ f (getD (padded n l) a 0)
   at-place a m = ap f (sym (padded-at n l a (omega (arith, span-in (length l) 0 a m))))
-
-  pub map-by-place : map f l ≡ map (λ a. f (getD (padded n l) a 0)) (span (length l) 0)
-  map-by-place = ap (map f) (sym (whole-list l)) ∙ map-map f (λ a. getD l a 0) (span (length l) 0) ∙ map-same _ _ (span (length l) 0) at-place
 
   pub sum-by-place : sum sixteen l f ≡ sum sixteen (span (length l) 0) (λ a. f (getD (padded n l) a 0))
   sum-by-place = ap (λ (r : List ℕ). sum sixteen r f) (sym (whole-list l)) ∙ sum-map f (λ a. getD l a 0) (span (length l) 0) ∙ sum-same sixteen (span (length l) 0) _ _ at-place

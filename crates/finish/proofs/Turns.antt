@@ -2,19 +2,22 @@
 --   held-at                                                    one element of a user
 --   Listing, listing-start, listing-in, listing-out, listing-end     the users of a set
 --   Spreading, spreading-start, spreading-more, spreading-end        a run of stores
+--   Summing, summing-start, summing-more, summing-end                a sum that is reduced at its end
 -- Assumes nothing.
 use mathlib.Core.Path.{_≡_, refl, sym, ap, ap₂, _∙_, subst}
 use mathlib.Core.Bool.{Bool, true, false}
 use mathlib.Core.List.{List, [], _∷_, _++_, map, append-nil}
-use Prim.Native.Nat.{ℕ, zero, suc, _+_, _-_, _≤_, _<_}
-use native.Mathlib.Nat.{add-zero}
+use Prim.Native.Nat.{ℕ, zero, suc, _+_, _*_, _-_, _%_, _≤_, _<_}
+use native.Mathlib.Nat.{add-assoc, add-zero, mod-eq-of-lt}
 use native.Mathlib.Omega.{arith}
 use lib.ListN.{length, getD, set, replicate, length-append}
 use lib.Seq.{sets}
-use Rattle.scheme.specs.Scheme.{span, keep, members}
+use Rattle.algebra.proofs.Residue.{mods}
+use Rattle.scheme.specs.Scheme.{span, keep, members, q, sixteen, sum}
 use Rattle.scheme.specs.Service.{element-of}
 use Rattle.scheme.proofs.Lists.{members-append}
-use Rattle.solve.specs.Solve.{padded}
+use Rattle.scheme.proofs.Sums.{sum-small}
+use Rattle.solve.specs.Solve.{laws16, padded}
 use Rattle.solve.proofs.Turns.{span-start, span-next, span-end}
 use Rattle.solve.proofs.Filled.{padded-next}
 use Rattle.service.specs.View.{stored, slot}
@@ -91,3 +94,33 @@ module _ (h : ℕ → ℕ) (n at : ℕ) (old : List ℕ) where
 
   pub spreading-end : (j : ℕ) (out : List ℕ) → n ≤ j → Spreading h n at old j out → out ≡ sets old at (map h (span n 0))
   spreading-end j out l s = ap (λ (r : List ℕ). sets out (at + j) (map h r)) (sym (span-end n j l)) ∙ s .rest
+
+-- ---- a sum of numbers of 16 bits: i of n are added
+module _ (f : ℕ → ℕ) (n : ℕ) where
+  pub record Summing (i s : ℕ) : Type 0 where
+    pub low : s ≤ i * 65535
+    pub rest : (s + sum sixteen (span (n - i) i) f) % q ≡ sum sixteen (span n 0) f
+
+  pub summing-start : Summing 0 0
+  summing-start = record {
+    low = omega arith;
+    rest =
+        let e : 0 + sum sixteen (span n 0) f ≡ sum sixteen (span n 0) f = omega arith in
+        rw (span-start n, e) (mod-eq-of-lt (sum-small sixteen 8 7 laws16 (span n 0) f));
+  }
+
+  pub summing-more : (i s t : ℕ) → i < n → t ≡ f i → t ≤ 65535 → Summing i s → Summing (i + 1) (s + t)
+  unfolding sum
+  summing-more i s t l e h g = record {
+    low = omega (arith, g .low);
+    rest =
+        ap (λ (x : ℕ). (s + x + sum sixteen (span (n - (i + 1)) (i + 1)) f) % q) e ∙ regroup s (f i) _
+        ∙ ap (λ (l : List ℕ). (s + sum sixteen l f) % q) (sym (span-next n i l)) ∙ g .rest;
+  }
+    where
+      regroup : (s x r : ℕ) → (s + x + r) % q ≡ (s + (x + r) % q) % q
+      regroup s x r = simp (mods, add-assoc)
+
+  pub summing-end : (i s : ℕ) → n ≤ i → Summing i s → s % q ≡ sum sixteen (span n 0) f
+  unfolding sum
+  summing-end i s h g = ap (λ (x : ℕ). x % q) (sym (add-zero s)) ∙ ap (λ (l : List ℕ). (s + sum sixteen l f) % q) (sym (span-end n i h)) ∙ g .rest

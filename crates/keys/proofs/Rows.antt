@@ -1,16 +1,19 @@
--- Numbers added to a row, one place a turn.
---   Rising                                  the first i are new, the others old
+-- Rows of numbers.
+--   Rising                                  numbers added to a row, one place a turn: the first i are new, the others old
 --   rising-none, rising-more, rising-done   before the first turn, one turn, after the last
 --   none-below, zeros-at                    no number is below 0; a row of zeros
+--   row-before, row-at                      a row put into a list: what lies before it, and its numbers
 -- Assumes nothing.
-use mathlib.Core.Path.{_≡_, refl, _∙_}
+use mathlib.Core.Path.{_≡_, refl, ap, _∙_}
 use mathlib.Core.Logic.{⊎-elim}
-use mathlib.Core.List.{List}
+use mathlib.Core.List.{List, [], _∷_, map}
 use Prim.Native.Nat.{ℕ, zero, suc, _+_, _≤_, _<_}
-use native.Mathlib.Nat.{le-refl, eq-or-lt-of-le}
+use native.Mathlib.Nat.{le-refl, eq-or-lt-of-le, add-zero, zero-add}
 use native.Mathlib.Omega.{arith}
 use lib.ListN.{length, getD, set, replicate, length-set}
-use lib.Seq.{getD-set-same, getD-set-other}
+use lib.Seq.{sets, getD-set-same, getD-set-other}
+use Rattle.scheme.specs.Scheme.{span}
+use Rattle.scheme.proofs.Lists.{map-span-length, map-span-at}
 use Rattle.keys.specs.Parts.{Raised}
 
 pub record Rising (f : ℕ → ℕ) (most n : ℕ) (old new : List ℕ) (i : ℕ) : Type 0 where
@@ -54,3 +57,24 @@ pub zeros-at : (n i : ℕ) → _≡_ {A = ℕ} (getD (replicate n 0) i 0) 0
 zeros-at zero i = refl
 zeros-at (suc n) zero = refl
 zeros-at (suc n) (suc i) = zeros-at n i
+
+-- ---- a row put into a list
+sets-before : (vs l : List ℕ) (i j : ℕ) → j < i → _≡_ {A = ℕ} (getD (sets l i vs) j 0) (getD l j 0)
+sets-before [] l i j h = refl
+sets-before (v ∷ vs) l i j h = sets-before vs (set l i v) (suc i) j (omega arith) ∙ getD-set-other l i j v 0 (λ e. omega arith)
+
+sets-at : (vs l : List ℕ) (i b : ℕ) → b < length vs → i + length vs ≤ length l → _≡_ {A = ℕ} (getD (sets l i vs) (i + b) 0) (getD vs b 0)
+sets-at [] l i b h m = absurd (none-below b h)
+sets-at (v ∷ vs) l i zero h m =
+    ap (λ (n : ℕ). getD (sets (set l i v) (suc i) vs) n 0) (add-zero i) ∙ sets-before vs (set l i v) (suc i) i (omega arith) ∙ getD-set-same l i v 0 (omega arith)
+sets-at (v ∷ vs) l i (suc b) h m =
+    ap (λ (n : ℕ). getD (sets (set l i v) (suc i) vs) n 0) (omega arith) ∙ sets-at vs (set l i v) (suc i) b (omega arith) (omega (arith, length-set l i v))
+
+module _ (old : List ℕ) (at : ℕ) (f : ℕ → ℕ) (n : ℕ) where
+  pub row-before : (j : ℕ) → j < at → getD (sets old at (map f (span n 0))) j 0 ≡ getD old j 0
+  row-before j h = sets-before (map f (span n 0)) old at j h
+
+  pub row-at : (b : ℕ) → b < n → at + n ≤ length old → getD (sets old at (map f (span n 0))) (at + b) 0 ≡ f b
+  row-at b h m =
+      let l = map-span-length f n 0 in
+      sets-at (map f (span n 0)) old at b (omega (arith, l)) (omega (arith, l)) ∙ map-span-at f n 0 b h ∙ ap f (zero-add b)

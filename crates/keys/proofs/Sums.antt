@@ -1,6 +1,7 @@
 -- Sums modulo 65521 that a loop builds up one summand a turn.
 --   members-take, members-skip                              over the numbers that pass a test, one number more
---   dotted-none, dotted-more, dot-same, dot-sum, dot-join   over the columns of a share
+--   dotted-none, dotted-more, dotted-part, weighed-small    over numbers times coefficients
+--   weighed-dot, dot-same, dot-sum, dot-join                over the columns of a share
 -- Assumes nothing.
 use mathlib.Core.Path.{_≡_, refl, sym, ap, ap₂, _∙_}
 use mathlib.Core.Bool.{Bool, true, false}
@@ -9,12 +10,13 @@ use Prim.Native.Nat.{ℕ, zero, suc, _+_, _*_, _%_, _≤_, _<_}
 use native.Mathlib.Nat.{add-comm, add-zero, zero-add, add-suc, add-assoc, mul-zero, mul-add, mod-mod, add-mod, mod-add-mod, add-mod-mod, mod-eq-of-lt, mod-lt}
 use native.Mathlib.Omega.{arith}
 use lib.Dec.{lit<}
+use lib.ListN.{getD}
 use Rattle.algebra.specs.Sums.{In}
 use Rattle.algebra.proofs.Residue.{mul-mod}
 use Rattle.scheme.specs.Scheme.{span, keep, members, q, sixteen, sum, row-value}
 use Rattle.scheme.proofs.Lists.{span-append, span-in, members-append}
 use Rattle.scheme.proofs.Sums.{sum-same}
-use Rattle.keys.specs.Parts.{most-product, dot, Dotted}
+use Rattle.keys.specs.Parts.{most-product, dot, Coefficients, weighed, Dotted, part-at}
 
 sum-small : (l : List ℕ) (f : ℕ → ℕ) → sum sixteen l f < q
 unfolding sum
@@ -70,24 +72,44 @@ module _ (t : ℕ → Bool) (n : ℕ) (f : ℕ → ℕ) (acc : ℕ) (so-far : ac
   unfolding sum
   members-skip e = sym (more ∙ rw (e, add-zero))
 
--- ---- columns
-pub dotted-none : (k s : ℕ) (f : ℕ → ℕ) → Dotted k s 0 f 0
-unfolding dot sum
-dotted-none k s f = record { small = omega arith; right = refl }
+-- ---- numbers times coefficients
+pub dotted-none : (cs : List ℕ) (f : ℕ → ℕ) → Dotted cs 0 f 0
+unfolding weighed sum
+dotted-none cs f = record { small = omega arith; right = refl }
 
-dot-more : (k s i : ℕ) (f : ℕ → ℕ) → dot k s (i + 1) f ≡ (dot k s i f + sixteen .coefficient k (s + i) * f i) % q
-unfolding dot
-dot-more k s i f =
-    ap (λ (l : List ℕ). sum sixteen l (λ j. sixteen .coefficient k (s + j) * f j)) (span-append i 1 0) ∙ sum-append (span i 0) _ _
+weighed-more : (cs : List ℕ) (i : ℕ) (f : ℕ → ℕ) → weighed cs (i + 1) f ≡ (weighed cs i f + getD cs i 0 * f i) % q
+unfolding weighed
+weighed-more cs i f =
+    ap (λ (l : List ℕ). sum sixteen l (λ j. getD cs j 0 * f j)) (span-append i 1 0) ∙ sum-append (span i 0) _ _
     ∙ rw (sum-one, add-mod-mod, zero-add i)
 
-pub dotted-more : {k s i : ℕ} {f : ℕ → ℕ} {total c x : ℕ} → Dotted k s i f total → c ≡ sixteen .coefficient k (s + i) → (x ≡ c * f i) × (x ≤ most-product) →
-    Dotted k s (i + 1) f (total + x)
-dotted-more {k} {s} {i} {f} {total} d e h =
+pub dotted-more : {cs : List ℕ} {i : ℕ} {f : ℕ → ℕ} {total x : ℕ} → Dotted cs i f total → (x ≡ getD cs i 0 * f i) × (x ≤ most-product) → Dotted cs (i + 1) f (total + x)
+dotted-more {cs} {i} {f} {total} d h =
     record {
       small = omega (arith, d .small);
-      right = sym (dot-more k s i f ∙ rw (← d .right, mod-add-mod, ← e, ← h .0));
+      right = sym (weighed-more cs i f ∙ rw (← d .right, mod-add-mod, ← h .0));
     }
+
+weighed-same : (cs : List ℕ) (n : ℕ) (f g : ℕ → ℕ) → ((i : ℕ) → f i ≡ g i) → weighed cs n f ≡ weighed cs n g
+unfolding weighed
+weighed-same cs n f g h = sum-same sixteen (span n 0) (λ i. getD cs i 0 * f i) (λ i. getD cs i 0 * g i) (λ i m. ap (λ (x : ℕ). getD cs i 0 * x) (h i))
+
+-- the numbers of block b
+pub dotted-part : (cs xs : List ℕ) (start from n b total : ℕ) → from ≡ start + b * n → Dotted cs n (λ i. getD xs (from + i) 0) total → total % q ≡ weighed cs n (part-at xs start n b)
+dotted-part cs xs start from n b total e d = d .right ∙ weighed-same cs n (λ i. getD xs (from + i) 0) (part-at xs start n b) (λ i.
+    let same : from + i ≡ start + (b * n + i) = omega arith in
+    ap (λ (j : ℕ). getD xs j 0) same)
+
+pub weighed-small : (cs : List ℕ) (n : ℕ) (f : ℕ → ℕ) → weighed cs n f < q
+unfolding weighed
+weighed-small cs n f = sum-small (span n 0) (λ i. getD cs i 0 * f i)
+
+-- ---- columns
+pub weighed-dot : {k s n : ℕ} {cs : List ℕ} → Coefficients k s n cs → (f : ℕ → ℕ) → weighed cs n f ≡ dot k s n f
+unfolding weighed dot
+weighed-dot {k} {s} {n} {cs} c f =
+    sum-same sixteen (span n 0) (λ i. getD cs i 0 * f i) (λ i. sixteen .coefficient k (s + i) * f i) (λ i m.
+    ap (λ (x : ℕ). x * f i) (c .each i (omega (arith, span-in n 0 i m .1))))
 
 -- columns count modulo q
 pub dot-same : (k s n : ℕ) (f g : ℕ → ℕ) → ((i : ℕ) → i < n → f i % q ≡ g i % q) → dot k s n f ≡ dot k s n g

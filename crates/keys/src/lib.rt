@@ -3,11 +3,13 @@
 //   refusal                         tests 1, 4, 2, 3
 //   copy_masks                      the user's own masks
 //   write_sets                      the shares for each usable set that holds the user
-//   write_shares, reduced           the shares for one set, block by block
-//   mask_products, put_products     once a key: the masks of each user times the first columns, reduced
+//   write_shares                    the shares for one set
+//   mask_products                   once a key: the masks of each user times the first columns, reduced
+//   put_by, put_blocks              sums plus numbers times coefficients, block by block
+//   coefficients                    those of some columns
+//   dot, times, reduced             numbers times coefficients; a sum reduced
 //   sum_rows, add_row, wide         the products of a set's users, row upon row, not reduced
-//   dot_columns, add_column, times  some columns of all blocks, column upon column, not reduced
-//   no_products, no_dots, no_sums   zeros
+//   no_products, no_sums            zeros
 // Document 01's airfield is a user here, and its S of an airfield is that user's mask. The functions behind the refusals are
 // told in their contracts what the refusals have tested.
 ghost use mathlib.Core.Path.{_≡_};
@@ -18,14 +20,14 @@ ghost use lib.ListN.{length, getD, replicate};
 ghost use lib.Seq.{sets};
 ghost use Rattle.scheme.specs.Scheme.{span, rows, q, sixteen, places, usable, sets-with, mask, noise-start, shares, key, key-length, key-refusal, written};
 ghost use Rattle.plan.specs.Plan.{plan-of};
-ghost use Rattle.keys.specs.Parts.{Ready, most-product, Raised, Columns, Put, Products, Summed};
+ghost use Rattle.keys.specs.Parts.{Ready, most-product, Raised, Coefficients, weighed, Dotted, part-at, block-value, Products, set-sum, Summed};
 use element::Q;
 use element::all_elements;
 use element::coefficient;
 use plan::Plan;
 use plan::all_sets;
+use plan::has_enough;
 use plan::holds;
-use plan::is_usable;
 use plan::key_length;
 use plan::list_length;
 use plan::places_of;
@@ -35,6 +37,9 @@ use plan::start_refusal;
 const BLOCKS: usize = 16;
 
 const PRODUCTS: usize = 128;
+
+// A share has at most 7 columns.
+const COLUMNS: usize = 8;
 
 // "Key of airfield k: its L elements of S, then for each usable set holding k, in rising number, its M shares."
 // Answers 0, or the number of the refusal, and then `out` stays as it was.
@@ -92,6 +97,8 @@ fn write_sets(plan: Plan, user: u32, list: &[u16], out: &mut [u16], row: usize)
     ensures { λ r. ⌜ now (out .exit) ≡ sets (now (out .entry)) row (rows (shares sixteen (plan-of plan) (now (list .entry)) user) (sets-with (plan-of plan) user)) ⌝ }
 {
     let products = mask_products(plan, user, list, row);
+    let items = plan.threshold - plan.collusion;
+    let high = coefficients(user, 1 + items, plan.collusion);
     let blocks = plan.blocks as usize;
     let step = blocks * plan.collusion as usize;
     let end = all_sets(plan);
@@ -99,11 +106,11 @@ fn write_sets(plan: Plan, user: u32, list: &[u16], out: &mut [u16], row: usize)
     let mut at = row;
     let mut v: u32 = 0;
     while v < end {
-        if is_usable(plan, v) {
+        if has_enough(plan, v) {
             let here = noise;
             noise += step;
             if holds(v, user) {
-                write_shares(plan, user, &products, list, v, here, out, at);
+                write_shares(plan, &products, &high, list, v, here, out, at);
                 at += blocks;
             }
         }
@@ -115,35 +122,21 @@ fn write_sets(plan: Plan, user: u32, list: &[u16], out: &mut [u16], row: usize)
 // The columns are multiplied first and the sums over V taken of the products, which comes to the same. The noise lies from `noise` on.
 fn write_shares(
     plan: Plan,
-    user: u32,
     products: &[u16; PRODUCTS],
+    high: &[u16; COLUMNS],
     list: &[u16],
     set: u32,
     noise: usize,
     out: &mut [u16],
     at: usize,
 )
-    requires { ⌜ Ready (plan-of plan) user (now list) ⌝ }
-    requires { ⌜ (Products (plan-of plan) user (now list) (plan .users) (now products)) × (at + plan .blocks ≤ length (now out)) ⌝ }
-    requires { ⌜ (noise ≡ noise-start (plan-of plan) set 0) × (usable (plan-of plan) set ≡ true) ⌝ }
-    ensures { λ r. ⌜ now (out .exit) ≡ sets (now (out .entry)) at (shares sixteen (plan-of plan) (now (list .entry)) user set) ⌝ }
+    requires { ⌜ (plan .users ≤ 8) × (1 ≤ plan .collusion) × (plan .collusion ≤ 6) × (plan .blocks ≤ 16) ⌝ }
+    requires { ⌜ (noise + plan .blocks * plan .collusion ≤ length (now list)) × (at + plan .blocks ≤ length (now out)) ⌝ }
+    ensures { λ r. ⌜ now (out .exit) ≡ sets (now (out .entry)) at (map (λ b. (set-sum (now (products .entry)) (plan .users) set b + weighed (now (high .entry)) (plan .collusion) (part-at (now (list .entry)) noise (plan .collusion) b)) % q) (span (plan .blocks) 0)) ⌝ }
 {
-    let items = plan.threshold - plan.collusion;
     let blocks = plan.blocks as usize;
     let sums = sum_rows(products, set, plan.users);
-    let noises = dot_columns(user, 1 + items, plan.collusion, list, noise, blocks);
-    let mut b = 0;
-    while b < blocks {
-        out[at + b] = reduced(sums[b], noises[b]);
-        b += 1;
-    }
-}
-
-fn reduced(a: u32, b: u64) -> u16
-    requires { ⌜ b ≤ 7 * most-product ⌝ }
-    ensures { λ r. ⌜ r ≡ (a + b) % q ⌝ }
-{
-    ((a as u64 + b) % Q as u64) as u16
+    put_by(&sums, high, plan.collusion, list, noise, out, at, blocks);
 }
 
 // For each user 16 numbers: "columns 1 to U − T times" that user's masks, block by block.
@@ -153,13 +146,15 @@ fn mask_products(plan: Plan, user: u32, list: &[u16], row: usize) -> [u16; PRODU
     ensures { λ r. ⌜ Products (plan-of plan) user (now (list .entry)) (plan .users) r ⌝ }
 {
     let items = plan.threshold - plan.collusion;
+    let low = coefficients(user, 1, items);
     let blocks = plan.blocks as usize;
+    let zeros = no_sums();
     let mut products = no_products();
     let mut from = 0;
     let mut at = 0;
     let mut k: u32 = 0;
     while k < plan.users {
-        put_products(&mut products, at, user, items, list, from, blocks);
+        put_by(&zeros, &low, items, list, from, &mut products, at, blocks);
         from += row;
         at += BLOCKS;
         k += 1;
@@ -167,71 +162,92 @@ fn mask_products(plan: Plan, user: u32, list: &[u16], row: usize) -> [u16; PRODU
     products
 }
 
-// Those of one user, whose masks lie from `from` on, are put from `at` on.
-fn put_products(
-    products: &mut [u16; PRODUCTS],
-    at: usize,
-    user: u32,
-    items: u32,
-    list: &[u16],
-    from: usize,
-    blocks: usize,
-)
-    requires { ⌜ (user + items < 16) × (items ≤ 7) × (blocks ≤ 16) ⌝ }
-    requires { ⌜ (from + blocks * items ≤ length (now list)) × (at + 16 ≤ 128) × (length (now products) ≡ 128) ⌝ }
-    ensures { λ r. ⌜ Put user items (now (list .entry)) from at blocks (now (products .entry)) (now (products .exit)) ⌝ }
-{
-    let dots = dot_columns(user, 1, items, list, from, blocks);
-    let mut i = 0;
-    while i < blocks {
-        products[at + i] = reduced(0, dots[i]);
-        i += 1;
-    }
-}
-
-// In each block n numbers of the list, block behind block from `from` on, times the n columns from `first` on: "the row goes by the
-// airfield's number in every set".
-fn dot_columns(
-    user: u32,
-    first: u32,
+// Block by block, from `at` on: a sum plus n numbers of the list, which lie from `start` on, times the coefficients, reduced.
+// One call for each n, so that the compiler knows the length of the inner loop.
+fn put_by(
+    sums: &[u32; BLOCKS],
+    row: &[u16; COLUMNS],
     n: u32,
     list: &[u16],
-    from: usize,
+    start: usize,
+    out: &mut [u16],
+    at: usize,
     blocks: usize,
-) -> [u64; BLOCKS]
-    requires { ⌜ (user + (first + n) ≤ 16) × (n ≤ 7) × (blocks ≤ 16) × (from + blocks * n ≤ length (now list)) ⌝ }
-    ensures { λ r. ⌜ Columns user first n n (now (list .entry)) from blocks r ⌝ }
+)
+    requires { ⌜ (1 ≤ n) × (n ≤ 6) × (blocks ≤ 16) × (start + blocks * n ≤ length (now list)) × (at + blocks ≤ length (now out)) ⌝ }
+    ensures { λ r. ⌜ now (out .exit) ≡ sets (now (out .entry)) at (map (block-value (now (sums .entry)) (now (row .entry)) n (now (list .entry)) start) (span blocks 0)) ⌝ }
 {
-    let mut sums = no_dots();
-    let mut i: u32 = 0;
-    while i < n {
-        let c = coefficient(user, first + i);
-        add_column(&mut sums, c, list, from + i as usize, n as usize, blocks);
-        i += 1;
+    match n {
+        1 => put_blocks(sums, row, 1, list, start, out, at, blocks),
+        2 => put_blocks(sums, row, 2, list, start, out, at, blocks),
+        3 => put_blocks(sums, row, 3, list, start, out, at, blocks),
+        4 => put_blocks(sums, row, 4, list, start, out, at, blocks),
+        5 => put_blocks(sums, row, 5, list, start, out, at, blocks),
+        _ => put_blocks(sums, row, 6, list, start, out, at, blocks),
     }
-    sums
 }
 
-// Adds c times a number of the list to each of the first n sums: the one at `from`, then always the one a step further.
-fn add_column(sums: &mut [u64; BLOCKS], c: u16, list: &[u16], from: usize, step: usize, n: usize)
-    requires { ⌜ (n ≤ 16) × (step ≤ 7) × (length (now sums) ≡ 16) ⌝ }
-    requires { ⌜ ((i : ℕ) → i < n → from + i * step < length (now list)) ⌝ }
-    requires { ⌜ ((i : ℕ) → i < n → getD (now sums) i 0 ≤ 6 * most-product) ⌝ }
-    ensures { λ r. ⌜ Raised (λ i. c * getD (now (list .entry)) (from + i * step) 0) most-product n (now (sums .entry)) (now (sums .exit)) ⌝ }
+fn put_blocks(
+    sums: &[u32; BLOCKS],
+    row: &[u16; COLUMNS],
+    n: usize,
+    list: &[u16],
+    start: usize,
+    out: &mut [u16],
+    at: usize,
+    blocks: usize,
+)
+    requires { ⌜ (n ≤ 7) × (blocks ≤ 16) × (start + blocks * n ≤ length (now list)) × (at + blocks ≤ length (now out)) ⌝ }
+    ensures { λ r. ⌜ now (out .exit) ≡ sets (now (out .entry)) at (map (block-value (now (sums .entry)) (now (row .entry)) n (now (list .entry)) start) (span blocks 0)) ⌝ }
 {
-    let mut at = from;
-    let mut i = 0;
+    let mut from = start;
+    let mut b = 0;
+    while b < blocks {
+        out[at + b] = reduced(sums[b], dot(row, n, list, from));
+        from += n;
+        b += 1;
+    }
+}
+
+// Those of n columns from `first` on: "the row goes by the airfield's number in every set".
+fn coefficients(user: u32, first: u32, n: u32) -> [u16; COLUMNS]
+    requires { ⌜ (user + (first + n) ≤ 16) × (n ≤ 7) ⌝ }
+    ensures { λ r. ⌜ Coefficients user first n r ⌝ }
+{
+    let mut row = [0u16; COLUMNS];
+    let mut i: u32 = 0;
     while i < n {
-        sums[i] = sums[i] + times(c, list[at]);
-        at += step;
+        row[i as usize] = coefficient(user, first + i);
         i += 1;
     }
+    row
+}
+
+// n numbers of the list from `from` on times the coefficients, not reduced.
+fn dot(row: &[u16; COLUMNS], n: usize, list: &[u16], from: usize) -> u64
+    requires { ⌜ (n ≤ 7) × (from + n ≤ length (now list)) ⌝ }
+    ensures { λ r. ⌜ Dotted (now (row .entry)) n (λ i. getD (now (list .entry)) (from + i) 0) r ⌝ }
+{
+    let mut sum: u64 = 0;
+    let mut i = 0;
+    while i < n {
+        sum = sum + times(row[i], list[from + i]);
+        i += 1;
+    }
+    sum
 }
 
 fn times(a: u16, b: u16) -> u64
     ensures { λ r. ⌜ (r ≡ a * b) × (r ≤ most-product) ⌝ }
 {
     a as u64 * b as u64
+}
+
+fn reduced(a: u32, b: u64) -> u16
+    requires { ⌜ b ≤ 7 * most-product ⌝ }
+    ensures { λ r. ⌜ r ≡ (a + b) % q ⌝ }
+{
+    ((a as u64 + b) % Q as u64) as u16
 }
 
 // "The sums over V", of products.
@@ -275,12 +291,6 @@ fn no_products() -> [u16; PRODUCTS]
     ensures { λ r. ⌜ r ≡ replicate 128 0 ⌝ }
 {
     [0u16; PRODUCTS]
-}
-
-fn no_dots() -> [u64; BLOCKS]
-    ensures { λ r. ⌜ r ≡ replicate 16 0 ⌝ }
-{
-    [0u64; BLOCKS]
 }
 
 fn no_sums() -> [u32; BLOCKS]

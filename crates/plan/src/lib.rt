@@ -1,7 +1,7 @@
 // Plans and sets of document 01: their tests, and where things lie in the lists that a plan fixes.
 //   Plan, MOST_USERS ..                               K, U, T and M, as they come; their limits
 //   is_good, start_refusal                            tests 1 and 4
-//   holds, is_usable, is_usable_with                  sets of users
+//   holds, is_usable, has_enough, is_usable_with      sets of users
 //   all_sets, count_usable, count_holding, set_place  counts of sets
 //   places_of, list_length, reply_start, key_length   lengths and places
 // Document 01's airfield is a user here. All but the two tests and `holds` are for plans that passed test 1.
@@ -101,14 +101,22 @@ pub fn is_usable(p: Plan, set: u32) -> bool
     if all_sets(p) <= set {
         return false;
     }
+    has_enough(p, set)
+}
+
+// Of a set with no member above K.
+pub fn has_enough(p: Plan, set: u32) -> bool
+    requires { ⌜ set < 2 ^ p .users ⌝ }
+    ensures { λ r. ⌜ r ≡ usable (plan-of p) set ⌝ }
+{
     p.threshold <= u32::count_ones(set)
 }
 
-pub fn is_usable_with(p: Plan, user: u32, set: u32) -> bool
-    requires { ⌜ Good (plan-of p) × (1 ≤ user) × (user ≤ 8) ⌝ }
+fn is_usable_with(p: Plan, user: u32, set: u32) -> bool
+    requires { ⌜ (set < 2 ^ p .users) × (1 ≤ user) × (user ≤ 8) ⌝ }
     ensures { λ r. ⌜ r ≡ usable-with (plan-of p) user set ⌝ }
 {
-    if !is_usable(p, set) {
+    if !has_enough(p, set) {
         return false;
     }
     holds(set, user)
@@ -295,11 +303,11 @@ pub fn count_holding(p: Plan, user: u32) -> usize
 }
 
 // The place of a set in a user's key: how many smaller usable sets hold the user.
-pub fn set_place(p: Plan, user: u32, set: u32) -> usize
-    requires { ⌜ Good (plan-of p) × (1 ≤ user) × (user ≤ 8) × (set ≤ 256) ⌝ }
+fn set_place(p: Plan, user: u32, set: u32) -> u32
+    requires { ⌜ (set ≤ 2 ^ p .users) × (1 ≤ user) × (user ≤ 8) ⌝ }
     ensures { λ r. ⌜ (r ≡ rank (usable-with (plan-of p) user) set) × (r ≤ set) ⌝ }
 {
-    let mut count: usize = 0;
+    let mut count: u32 = 0;
     let mut v: u32 = 0;
     while v < set {
         if is_usable_with(p, user, v) {
@@ -329,10 +337,10 @@ pub fn list_length(p: Plan) -> usize
 
 // Where the M shares for a set start in a user's key: behind its L masks and the shares for the smaller sets.
 pub fn reply_start(p: Plan, user: u32, set: u32) -> usize
-    requires { ⌜ Good (plan-of p) × (1 ≤ user) × (user ≤ 8) × (set ≤ 256) ⌝ }
+    requires { ⌜ Good (plan-of p) × (1 ≤ user) × (user ≤ 8) × (set ≤ 2 ^ p .users) ⌝ }
     ensures { λ r. ⌜ (r ≡ reply-start (plan-of p) user set) × (r ≤ 96 + 256 * 16) ⌝ }
 {
-    places_of(p) + set_place(p, user, set) * p.blocks as usize
+    places_of(p) + set_place(p, user, set) as usize * p.blocks as usize
 }
 
 // Its L masks, and M shares for each usable set that holds the user.

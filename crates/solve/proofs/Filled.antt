@@ -2,7 +2,8 @@
 --   padded-at, padded-take, padded-next                  an entry; the list again; one entry more
 --   span-more                                            one entry more of a rule
 --   Filling, filling-start, filling-more, filling-end    a loop that writes eight entries in order
---   filled-at, filled-small                              the entry at a position; entries below q
+--   filled-at, filled-behind, filled-small               the entry at a position; 0 behind n; entries below q
+--   zeros-at                                             a list of zeros
 -- Assumes nothing.
 use mathlib.Core.Path.{_≡_, refl, sym, ap, ap₂, _∙_}
 use mathlib.Core.List.{List, [], _∷_, _++_, map, map-append, append-assoc}
@@ -62,7 +63,7 @@ pub filled-at : (f : ℕ → ℕ) (n i : ℕ) → i < n → getD (filled n f) i 
 unfolding filled
 filled-at f n i h = padded-at 8 (map f (span n 0)) i (omega (arith, map-span-length f n 0)) ∙ map-span-at f n 0 i h ∙ ap f (zero-add i)
 
-zeros-at : (m i : ℕ) → _≡_ {A = ℕ} (getD (replicate m 0) i 0) 0
+pub zeros-at : (m i : ℕ) → _≡_ {A = ℕ} (getD (replicate m 0) i 0) 0
 zeros-at zero i = refl
 zeros-at (suc m) zero = refl
 zeros-at (suc m) (suc i) = zeros-at m i
@@ -74,10 +75,13 @@ behind n l i h =
     ap (λ (k : ℕ). getD (l ++ replicate (n - length l) 0) k 0) e ∙ getD-append-add l (replicate (n - length l) 0) (i - length l) 0
     ∙ zeros-at (n - length l) (i - length l)
 
-pub filled-small : (f : ℕ → ℕ) (n i : ℕ) → ((k : ℕ) → f k < q) → getD (filled n f) i 0 < q
+pub filled-behind : (f : ℕ → ℕ) (n i : ℕ) → n ≤ i → getD (filled n f) i 0 ≡ 0
 unfolding filled
+filled-behind f n i l = behind 8 (map f (span n 0)) i (omega (arith, map-span-length f n 0))
+
+pub filled-small : (f : ℕ → ℕ) (n i : ℕ) → ((k : ℕ) → f k < q) → getD (filled n f) i 0 < q
 filled-small f n i h = go (decLt i n)
   where
     go : Dec (i < n) → getD (filled n f) i 0 < q
     go (yes l) = rw (filled-at f n i l) (h i)
-    go (no l) = rw (behind 8 (map f (span n 0)) i (omega (arith, map-span-length f n 0))) (lit< tt)
+    go (no l) = rw (filled-behind f n i (omega arith)) (lit< tt)

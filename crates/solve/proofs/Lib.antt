@@ -1,6 +1,7 @@
 -- The laws of the solver, in reading order, and in Right what a caller cites.
 pub mod Numbers
 pub mod Filled
+pub mod Grids
 pub mod Turns
 pub mod Solution
 pub mod Right

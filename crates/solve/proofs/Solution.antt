@@ -2,27 +2,32 @@
 --   near                            points in range have small sums
 --   below                           the positions of n entries
 --   dot-el, dot-small               the value of a row
---   weight-el, scaled-el            weights, and right-hand sides times weights
---   unknown-right                   what the code computes for an unknown is algebra's closed solution
+--   weight-el                       weights
+--   block-at                        the numbers of a block
+--   filled-factors, row-same        a row of the system times unknowns is the value of the row
+--   unknown-right                   a row of the inverse times values is algebra's closed solution
+--   dot-same, unknown-same          what goes by the first n values alone
 -- Assumes nothing.
-use mathlib.Core.Path.{_≡_, ap, ap₂, _∙_}
+use mathlib.Core.Path.{_≡_, sym, ap, ap₂, _∙_}
 use mathlib.Core.List.{List}
-use Prim.Native.Nat.{ℕ, _+_, _%_, _<_}
-use native.Mathlib.Nat.{mod-lt}
+use Prim.Native.Nat.{ℕ, _+_, _*_, _≤_, _<_}
+use native.Mathlib.Nat.{zero-add}
 use native.Mathlib.Omega.{arith}
-use lib.Dec.{lit<}
+use lib.Dec.{eqb}
 use lib.ListN.{getD}
 use Rattle.algebra.specs.Field.{Field}
 use Rattle.algebra.specs.Sums.{In, sum as field-sum}
 use Rattle.algebra.specs.Cauchy.{weight}
-use Rattle.algebra.proofs.Sums.{sum-same as field-sum-same}
+use Rattle.algebra.proofs.Field.{expand}
+use Rattle.algebra.proofs.Sums.{sum-same as field-sum-same, sum-scale as field-sum-scale}
 use Rattle.scheme.specs.Scheme.{span, q, sixteen}
+use Rattle.scheme.specs.Totals.{all-of}
 use Rattle.scheme.specs.Laws.{Laws}
-use Rattle.scheme.proofs.Lists.{span-in}
-use Rattle.scheme.proofs.Sums.{sum-el, sum-small}
-use Rattle.solve.specs.Solve.{laws16, point, Points, Near, Square, Ready, scaled, weight-at, weights-of, unknown-at, dot-of}
+use Rattle.scheme.proofs.Lists.{span-in, map-span-at}
+use Rattle.scheme.proofs.Sums.{sum-same, sum-el, sum-small}
+use Rattle.solve.specs.Solve.{laws16, point, Points, Near, Square, Ready, filled, weight-at, weights-of, unknown-at, dot-of, cell, block, Factors, combined, inverse-at, row-fits}
 use Rattle.solve.proofs.Numbers.{el-plus, el-times, el-inverse, val-of}
-use Rattle.solve.proofs.Filled.{filled-at}
+use Rattle.solve.proofs.Filled.{filled-at, filled-behind}
 open Laws laws16 using (K, el, val)
 open Field K using (add as _⊕_, mul as _⊗_, inv)
 
@@ -52,26 +57,76 @@ pub weight-el : (own other : List ℕ) (n a : ℕ) → a < n
 unfolding weights-of weight-at
 weight-el own other n a h = ap el (filled-at _ n a h) ∙ laws16 .el-val _
 
-pub scaled-el : (ws vs : List ℕ) (n a : ℕ) → a < n → point (scaled ws vs n) a ≡ el (getD ws a 0) ⊗ point vs a
-unfolding scaled point
-scaled-el ws vs n a h = ap el (filled-at _ n a h) ∙ el-times _ _
+pub block-at : (g : List ℕ) (b i : ℕ) → i < 8 → getD (block g b) i 0 ≡ cell g i b
+unfolding block
+block-at g b i h = map-span-at (λ a. cell g a b) 8 0 i h ∙ ap (λ (a : ℕ). cell g a b) (zero-add i)
 
+pub filled-factors : (f : ℕ → ℕ) (n : ℕ) (cs : List ℕ) → n ≤ 8 → cs ≡ filled n f → Factors n cs
+filled-factors f n cs h e = record { few = h; behind = λ i l. ap (λ (c : List ℕ). getD c i 0) e ∙ filled-behind f n i l }
+
+-- ---- a row of the system times the unknowns
+combined-dot : (x : ℕ) (ps cs g : List ℕ) (n b : ℕ) → n ≤ 8 → cs ≡ filled n (λ i. sixteen .coefficient x (getD ps i 0))
+    → combined cs g n b ≡ dot-of x ps (block g b) n
+unfolding combined dot-of
+combined-dot x ps cs g n b h e =
+    sum-same sixteen (span n 0) _ _ (λ i m.
+    let l = below n i m in
+    ap₂ (λ (c v : ℕ). sixteen .multiply c v) (ap (λ (c : List ℕ). getD c i 0) e ∙ filled-at _ n i l) (sym (block-at g b i (omega arith))))
+
+pub row-same : (rs cs vs ws list : List ℕ) (n m a at : ℕ) → n ≤ 8 → list ≡ filled n (λ i. sixteen .coefficient (getD rs a 0) (getD cs i 0)) → at ≡ a * 16
+    → all-of (λ b. eqb (combined list ws n b) (getD vs (at + b) 0)) (span m 0) ≡ row-fits rs cs vs ws n m a
+unfolding row-fits
+row-same rs cs vs ws list n m a at h e d = λ t. all-of (λ b. eqb (combined-dot (getD rs a 0) cs list ws n b h e t) (getD vs (d t + b) 0)) (span m 0)
+
+-- ---- a row of the inverse times the values
 module _ (rs cs vs : List ℕ) (n i : ℕ) (h : i < n) where
-  closed : Square rs cs n
-      → sixteen .multiply (getD (weights-of cs rs n) i 0) (dot-of (getD cs i 0) rs (scaled (weights-of rs cs n) vs n) n) % q ≡ unknown-at rs cs vs n i
-  unfolding unknown-at point
-  closed square =
-      val-of _ _ (mod-lt _ (lit< tt))
-      (el-times _ _
-      ∙ ap₂ _⊗_ (weight-el cs rs n i h)
-      (dot-el (getD cs i 0) rs _ n (near (square .rows-good) (omega (arith, square .columns-good .inside i h)))
-      ∙ field-sum-same K (span n 0) _ _ (λ k m.
-      ap₂ _⊗_ (ap inv (K .add-comm _ _)) (scaled-el _ vs n k (below n k m) ∙ ap (λ u. u ⊗ point vs k) (weight-el rs cs n k (below n k m))))))
+  abbrev x : ℕ
+  x = getD cs i 0
 
-  pub unknown-right : (α β weighed : List ℕ) (d r : ℕ) → Ready rs cs α β n → weighed ≡ scaled α vs n → d ≡ dot-of (getD cs i 0) rs weighed n
-      → r ≡ sixteen .multiply (getD β i 0) d % q → r ≡ unknown-at rs cs vs n i
-  unknown-right α β weighed d r ready e f g =
-      g
-      ∙ ap₂ (λ (b : List ℕ) (x : ℕ). sixteen .multiply (getD b i 0) x % q) (ready .beta-right)
-      (f ∙ ap (λ (l : List ℕ). dot-of (getD cs i 0) rs l n) (e ∙ ap (λ (a : List ℕ). scaled a vs n) (ready .alpha-right)))
-      ∙ closed (ready .square)
+  abbrev alpha : List ℕ
+  alpha = weights-of rs cs n
+
+  abbrev w : ℕ
+  w = getD (weights-of cs rs n) i 0
+
+  inverse-el : Square rs cs n → (a : ℕ) → a < n
+      → el (inverse-at x rs alpha w a) ≡ weight K (point cs) (point rs) (span n 0) (span n 0) i
+      ⊗ (weight K (point rs) (point cs) (span n 0) (span n 0) a ⊗ inv (point rs a ⊕ point cs i))
+  unfolding inverse-at point
+  inverse-el square a l =
+      let near : x + getD rs a 0 < q = omega (arith, square .rows-good .inside a l, square .columns-good .inside i h) in
+      el-times _ _
+      ∙ ap₂ _⊗_ (weight-el cs rs n i h)
+      (el-times _ _ ∙ ap₂ _⊗_ (weight-el rs cs n a l) (el-inverse (x + getD rs a 0) near ∙ ap inv (el-plus x (getD rs a 0) ∙ K .add-comm _ _)))
+
+  regroup : (a b c v : K .F) → a ⊗ (b ⊗ c) ⊗ v ≡ a ⊗ (c ⊗ (b ⊗ v))
+  regroup a b c v = simp expand
+
+  closed : (b : ℕ) (list : List ℕ) → Square rs cs n → list ≡ filled n (inverse-at x rs alpha w) → combined list vs n b ≡ unknown-at rs cs (block vs b) n i
+  unfolding combined unknown-at point
+  closed b list square e =
+      val-of _ _ (sum-small sixteen 8 7 laws16 (span n 0) _)
+      (sum-el sixteen 8 7 laws16 (span n 0) _
+      ∙ field-sum-same K (span n 0) _ _ (λ a m.
+      let l = below n a m in
+      laws16 .el-multiply _ _
+      ∙ ap₂ _⊗_ (ap el (ap (λ (c : List ℕ). getD c a 0) e ∙ filled-at _ n a l) ∙ inverse-el square a l) (ap el (sym (block-at vs b a (omega (arith, square .few)))))
+      ∙ regroup _ _ _ _)
+      ∙ field-sum-scale K _ (span n 0) _)
+
+  pub unknown-right : (α β list : List ℕ) (b : ℕ) → Ready rs cs α β n → list ≡ filled n (inverse-at (getD cs i 0) rs α (getD β i 0))
+      → combined list vs n b ≡ unknown-at rs cs (block vs b) n i
+  unknown-right α β list b ready e =
+      closed b list (ready .square)
+      (e ∙ ap₂ (λ (a b : List ℕ). filled n (inverse-at x rs a (getD b i 0))) (ready .alpha-right) (ready .beta-right))
+
+-- ---- what goes by the first n values alone
+pub dot-same : (x : ℕ) (ps vs ws : List ℕ) (n : ℕ) → ((a : ℕ) → a < n → getD vs a 0 ≡ getD ws a 0) → dot-of x ps vs n ≡ dot-of x ps ws n
+unfolding dot-of
+dot-same x ps vs ws n e = sum-same sixteen (span n 0) _ _ (λ i m. ap (λ (v : ℕ). sixteen .multiply (sixteen .coefficient x (getD ps i 0)) v) (e i (below n i m)))
+
+pub unknown-same : (rs cs vs ws : List ℕ) (n i : ℕ) → ((a : ℕ) → a < n → getD vs a 0 ≡ getD ws a 0) → unknown-at rs cs vs n i ≡ unknown-at rs cs ws n i
+unfolding unknown-at point
+unknown-same rs cs vs ws n i e =
+    ap (λ u. val (weight K (point cs) (point rs) (span n 0) (span n 0) i ⊗ u))
+    (field-sum-same K (span n 0) _ _ (λ a m. ap (λ (v : ℕ). inv (point rs a ⊕ point cs i) ⊗ (weight K (point rs) (point cs) (span n 0) (span n 0) a ⊗ el v)) (e a (below n a m))))

@@ -1,14 +1,14 @@
 -- One turn of each loop.
 --   span-start, span-next, span-end                           what is left of the positions
 --   Weighing, weighing-start, weighing-more, weighing-end     a weight, factor by factor
---   Summing, summing-start, summing-more, summing-end         a sum that is reduced at its end
+--   sum-two, sum-both, sum-short                              sums that are reduced at their end; summands that are 0
 --   fits-next, fits-stop, fits-end                            a test of each further row
 -- Assumes nothing.
-use mathlib.Core.Path.{_≡_, sym, ap, ap₂, _∙_}
+use mathlib.Core.Path.{_≡_, refl, sym, ap, ap₂, _∙_}
 use mathlib.Core.Bool.{Bool, true, false, cond}
-use mathlib.Core.List.{List, [], _∷_}
-use Prim.Native.Nat.{ℕ, suc, _+_, _*_, _-_, _%_, _≤_, _<_}
-use native.Mathlib.Nat.{add-assoc, add-zero, mod-eq-of-lt, mod-lt}
+use mathlib.Core.List.{List, [], _∷_, _++_}
+use Prim.Native.Nat.{ℕ, zero, suc, _+_, _*_, _-_, _%_, _≤_, _<_}
+use native.Mathlib.Nat.{add-zero, add-mod, mod-lt}
 use native.Mathlib.Numerals.{add-one}
 use native.Mathlib.Decide.{ℕ-discrete}
 use native.Mathlib.Omega.{arith}
@@ -18,13 +18,14 @@ use lib.ListN.{getD}
 use Rattle.algebra.specs.Field.{Field, sub}
 use Rattle.algebra.specs.Cauchy.{gap, weight}
 use Rattle.algebra.proofs.Field.{expand, one-mul}
+use Rattle.algebra.proofs.Sums.{sum-append as field-sum-append}
 use Rattle.algebra.proofs.Residue.{mods}
 use Rattle.scheme.specs.Scheme.{span, q, sixteen, sum}
 use Rattle.scheme.specs.Totals.{all-of}
 use Rattle.scheme.specs.Laws.{Laws}
-use Rattle.scheme.proofs.Sums.{sum-small}
+use Rattle.scheme.proofs.Sums.{el-same, sum-el, sum-small}
 use Rattle.solve.specs.Solve.{laws16, point, Points, gap-of, weight-at}
-use Rattle.solve.proofs.Numbers.{el-one, el-plus, el-times, val-of, gap-el}
+use Rattle.solve.proofs.Numbers.{el-one, el-plus, el-rest, el-times, val-of, gap-el}
 
 pub span-next : (n i : ℕ) → i < n → span (n - i) i ≡ i ∷ span (n - (i + 1)) (i + 1)
 span-next n i h = let e : n - i ≡ suc (n - (i + 1)) = omega arith in rw (e, add-one)
@@ -93,37 +94,31 @@ module _ (own other : List ℕ) (n a : ℕ) where
       (sym (K .mul-one _ ∙ K .mul-one _) ∙ K .mul-assoc _ _ _ ∙ ap (λ l. el w ⊗ over l) (sym (span-end n i h)) ∙ s .rest)
 
 -- ---- SUMS
-module _ (f : ℕ → ℕ) (n : ℕ) where
-  pub record Summing (i s : ℕ) : Type 0 where
-    pub inside : i ≤ n
-    pub low : s ≤ i * (65535 * 65535)
-    pub rest : (s + sum sixteen (span (n - i) i) f) % q ≡ sum sixteen (span n 0) f
-
-  pub summing-start : Summing 0 0
-  summing-start = record {
-    inside = omega arith;
-    low = omega arith;
-    rest =
-        let e : 0 + sum sixteen (span n 0) f ≡ sum sixteen (span n 0) f = omega arith in
-        rw (span-start n, e) (mod-eq-of-lt (sum-small sixteen 8 7 laws16 (span n 0) f));
-  }
-
-  pub summing-more : (i s t : ℕ) → i < n → t ≡ f i → t ≤ 65535 * 65535 → Summing i s → Summing (i + 1) (s + t)
+module _ (f : ℕ → ℕ) where
+  pub sum-two : (i s t : ℕ) → s % q ≡ f i % q → t % q ≡ f (i + 1) % q → (s + t) % q ≡ sum sixteen (span 2 i) f
   unfolding sum
-  summing-more i s t l e h g = record {
-    inside = omega arith;
-    low = omega arith;
-    rest =
-        ap (λ (x : ℕ). (s + x + sum sixteen (span (n - (i + 1)) (i + 1)) f) % q) e ∙ regroup s (f i) _
-        ∙ ap (λ (l : List ℕ). (s + sum sixteen l f) % q) (sym (span-next n i l)) ∙ g .rest;
-  }
-    where
-      regroup : (s x r : ℕ) → (s + x + r) % q ≡ (s + (x + r) % q) % q
-      regroup s x r = simp (mods, add-assoc)
+  sum-two i s t a b =
+      add-mod s t q ∙ ap₂ (λ (m n : ℕ). (m + n) % q) a (b ∙ ap (λ (k : ℕ). f k % q) (add-one i)) ∙ simp (mods, add-zero)
 
-  pub summing-end : (i s : ℕ) → n ≤ i → Summing i s → s % q ≡ sum sixteen (span n 0) f
+  -- the sums over two lists
+  pub sum-both : (l m : List ℕ) (s t : ℕ) → s % q ≡ sum sixteen l f → t % q ≡ sum sixteen m f → (s + t) % q ≡ sum sixteen (l ++ m) f
+  sum-both l m s t a b =
+      el-same sixteen 8 7 laws16 (mod-lt _ (lit< tt)) (sum-small sixteen 8 7 laws16 (l ++ m) f)
+      (el-rest (s + t) ∙ el-plus s t
+      ∙ ap₂ _⊕_ (sym (el-rest s) ∙ ap el a ∙ sum-el sixteen 8 7 laws16 l f) (sym (el-rest t) ∙ ap el b ∙ sum-el sixteen 8 7 laws16 m f)
+      ∙ sym (field-sum-append K l m (λ k. el (f k))) ∙ sym (sum-el sixteen 8 7 laws16 (l ++ m) f))
+
+  -- summands that are 0 do not count
+  sum-none : (n k : ℕ) → ((i : ℕ) → k ≤ i → f i ≡ 0) → sum sixteen (span n k) f ≡ 0
   unfolding sum
-  summing-end i s h g = ap (λ (x : ℕ). x % q) (sym (add-zero s)) ∙ ap (λ (l : List ℕ). (s + sum sixteen l f) % q) (sym (span-end n i h)) ∙ g .rest
+  sum-none zero k z = refl
+  sum-none (suc n) k z = rw (z k (omega arith), sum-none n (suc k) (λ i h. z i (omega arith)))
+
+  pub sum-short : (m n k : ℕ) → n ≤ m → ((i : ℕ) → k + n ≤ i → f i ≡ 0) → sum sixteen (span m k) f ≡ sum sixteen (span n k) f
+  unfolding sum
+  sum-short m zero k h z = sum-none m k (λ i l. z i (omega arith))
+  sum-short zero (suc n) k h z = absurd (omega arith)
+  sum-short (suc m) (suc n) k h z = ap (λ (x : ℕ). (f k + x) % q) (sum-short m n (suc k) (omega arith) (λ i l. z i (omega arith)))
 
 -- ---- TESTS
 module _ (t : ℕ → Bool) (m i : ℕ) where

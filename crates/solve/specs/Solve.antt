@@ -2,19 +2,23 @@
 -- columns[i], and the coefficient is 1 / (rows[a] + columns[i]).
 --   laws16, point              the field, shut; the number at a position as its element
 --   Points, Near, Square       the first n points are in range and different; sums with them are below 16; such rows and columns
---   padded, filled, scaled     a list in the first of n places, and 0 behind it; n of eight entries by a rule; two lists multiplied place by place
+--   padded, filled             a list in the first of n places, and 0 behind it; n of eight entries by a rule
 --   gap-of                     1 / (x - y), and 1 where they are the same
 --   weight-at, weights-of      the weights of algebra's closed solution
 --   Ready                      a system with its weights
 --   unknown-at, solution-of    algebra's closed solution
---   dot-of                     the value of a row
---   fits-of, explained         the rows from n to m - 1 have the values that the solution of the first n rows gives them
+--   dot-of, fits-of            the value of a row; the rows from n to m - 1 have the values that follow from the unknowns
+--   cell, block                a grid: the number of a row and a block; the numbers of a block
+--   Factors, product, combined n factors; the product of one with a number of a block; the sum of these
+--   inverse-at                 what the value of a row counts for an unknown
+--   Put                        numbers written from a place on
+--   Solved, row-fits           the unknowns of every block; whether a row of several blocks has the values that follow
 -- Assumes nothing: these are definitions.
 use mathlib.Core.Path.{_≡_}
 use mathlib.Core.Logic.{_≢_}
 use mathlib.Core.Bool.{Bool, cond}
 use mathlib.Core.List.{List, _++_, map}
-use Prim.Native.Nat.{ℕ, _+_, _-_, _%_, _≤_, _<_}
+use Prim.Native.Nat.{ℕ, _+_, _*_, _-_, _%_, _≤_, _<_}
 use lib.Dec.{eqb, lit<}
 use lib.ListN.{length, getD, replicate}
 use Rattle.algebra.specs.Residue.{inverse}
@@ -23,7 +27,6 @@ use Rattle.scheme.specs.Scheme.{span, q, sixteen, sum}
 use Rattle.scheme.specs.Totals.{all-of}
 use Rattle.scheme.specs.Laws.{Laws}
 use Rattle.scheme.specs.Modular.{sixteen-field}
-use Rattle.solve.specs.declared.Explained.{Explained}
 
 unfoldable pub laws16 : Laws sixteen 8 7
 laws16 = sixteen-field 8 7 (lit< tt)
@@ -52,9 +55,6 @@ padded n l = l ++ replicate (n - length l) 0
 
 unfoldable pub filled : (n : ℕ) → (ℕ → ℕ) → List ℕ
 filled n f = padded 8 (map f (span n 0))
-
-unfoldable pub scaled : (weights values : List ℕ) → (n : ℕ) → List ℕ
-scaled ws vs n = filled n (λ i. sixteen .multiply (getD ws i 0) (getD vs i 0) % q)
 
 -- ---- THE CLOSED SOLUTION
 unfoldable pub gap-of : (x y : ℕ) → ℕ
@@ -85,5 +85,37 @@ dot-of x ps vs n = sum sixteen (span n 0) (λ i. sixteen .multiply (sixteen .coe
 unfoldable pub fits-of : (rows columns values unknowns : List ℕ) → (n m : ℕ) → Bool
 fits-of rs cs vs ws n m = all-of (λ a. eqb (dot-of (getD rs a 0) cs ws n) (getD vs a 0)) (span (m - n) n)
 
-unfoldable pub explained : (rows columns values : List ℕ) → (n m : ℕ) → Explained
-explained rs cs vs n m = record { fits = fits-of rs cs vs (solution-of rs cs vs n) n m; unknowns = solution-of rs cs vs n }
+-- ---- GRIDS: eight rows of 16 numbers, one for each block
+abbrev pub cell : (grid : List ℕ) → (a b : ℕ) → ℕ
+cell g a b = getD g (a * 16 + b) 0
+
+unfoldable pub block : (grid : List ℕ) → (b : ℕ) → List ℕ
+block g b = map (λ a. cell g a b) (span 8 0)
+
+-- n numbers, and 0 behind them
+pub record Factors (n : ℕ) (cs : List ℕ) : Type 0 where
+  pub few : n ≤ 8
+  pub behind : (i : ℕ) → n ≤ i → getD cs i 0 ≡ 0
+
+abbrev pub product : (factors grid : List ℕ) → (b i : ℕ) → ℕ
+product cs g b i = sixteen .multiply (getD cs i 0) (cell g i b)
+
+unfoldable pub combined : (factors grid : List ℕ) → (n b : ℕ) → ℕ
+combined cs g n b = sum sixteen (span n 0) (product cs g b)
+
+-- in the row of the unknown with the point x and the weight w
+unfoldable pub inverse-at : (x : ℕ) → (points alpha : List ℕ) → (w a : ℕ) → ℕ
+inverse-at x ps ws w a = sixteen .multiply w (sixteen .multiply (getD ws a 0) (sixteen .coefficient x (getD ps a 0)) % q) % q
+
+-- new is old with n numbers written from `at` on; the others stay
+pub record Put (f : ℕ → ℕ) (n at : ℕ) (old new : List ℕ) : Type 0 where
+  pub long : length new ≡ length old
+  pub each : (b : ℕ) → b < n → getD new (at + b) 0 ≡ f b
+  pub kept : (i : ℕ) → i < at → getD new i 0 ≡ getD old i 0
+  pub rest : (i : ℕ) → at + n ≤ i → getD new i 0 ≡ getD old i 0
+
+pub record Solved (rows columns values : List ℕ) (n : ℕ) (out : List ℕ) : Type 0 where
+  pub each : (i b : ℕ) → i < n → b < 16 → cell out i b ≡ unknown-at rows columns (block values b) n i
+
+unfoldable pub row-fits : (rows columns values unknowns : List ℕ) → (n blocks a : ℕ) → Bool
+row-fits rs cs vs ws n m a = all-of (λ b. eqb (dot-of (getD rs a 0) cs (block ws b) n) (cell vs a b)) (span m 0)

@@ -1,15 +1,24 @@
-// A square Cauchy system modulo 65521 by its closed solution.
-//   gap_of, weights    what depends on the points alone
-//   dot                the value of a row
-//   solve              the unknowns
-//   fits               whether further rows have the values that follow
-//   explain            both: the unknowns from the first n of m rows, and whether the others fit
+// Square Cauchy systems modulo 65521 by their closed solution, the systems of 16 blocks side by side.
+//   gap_of, weights         what depends on the points alone
+//   factors, inverse_row    a row of the system, and a row of its inverse
+//   dot, two                a row times the numbers of a block
+//   put_row, solve          the unknowns of every block
+//   same_row, fits          whether further rows have the values that follow
 // Everything goes by position: row a has the point rows[a], 1 to 8, column i the point columns[i], 1 to 7, and of each array the
-// first n entries count. The functions are for points that the caller knows to be in range and different.
+// first n entries count. A grid has eight rows of 16 numbers, one for each block. The functions are for points that the caller knows
+// to be in range and different.
 ghost use mathlib.Core.Path.{_≡_};
-ghost use Prim.Native.Nat.{_*_, _%_, _≤_, _<_};
-ghost use Rattle.scheme.specs.Scheme.{q};
-ghost use Rattle.solve.specs.Solve.{Points, Near, Ready, gap-of, weight-at, weights-of, dot-of, scaled, solution-of, fits-of, explained};
+ghost use Prim.Native.Nat.{_+_, _*_, _-_, _%_, _≤_, _<_};
+ghost use lib.Dec.{eqb};
+ghost use lib.ListN.{length, getD, replicate};
+ghost use Rattle.scheme.specs.Scheme.{span, q, sixteen, sum};
+ghost use Rattle.scheme.specs.Totals.{all-of};
+ghost use Rattle.solve.specs.Solve.{Points, Near, Ready, gap-of, weight-at, weights-of, filled, product, Factors, combined, inverse-at, Put, Solved, row-fits};
+
+// A plan has at most 16 blocks; with eight rows that makes 128 cells.
+pub const BLOCKS: usize = 16;
+
+pub const CELLS: usize = 128;
 
 // 1 / (d - 7) for d from 0 to 14, and 1 at 7.
 const GAPS: [u16; 15] = [
@@ -73,104 +82,149 @@ pub fn weights(own: &[u32; 8], other: &[u32; 8], n: usize) -> [u16; 8]
     out
 }
 
-// Eight such products and more fit 64 bits.
-fn product(a: u16, b: u16) -> u64
-    ensures { λ r. ⌜ (r ≡ a * b) × (r ≤ 65535 * 65535) ⌝ }
-{
-    a as u64 * b as u64
-}
-
-// Σ values[i] / (x + points[i]), reduced once.
-pub fn dot(x: u32, points: &[u32; 8], values: &[u16; 8], n: usize) -> u16
+// The row with the point x: 1 / (x + points[i]).
+fn factors(x: u32, points: &[u32; 8], n: usize) -> [u16; 8]
     requires { ⌜ (n ≤ 8) × Near x n (now points) ⌝ }
-    ensures { λ r. ⌜ r ≡ dot-of x (now (points .entry)) (now (values .entry)) n ⌝ }
-{
-    let mut sum: u64 = 0;
-    let mut i = 0;
-    while i < n {
-        sum += product(element::coefficient(x, points[i]), values[i]);
-        i += 1;
-    }
-    (sum % element::Q as u64) as u16
-}
-
-// The values times the rows' weights.
-fn scale(weights: &[u16; 8], values: &[u16; 8], n: usize) -> [u16; 8]
-    requires { ⌜ n ≤ 8 ⌝ }
-    ensures { λ r. ⌜ r ≡ scaled (now (weights .entry)) (now (values .entry)) n ⌝ }
+    ensures { λ r. ⌜ r ≡ filled n (λ i. sixteen .coefficient x (getD (now (points .entry)) i 0)) ⌝ }
 {
     let mut out = [0u16; 8];
     let mut i = 0;
     while i < n {
-        out[i] = element::multiply(weights[i], values[i]);
+        out[i] = element::coefficient(x, points[i]);
         i += 1;
     }
     out
 }
 
-// Unknown i is beta[i] Σ alpha[a] values[a] / (rows[a] + columns[i]).
+// The row of the inverse for the unknown with the point x: weight * alpha[a] / (x + points[a]).
+fn inverse_row(x: u32, points: &[u32; 8], alpha: &[u16; 8], weight: u16, n: usize) -> [u16; 8]
+    requires { ⌜ (n ≤ 8) × Near x n (now points) ⌝ }
+    ensures { λ r. ⌜ r ≡ filled n (inverse-at x (now (points .entry)) (now (alpha .entry)) weight) ⌝ }
+{
+    let mut out = [0u16; 8];
+    let mut i = 0;
+    while i < n {
+        let c = element::coefficient(x, points[i]);
+        out[i] = element::multiply(weight, element::multiply(alpha[i], c));
+        i += 1;
+    }
+    out
+}
+
+// Two products of a row and the numbers of a block, from position i on, not reduced.
+fn two(list: &[u16; 8], grid: &[u16; CELLS], i: usize, b: usize) -> u32
+    requires { ⌜ (i ≤ 6) × (b < 16) ⌝ }
+    ensures { λ r. ⌜ (r % q ≡ sum sixteen (span 2 i) (product (now (list .entry)) (now (grid .entry)) b)) × (r ≤ 2 * 1048560) ⌝ }
+{
+    let at = i * BLOCKS + b;
+    let s = element::folded(list[i], grid[at]);
+    let t = element::folded(list[i + 1], grid[at + 16]);
+    s + t
+}
+
+// The products of all positions that count; the others are 0.
+fn dot(list: &[u16; 8], grid: &[u16; CELLS], n: usize, b: usize) -> u32
+    requires { ⌜ Factors n (now list) × (b < 16) ⌝ }
+    ensures { λ r. ⌜ (r % q ≡ combined (now (list .entry)) (now (grid .entry)) n b) × (r ≤ 8 * 1048560) ⌝ }
+{
+    let low = two(list, grid, 0, b);
+    if n <= 2 {
+        return low;
+    }
+    let four = low + two(list, grid, 2, b);
+    if n <= 4 {
+        return four;
+    }
+    four + (two(list, grid, 4, b) + two(list, grid, 6, b))
+}
+
+// A row times the numbers of each block, written from `at` on.
+fn put_row(out: &mut [u16; CELLS], at: usize, list: &[u16; 8], grid: &[u16; CELLS], n: usize)
+    requires { ⌜ (at + 16 ≤ 128) × (length (now out) ≡ 128) × Factors n (now list) ⌝ }
+    ensures { λ r. ⌜ Put (combined (now (list .entry)) (now (grid .entry)) n) 16 at (now (out .entry)) (now (out .exit)) ⌝ }
+{
+    let mut b = 0;
+    while b < BLOCKS {
+        out[at + b] = element::reduce(dot(list, grid, n, b));
+        b += 1;
+    }
+}
+
+pub fn no_cells() -> [u16; CELLS]
+    ensures { λ r. ⌜ r ≡ replicate 128 0 ⌝ }
+{
+    [0; CELLS]
+}
+
+// Unknown i of a block is beta[i] Σ alpha[a] values[a] / (rows[a] + columns[i]).
 pub fn solve(
     rows: &[u32; 8],
     columns: &[u32; 8],
     alpha: &[u16; 8],
     beta: &[u16; 8],
-    values: &[u16; 8],
+    values: &[u16; CELLS],
     n: usize,
-) -> [u16; 8]
+) -> [u16; CELLS]
     requires { ⌜ Ready (now rows) (now columns) (now alpha) (now beta) n ⌝ }
-    ensures { λ r. ⌜ r ≡ solution-of (now (rows .entry)) (now (columns .entry)) (now (values .entry)) n ⌝ }
+    ensures { λ r. ⌜ Solved (now (rows .entry)) (now (columns .entry)) (now (values .entry)) n r ⌝ }
 {
-    let weighed = scale(alpha, values, n);
-    let mut out = [0u16; 8];
+    let mut out = no_cells();
+    let mut at = 0;
     let mut i = 0;
     while i < n {
-        out[i] = element::multiply(beta[i], dot(columns[i], rows, &weighed, n));
+        let list = inverse_row(columns[i], rows, alpha, beta[i], n);
+        put_row(&mut out, at, &list, values, n);
+        at += BLOCKS;
         i += 1;
     }
     out
 }
 
-// Whether the rows from n to m - 1 have the values that follow from the unknowns.
+// Whether the values from `at` on are a row times the numbers of each block. Without an early end many are compared at a time.
+fn same_row(
+    list: &[u16; 8],
+    grid: &[u16; CELLS],
+    n: usize,
+    values: &[u16; CELLS],
+    at: usize,
+    blocks: usize,
+) -> bool
+    requires { ⌜ (blocks ≤ 16) × (at + 16 ≤ 128) × Factors n (now list) ⌝ }
+    ensures { λ r. ⌜ r ≡ all-of (λ b. eqb (combined (now (list .entry)) (now (grid .entry)) n b) (getD (now (values .entry)) (at + b) 0)) (span blocks 0) ⌝ }
+{
+    let mut good = true;
+    let mut b = 0;
+    while b < blocks {
+        if element::reduce(dot(list, grid, n, b)) != values[at + b] {
+            good = false;
+        }
+        b += 1;
+    }
+    good
+}
+
+// Whether the rows from n to m - 1 have in each block the values that follow from the unknowns.
 pub fn fits(
     rows: &[u32; 8],
     columns: &[u32; 8],
-    values: &[u16; 8],
-    unknowns: &[u16; 8],
+    values: &[u16; CELLS],
+    unknowns: &[u16; CELLS],
     n: usize,
     m: usize,
+    blocks: usize,
 ) -> bool
-    requires { ⌜ (n ≤ m) × (m ≤ 8) × Points 8 m (now rows) × Points 7 n (now columns) ⌝ }
-    ensures { λ r. ⌜ r ≡ fits-of (now (rows .entry)) (now (columns .entry)) (now (values .entry)) (now (unknowns .entry)) n m ⌝ }
+    requires { ⌜ (n ≤ m) × (m ≤ 8) × (blocks ≤ 16) × Points 8 m (now rows) × Points 7 n (now columns) ⌝ }
+    ensures { λ r. ⌜ r ≡ all-of (row-fits (now (rows .entry)) (now (columns .entry)) (now (values .entry)) (now (unknowns .entry)) n blocks) (span (m - n) n) ⌝ }
 {
+    let mut at = n * BLOCKS;
     let mut a = n;
     while a < m {
-        if dot(rows[a], columns, unknowns, n) != values[a] {
+        let list = factors(rows[a], columns, n);
+        if !same_row(&list, unknowns, n, values, at, blocks) {
             return false;
         }
+        at += BLOCKS;
         a += 1;
     }
     true
-}
-
-pub struct Explained {
-    pub fits: bool,
-    pub unknowns: [u16; 8],
-}
-
-// What explains the values of m rows, if anything does.
-pub fn explain(
-    rows: &[u32; 8],
-    columns: &[u32; 8],
-    alpha: &[u16; 8],
-    beta: &[u16; 8],
-    values: &[u16; 8],
-    n: usize,
-    m: usize,
-) -> Explained
-    requires { ⌜ (n ≤ m) × (m ≤ 8) × Points 8 m (now rows) × Ready (now rows) (now columns) (now alpha) (now beta) n ⌝ }
-    ensures { λ r. ⌜ r ≡ explained (now (rows .entry)) (now (columns .entry)) (now (values .entry)) n m ⌝ }
-{
-    let unknowns = solve(rows, columns, alpha, beta, values, n);
-    let fits = fits(rows, columns, values, &unknowns, n, m);
-    Explained { fits, unknowns }
 }

@@ -1,11 +1,12 @@
 -- `capi::cutawheno_reply` meets its contract: the client's number decides, and where the reply is taken its part lies inside the key.
 -- Assumes nothing.
 use mathlib.Core.Path.{_≡_, sym, ap, _∙_}
+use native.Mathlib.Nat.{le-of-lt}
 use native.Mathlib.Omega.{arith}
 use denote.Ref.{now}
 use borrow.Author.Needs.{needs}
 use Rattle.scheme.specs.Scheme.{sixteen, Stage, reply-refusal}
-use Rattle.plan.proofs.Laws.{usable-le, reply-inside}
+use Rattle.plan.proofs.Laws.{usable-small, usable-le, reply-inside}
 use Rattle.client.specs.declared.Answer.{Answer}
 use Rattle.scheme.proofs.Refusals.{start-taken}
 use Rattle.client.proofs.Laws.{Answers, reply-answers, answers-held, moved-number}
@@ -39,7 +40,7 @@ reply-start-requires : tie.Need-reply-start-requires
 reply-start-requires c κs =
     let t = answers c in
     let g = start-taken _ _ (t .begun) in
-    (g .0, g .1, omega arith, usable-le _ _ (g .0) (t .whole))
+    (g .0, g .1, omega arith, le-of-lt (usable-small _ _ (t .whole)))
 
 cast-start : tie.Need-cast-start
 cast-start c = search needs

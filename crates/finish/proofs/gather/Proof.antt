@@ -1,40 +1,46 @@
--- `finish::gather` meets its contract. The loop's invariant: the first i replies are written.
+-- `finish::gather` meets its contract. The loop's invariant: the replies of i rows are written.
 -- The measure is how many are left. Assumes nothing.
-use Prim.Native.Nat.{_-_}
+use mathlib.Core.Path.{sym, ap, _∙_}
+use Prim.Native.Nat.{ℕ, _+_, _-_, _≤_}
 use native.Mathlib.Omega.{arith}
 use lib.ListN.{getD}
 use borrow.Author.Needs.{needs}
-use Rattle.solve.proofs.Filled.{Filling, filling-start, filling-more, filling-end}
+use Rattle.solve.proofs.Grids.{Rows, rows-start, rows-more}
 use Rattle.finish.specs.Parts.{held-in}
+use Rattle.finish.proofs.Turns.{held-at}
 use Rattle.finish.proofs.gather.Statement.{statement}
 use Rattle.finish.proofs.gather.Tie as tie
 
 abbrev Inv-loop : tie.InvT-loop
-Inv-loop reply rows count block out₀ i₀ out i = Filling (λ a. held-in 16 reply (getD rows a 0) block) count i out
+Inv-loop reply rows count blocks out₀ at₀ i₀ out at i = (i ≤ count) × Rows (λ a b. held-in 16 reply (getD rows a 0) b) blocks i at out
 
 abbrev μ-loop : tie.MeasureT-loop
-μ-loop reply rows count block out₀ i₀ out i = count - i
+μ-loop reply rows count blocks out₀ at₀ i₀ out at i = count - i
+
+no-cells-requires : tie.Need-no-cells-requires Inv-loop μ-loop
+no-cells-requires c κs = search needs
 
 loop-holds : tie.Need-loop-holds Inv-loop μ-loop
-loop-holds c = filling-start _ _
+loop-holds c = (omega arith, rw (c .no-cells .ensures) (rows-start _ _))
 
-mul-held-in : tie.Need-mul-held-in Inv-loop μ-loop
-mul-held-in c = search needs
+mul-start-of : tie.Need-mul-start-of Inv-loop μ-loop
+mul-start-of c = search needs
 
-element-copy-out-held-in : tie.Need-element-copy-out-held-in Inv-loop μ-loop
-element-copy-out-held-in c = search needs
+element-copy-out-start-of : tie.Need-element-copy-out-start-of Inv-loop μ-loop
+element-copy-out-start-of c = search needs
 
-held-in-requires : tie.Need-held-in-requires Inv-loop μ-loop
-held-in-requires c κs =
-    let s = c .before .before .before .before in
-    let x = s .pre .2 .inside (c .before .before .before .loop .i) (c .before .before .loop-test .taken) in
-    (omega arith, omega arith, x .0, x .1, s .pre .1)
+start-of-requires : tie.Need-start-of-requires Inv-loop μ-loop
+start-of-requires c κs = let x = c .before .before .before .before .pre .2 .inside (c .before .before .loop .i) (c .before .loop-test .taken) in (x .0, x .1, omega arith)
 
-mul-out : tie.Need-mul-out Inv-loop μ-loop
-mul-out c = search needs
+put-held-requires : tie.Need-put-held-requires Inv-loop μ-loop
+put-held-requires c κs =
+    let l = c .before .before .before .before .loop in
+    let s = c .before .before .before .before .before .before in
+    let x = s .pre .2 .inside (l .i) (c .before .before .before .loop-test .taken) in
+    (s .pre .1, omega (arith, l .inv .1 .place), omega (arith, x .0, x .1, c .before .start-of .ensures), l .inv .1 .long)
 
-array-write-out : tie.Need-array-write-out Inv-loop μ-loop
-array-write-out c = search needs
+add-at : tie.Need-add-at Inv-loop μ-loop
+add-at c = search needs
 
 add-i : tie.Need-add-i Inv-loop μ-loop
 add-i c = search needs
@@ -44,11 +50,19 @@ loop-less c = search needs
 
 loop-again : tie.Need-loop-again Inv-loop μ-loop
 loop-again c =
-    let l = c .before .before .before .before .loop in
-    filling-more _ _ (l .i) _ _ (c .before .before .before .before .before .pre .0) (c .before .before .before .loop-test .taken) (c .held-in .ensures) (l .inv)
+    let l = c .before .before .before .before .before .loop in
+    let s = c .before .before .before .before .before .before .before in
+    let x = s .pre .2 .inside (l .i) (c .before .before .before .before .loop-test .taken) in
+    let y = s .args .reply .now in (
+      omega arith,
+      rows-more _ _ _ (l .i) _ _ _ (s .pre .1) (l .inv .1)
+          (λ b k. ap (λ (f : ℕ). getD y (f + b) 0 - 1) (c .before .before .start-of .ensures) ∙ sym (held-at 16 y _ b (x .0) (x .1) (omega arith))) (c .put-held .ensures),
+    )
 
 returns : tie.Need-returns Inv-loop μ-loop
-returns c = filling-end _ _ _ _ (c .loop-test .left) (c .before .loop .inv)
+returns c =
+    let r = c .before .loop .inv .1 in
+    record { each = λ a b h. r .each a b (omega arith); small = λ m z f. r .small m z (λ a b h. f a b (omega arith)) }
 
 pub gather-spec : {M : Type 1} → statement M
 gather-spec =
@@ -56,12 +70,13 @@ gather-spec =
     (tie.spec
     Inv-loop
     μ-loop
+    no-cells-requires
     loop-holds
-    mul-held-in
-    element-copy-out-held-in
-    held-in-requires
-    mul-out
-    array-write-out
+    mul-start-of
+    element-copy-out-start-of
+    start-of-requires
+    put-held-requires
+    add-at
     add-i
     loop-less
     loop-again

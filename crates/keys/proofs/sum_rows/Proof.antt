@@ -8,14 +8,14 @@ use native.Mathlib.Omega.{arith}
 use lib.ListN.{getD, replicate, length-replicate}
 use borrow.Author.Needs.{needs}
 use Rattle.scheme.specs.Scheme.{q, sum, in-set}
-use Rattle.keys.specs.Parts.{Raised, Summed}
+use Rattle.keys.specs.Parts.{Raised, set-sum, Summed}
 use Rattle.keys.proofs.Sums.{members-take, members-skip}
 use Rattle.keys.proofs.Rows.{zeros-at}
 use Rattle.keys.proofs.sum_rows.Statement.{statement}
 use Rattle.keys.proofs.sum_rows.Tie as tie
 
 none : (zs : List ℕ) (v : ℕ) → Summed zs v 0 (replicate 16 0)
-unfolding sum
+unfolding sum set-sum
 none zs v =
     record {
       long = length-replicate {A = ℕ} 16 0;
@@ -26,6 +26,7 @@ none zs v =
 module _ {zs : List ℕ} {v k : ℕ} {sums : List ℕ} (s : Summed zs v k sums) where
   taken : in-set v (k + 1) ≡ true → (from : ℕ) → from ≡ k * 16 → (new : List ℕ) →
       Raised (λ b. getD zs (from + b) 0) 65535 16 sums new → Summed zs v (k + 1) new
+  unfolding set-sum
   taken e from f new a =
       record {
         long = a .long ∙ s .long;
@@ -37,6 +38,7 @@ module _ {zs : List ℕ} {v k : ℕ} {sums : List ℕ} (s : Summed zs v k sums) 
       }
 
   skipped : in-set v (k + 1) ≡ false → Summed zs v (k + 1) sums
+  unfolding set-sum
   skipped e =
       record {
         long = s .long;

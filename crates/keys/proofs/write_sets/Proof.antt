@@ -8,8 +8,9 @@ use native.Mathlib.Nat.{zero-add, add-zero, zero-mul, mul-le-mul}
 use native.Mathlib.Omega.{arith}
 use lib.ListN.{length}
 use lib.Seq.{sets, length-sets}
+use denote.Ref.{now}
 use borrow.Author.Needs.{needs}
-use Rattle.scheme.specs.Scheme.{members, rank, rows, sixteen, Plan, places, in-set, usable, usable-with, sets-with, noise-start, shares, reply-start}
+use Rattle.scheme.specs.Scheme.{members, rank, rows, sixteen, Plan, items, places, in-set, usable, usable-with, sets-with, noise-start, shares, reply-start}
 use Rattle.scheme.proofs.Tests.{joined}
 use Rattle.scheme.proofs.Lists.{rows-length}
 use Rattle.scheme.proofs.Keys.{shares-length}
@@ -17,6 +18,7 @@ use Rattle.plan.specs.Plan.{plan-of}
 use Rattle.plan.proofs.Laws.{reply-inside}
 use Rattle.keys.proofs.Places.{rows-in, noise-set, noise-skip, noise-room, reply-set, reply-skip}
 use Rattle.scheme.proofs.Lists.{sets-append}
+use Rattle.keys.proofs.Shares.{shares-right}
 use Rattle.keys.proofs.Writing.{rows-take, rows-skip}
 use Rattle.keys.proofs.write_sets.Statement.{statement}
 use Rattle.keys.proofs.write_sets.Tie as tie
@@ -77,17 +79,26 @@ unfolding usable-with
 with-none p k v u = rw u
 
 abbrev Inv-loop : tie.InvT-loop
-Inv-loop plan user list out₀ row products blocks step end noise₀ at₀ v₀ out noise at v = (v ≤ end) × Going (plan-of plan) user list out₀ out noise at v
+Inv-loop plan user list out₀ row products items high blocks step end noise₀ at₀ v₀ out noise at v = (v ≤ end) × Going (plan-of plan) user list out₀ out noise at v
 
 abbrev μ-loop : tie.MeasureT-loop
-μ-loop plan user list out₀ row products blocks step end noise₀ at₀ v₀ out noise at v = end - v
+μ-loop plan user list out₀ row products items high blocks step end noise₀ at₀ v₀ out noise at v = end - v
 
 -- the buffer keeps its length
-long : (c : tie.At-loop Inv-loop μ-loop) → length (c .loop .out) ≡ length (c .before .before .before .before .before .before .before .before .args .out .now)
+long : (c : tie.At-loop Inv-loop μ-loop) → length (c .loop .out) ≡ length (c .before .before .before .before .before .before .before .before .before .before .args .out .now)
 long c = ap length (c .loop .inv .1 .written) ∙ simp length-sets
 
 mask-products-requires : tie.Need-mask-products-requires Inv-loop μ-loop
 mask-products-requires c κs = search needs
+
+sub-items : tie.Need-sub-items Inv-loop μ-loop
+sub-items c = search needs
+
+add-coefficients : tie.Need-add-coefficients Inv-loop μ-loop
+add-coefficients c = search needs
+
+coefficients-requires : tie.Need-coefficients-requires Inv-loop μ-loop
+coefficients-requires c κs = search needs
 
 cast-blocks : tie.Need-cast-blocks Inv-loop μ-loop
 cast-blocks c = search needs
@@ -97,9 +108,9 @@ cast-step c = search needs
 
 mul-step : tie.Need-mul-step Inv-loop μ-loop
 mul-step c =
-    let g = c .before .before .before .before .before .pre .0 .good in
-    let a = c .before .before .before .before .before .args in
-    let l : a .plan .blocks * a .plan .collusion ≤ 128 = mul-le-mul {n₂ = 16} {m₂ = 8} (g .blocks-high) (omega arith) in
+    let s = c .before .before .before .before .before .before .before in
+    let g = s .pre .0 .good in
+    let l : s .args .plan .blocks * s .args .plan .collusion ≤ 128 = mul-le-mul {n₂ = 16} {m₂ = 8} (g .blocks-high) (omega arith) in
     omega (arith, l)
 
 all-sets-requires : tie.Need-all-sets-requires Inv-loop μ-loop
@@ -110,21 +121,21 @@ cast-noise c = search needs
 
 mul-noise : tie.Need-mul-noise Inv-loop μ-loop
 mul-noise c =
-    let s = c .before .before .before .before .before .before .before in
+    let s = c .before .before .before .before .before .before .before .before .before in
     let a = s .args in
     omega (arith, rows-in (plan-of (a .plan)), s .pre .0 .long, ap (λ (x : ℕ). a .plan .users * x) (s .pre .1 .0), s .good)
 
 loop-holds : tie.Need-loop-holds Inv-loop μ-loop
-loop-holds c = (search needs, start _ _ _ _ _ (c .before .before .before .before .before .before .before .pre .1 .0))
+loop-holds c = (search needs, start _ _ _ _ _ (c .before .before .before .before .before .before .before .before .before .pre .1 .0))
 
-is-usable-requires : tie.Need-is-usable-requires Inv-loop μ-loop
-is-usable-requires c κs = search needs
+has-enough-requires : tie.Need-has-enough-requires Inv-loop μ-loop
+has-enough-requires c κs = omega (arith, c .before .before .before .all-sets .ensures .0, c .loop-test .taken)
 
 add-noise : tie.Need-add-noise Inv-loop μ-loop
 add-noise c =
     let i = c .before .before .before .loop in
-    let s = c .before .before .before .before .before .before .before .before .before .before .before in
-    let u = sym (c .before .is-usable .ensures) ∙ c .if1 .taken in
+    let s = c .before .before .before .before .before .before .before .before .before .before .before .before .before in
+    let u = sym (c .before .has-enough .ensures) ∙ c .if1 .taken in
     omega (arith, i .inv .1 .noise-is, noise-room (plan-of (s .args .plan)) (i .v) u, s .pre .0 .long, s .good)
 
 holds-requires : tie.Need-holds-requires Inv-loop μ-loop
@@ -132,28 +143,32 @@ holds-requires c κs = search needs
 
 -- a set that is usable and holds the user, and room for its shares
 module _ (c : tie.Then2 Inv-loop μ-loop) where
-  is-usable : let s = c .before .before .before .before .before in
-      usable (plan-of (s .before .before .before .before .before .before .before .before .args .plan)) (s .loop .v) ≡ true
-  is-usable = sym (c .before .before .before .is-usable .ensures) ∙ c .before .before .if1 .taken
+  is-usable : let s = c .before .before .before .before .before in usable (plan-of (s .before .before .before .before .before .before .before .before .before .before .args .plan)) (s .loop .v) ≡ true
+  is-usable = sym (c .before .before .before .has-enough .ensures) ∙ c .before .before .if1 .taken
 
-  room : let s = c .before .before .before .before .before in let a = s .before .before .before .before .before .before .before .before .args in
-      s .loop .at + a .plan .blocks ≤ length (a .out .now)
+  room : let s = c .before .before .before .before .before in let a = s .before .before .before .before .before .before .before .before .before .before .args in s .loop .at + a .plan .blocks ≤ length (a .out .now)
   room =
       let s = c .before .before .before .before .before in
-      let t = s .before .before .before .before .before .before .before .before in
+      let t = s .before .before .before .before .before .before .before .before .before .before in
       let w = with-both _ _ _ is-usable (sym (c .before .holds .ensures) ∙ c .if2 .taken) in
       omega (arith, s .loop .inv .1 .at-is, reply-inside (plan-of (t .args .plan)) (t .args .user) (s .loop .v) w, t .pre .1 .2)
 
 write-shares-requires : tie.Need-write-shares-requires Inv-loop μ-loop
 write-shares-requires c κs =
-    let s = c .before .before .before .before .before .before .before in
-    let t = s .before .before .before .before .before .before .before .before in
-    (t .pre .0, ((s .before .before .before .before .before .mask-products .ensures, omega (arith, room (c .before .before), long s)), (s .loop .inv .1 .noise-is, is-usable (c .before .before))))
+    let t = c .before .before .before in
+    let s = t .before .before .before .before .before in
+    let f = s .before .before .before .before .before .before .before .before .before .before in (
+      (omega arith, omega arith, omega arith, omega arith),
+      (
+        omega (arith, s .loop .inv .1 .noise-is, noise-room (plan-of (f .args .plan)) (s .loop .v) (is-usable t), f .pre .0 .long),
+        omega (arith, room t, long s),
+      ),
+    )
 
 add-at : tie.Need-add-at Inv-loop μ-loop
 add-at c =
-    let t = c .before .before .before .before .before in
-    omega (arith, room t, t .before .before .before .before .before .before .before .before .before .before .before .before .before .good)
+    let t = c .before .before .before .before .before .before in
+    omega (arith, room t, t .before .before .before .before .before .before .before .before .before .before .before .before .before .before .before .good)
 
 add-v : tie.Need-add-v Inv-loop μ-loop
 add-v c = search needs
@@ -162,12 +177,17 @@ loop-less : tie.Need-loop-less Inv-loop μ-loop
 loop-less c = search needs
 
 loop-again : tie.Need-loop-again Inv-loop μ-loop
+unfolding items
 loop-again c =
-    let i = c .before .before .before .loop in
+    let l = c .before .before .before in
+    let i = l .loop in
+    let s = l .before .before .before .before .before .before .before .before .before .before in
     let g = i .inv .1 in
-    let u = sym (c .before .is-usable .ensures) in (
+    let u = sym (c .before .has-enough .ensures) in
+    let r = shares-right (plan-of (s .args .plan)) (now (s .args .list)) (s .args .user) (i .v) (i .noise) (l .before .before .before .before .before .before .before .mask-products .result) (l .before .before .before .before .before .coefficients .result)
+    (s .pre .0 .good) (g .noise-is) (l .before .before .before .before .before .before .before .mask-products .ensures) (l .before .before .before .before .before .coefficients .ensures) in (
       omega arith,
-      ⊎-elim (λ w. rw (w .8, w .5 .ensures, w .9, w .10)
+      ⊎-elim (λ w. rw (w .9, w .6 .ensures, r, w .10, w .11)
           (taken g (with-both _ _ _ (u ∙ w .0 .taken) (sym (w .1 .ensures) ∙ w .2 .taken)) _ (next-noise g (u ∙ w .0 .taken))))
           (⊎-elim (λ w. rw (w .3, w .4, w .5)
           (skipped g (with-one _ _ _ (u ∙ w .0 .taken) (sym (w .1 .ensures) ∙ w .2 .left)) _ (next-noise g (u ∙ w .0 .taken))))
@@ -181,7 +201,7 @@ same-length c = long (c .before)
 returns : tie.Need-returns Inv-loop μ-loop
 unfolding sets-with
 returns c =
-    let s = c .before .before .before .before .before .before .before .before .before in
+    let s = c .before .before .before .before .before .before .before .before .before .before .before in
     let a = s .args in
     let p = plan-of (a .plan) in
     let i = c .before .loop in
@@ -196,6 +216,9 @@ write-sets-spec =
     Inv-loop
     μ-loop
     mask-products-requires
+    sub-items
+    add-coefficients
+    coefficients-requires
     cast-blocks
     cast-step
     mul-step
@@ -203,7 +226,7 @@ write-sets-spec =
     cast-noise
     mul-noise
     loop-holds
-    is-usable-requires
+    has-enough-requires
     add-noise
     holds-requires
     write-shares-requires

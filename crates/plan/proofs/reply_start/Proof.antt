@@ -4,12 +4,13 @@ use Prim.Native.Nat.{_≤_}
 use native.Mathlib.Omega.{arith}
 use borrow.Author.Needs.{needs}
 use Rattle.scheme.specs.Scheme.{reply-start}
-use Rattle.plan.proofs.Laws.{shares-le}
+use Rattle.plan.specs.Plan.{plan-of}
+use Rattle.plan.proofs.Laws.{sets-le, shares-le}
 use Rattle.plan.proofs.reply_start.Statement.{statement}
 use Rattle.plan.proofs.reply_start.Tie as tie
 
 few : (c : tie.After-set-place) → c .set-place .result ≤ 256
-few c = omega arith
+few c = let s = c .before .before in omega (arith, sets-le (plan-of (s .args .p)) (s .pre .0))
 
 places-of-requires : tie.Need-places-of-requires
 places-of-requires c κs = search needs
@@ -19,6 +20,9 @@ set-place-requires c κs = search needs
 
 cast-result : tie.Need-cast-result
 cast-result c = search needs
+
+cast-result-2 : tie.Need-cast-result-2
+cast-result-2 c = search needs
 
 mul-result : tie.Need-mul-result
 mul-result c = omega (arith, shares-le (c .before .before .before .pre .0) (few (c .before)))
@@ -33,4 +37,4 @@ returns c = (cc, omega (arith, shares-le (c .before .before .before .pre .0) (fe
 pub reply-start-spec : {M : Type 1} → statement M
 reply-start-spec =
     tie.close
-    (tie.spec places-of-requires set-place-requires cast-result mul-result add-result returns)
+    (tie.spec places-of-requires set-place-requires cast-result cast-result-2 mul-result add-result returns)

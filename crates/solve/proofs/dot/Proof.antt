@@ -1,93 +1,75 @@
--- `solve::dot` meets its contract. The loop's invariant: the sum so far and the sum over the positions that are left make the whole sum.
--- The measure is how many are left. Assumes nothing.
-use mathlib.Core.Path.{ap, _∙_}
-use mathlib.Core.List.{List}
-use Prim.Native.Nat.{ℕ, _*_, _-_}
-use lib.ListN.{getD}
+-- `solve::dot` meets its contract: where at most two or four factors count, the others are 0.
+-- Assumes nothing.
+use mathlib.Core.Path.{_≡_, ap, _∙_}
+use Prim.Native.Nat.{ℕ, _+_, _*_, _%_, _≤_}
+use native.Mathlib.Nat.{zero-mul}
+use native.Mathlib.Omega.{arith}
 use borrow.Author.Needs.{needs}
-use Rattle.scheme.specs.Scheme.{sixteen}
-use Rattle.solve.specs.Solve.{dot-of}
-use Rattle.solve.proofs.Turns.{Summing, summing-start, summing-more, summing-end}
+use Rattle.scheme.specs.Scheme.{span, q, sixteen, sum}
+use Rattle.solve.specs.Solve.{cell, product, combined}
+use Rattle.solve.proofs.Turns.{sum-both, sum-short}
 use Rattle.solve.proofs.dot.Statement.{statement}
 use Rattle.solve.proofs.dot.Tie as tie
 
-abbrev term : (x : ℕ) → (points values : List ℕ) → (i : ℕ) → ℕ
-term x ps vs i = sixteen .multiply (sixteen .coefficient x (getD ps i 0)) (getD vs i 0)
+nothing : (c : tie.Start) → (i : ℕ) → 0 + c .args .n ≤ i → product (c .args .list .now) (c .args .grid .now) (c .args .b) i ≡ 0
+nothing c i h = ap (λ (x : ℕ). x * cell (c .args .grid .now) i (c .args .b)) (c .pre .0 .behind i (omega arith)) ∙ zero-mul (cell (c .args .grid .now) i (c .args .b))
 
-abbrev Inv-loop : tie.InvT-loop
-Inv-loop x points values n sum₀ i₀ sum i = Summing (term x points values) n i sum
+first-four : (c : tie.After-two2) → let a = c .before .before .before .args in (c .before .before .two .result + c .two2 .result) % q ≡ sum sixteen (span 4 0) (product (a .list .now) (a .grid .now) (a .b))
+first-four c = sum-both _ (span 2 0) (span 2 2) _ _ (c .before .before .two .ensures .0) (c .two2 .ensures .0)
 
-abbrev μ-loop : tie.MeasureT-loop
-μ-loop x points values n sum₀ i₀ sum i = n - i
+two-requires : tie.Need-two-requires
+two-requires c κs = search needs
 
-loop-holds : tie.Need-loop-holds Inv-loop μ-loop
-loop-holds c = summing-start _ _
+returns : tie.Need-returns
+unfolding combined
+returns c =
+    let s = c .before .before in
+    (c .before .two .ensures .0 ∙ sum-short _ 2 _ 0 (c .if1 .taken) (nothing s), omega (arith, c .before .two .ensures .1))
 
-mul-coefficient : tie.Need-mul-coefficient Inv-loop μ-loop
-mul-coefficient c = search needs
+two-requires-2 : tie.Need-two-requires-2
+two-requires-2 c κs = search needs
 
-element-copy-out-coefficient : tie.Need-element-copy-out-coefficient Inv-loop μ-loop
-element-copy-out-coefficient c = search needs
+add-four : tie.Need-add-four
+add-four c = search needs
 
-coefficient-requires : tie.Need-coefficient-requires Inv-loop μ-loop
-coefficient-requires c κs = c .before .before .before .pre .1 .low (c .before .before .loop .i) (c .before .loop-test .taken)
+returns-2 : tie.Need-returns-2
+unfolding combined
+returns-2 c =
+    let s = c .before .before .before .before in
+    (first-four (c .before) ∙ sum-short _ 4 _ 0 (c .if2 .taken) (nothing s), omega (arith, c .before .before .before .two .ensures .1, c .before .two2 .ensures .1))
 
-mul-product : tie.Need-mul-product Inv-loop μ-loop
-mul-product c = search needs
+two-requires-3 : tie.Need-two-requires-3
+two-requires-3 c κs = search needs
 
-element-copy-out-product : tie.Need-element-copy-out-product Inv-loop μ-loop
-element-copy-out-product c = search needs
+two-requires-4 : tie.Need-two-requires-4
+two-requires-4 c κs = search needs
 
-product-requires : tie.Need-product-requires Inv-loop μ-loop
-product-requires c κs = search needs
+add-result : tie.Need-add-result
+add-result c = search needs
 
-add-sum : tie.Need-add-sum Inv-loop μ-loop
-add-sum c = search needs
+add-result-2 : tie.Need-add-result-2
+add-result-2 c = search needs
 
-add-i : tie.Need-add-i Inv-loop μ-loop
-add-i c = search needs
-
-loop-less : tie.Need-loop-less Inv-loop μ-loop
-loop-less c = search needs
-
-loop-again : tie.Need-loop-again Inv-loop μ-loop
-loop-again c =
-    let l = c .before .before .before .before .before .loop in
-    let a = c .before .before .before .before .before .before .args in
-    summing-more _ _ (l .i) (l .sum) _ (c .before .before .before .before .loop-test .taken)
-    (c .product .ensures .0 ∙ ap (λ (k : ℕ). k * getD (a .values .now) (l .i) 0) (c .before .before .coefficient .ensures)) (c .product .ensures .1) (l .inv)
-
-cast-result : tie.Need-cast-result Inv-loop μ-loop
-cast-result c = search needs
-
-rem-result : tie.Need-rem-result Inv-loop μ-loop
-rem-result c = search needs
-
-cast-result-2 : tie.Need-cast-result-2 Inv-loop μ-loop
-cast-result-2 c = search needs
-
-returns : tie.Need-returns Inv-loop μ-loop
-unfolding dot-of
-returns c = summing-end _ _ _ _ (c .loop-test .left) (c .before .loop .inv)
+returns-3 : tie.Need-returns-3
+unfolding combined
+returns-3 c =
+    let s = c .before .before .before .before .before .before in (
+      sum-both _ (span 4 0) (span 4 4) _ _ (first-four (c .before .before .before)) (sum-both _ (span 2 4) (span 2 6) _ _ (c .before .two3 .ensures .0) (c .two4 .ensures .0))
+          ∙ sum-short _ 8 _ 0 (s .pre .0 .few) (nothing s),
+      omega (arith, c .before .before .before .before .before .two .ensures .1, c .before .before .before .two2 .ensures .1, c .before .two3 .ensures .1, c .two4 .ensures .1),
+    )
 
 pub dot-spec : {M : Type 1} → statement M
 dot-spec =
     tie.close
     (tie.spec
-    Inv-loop
-    μ-loop
-    loop-holds
-    mul-coefficient
-    element-copy-out-coefficient
-    coefficient-requires
-    mul-product
-    element-copy-out-product
-    product-requires
-    add-sum
-    add-i
-    loop-less
-    loop-again
-    cast-result
-    rem-result
-    cast-result-2
-    returns)
+    two-requires
+    returns
+    two-requires-2
+    add-four
+    returns-2
+    two-requires-3
+    two-requires-4
+    add-result
+    add-result-2
+    returns-3)

@@ -1,52 +1,52 @@
--- `solve::solve` meets its contract. The loop's invariant: the first i unknowns are written; `unknown-right` is one turn.
+-- `solve::solve` meets its contract. The loop's invariant: i rows of unknowns are written; `unknown-right` is one turn.
 -- The measure is how many are left. Assumes nothing.
-use Prim.Native.Nat.{_-_}
+use Prim.Native.Nat.{_-_, _≤_}
 use native.Mathlib.Omega.{arith}
 use borrow.Author.Needs.{needs}
-use Rattle.solve.specs.Solve.{unknown-at, solution-of}
-use Rattle.solve.proofs.Filled.{Filling, filling-start, filling-more, filling-end}
-use Rattle.solve.proofs.Solution.{near, unknown-right}
+use Rattle.solve.specs.Solve.{block, unknown-at}
+use Rattle.solve.proofs.Grids.{Rows, rows-start, rows-more}
+use Rattle.solve.proofs.Solution.{near, filled-factors, unknown-right}
 use Rattle.solve.proofs.solve.Statement.{statement}
 use Rattle.solve.proofs.solve.Tie as tie
 
 abbrev Inv-loop : tie.InvT-loop
-Inv-loop rows columns alpha beta values n weighed out₀ i₀ out i = Filling (unknown-at rows columns values n) n i out
+Inv-loop rows columns alpha beta values n out₀ at₀ i₀ out at i = (i ≤ n) × Rows (λ a b. unknown-at rows columns (block values b) n a) 16 i at out
 
 abbrev μ-loop : tie.MeasureT-loop
-μ-loop rows columns alpha beta values n weighed out₀ i₀ out i = n - i
+μ-loop rows columns alpha beta values n out₀ at₀ i₀ out at i = n - i
 
-scale-requires : tie.Need-scale-requires Inv-loop μ-loop
-scale-requires c κs = c .pre .square .few
+no-cells-requires : tie.Need-no-cells-requires Inv-loop μ-loop
+no-cells-requires c κs = search needs
 
 loop-holds : tie.Need-loop-holds Inv-loop μ-loop
-loop-holds c = filling-start _ _
+loop-holds c = (omega arith, rw (c .no-cells .ensures) (rows-start _ _))
 
-mul-multiply : tie.Need-mul-multiply Inv-loop μ-loop
-mul-multiply c = search needs
+mul-inverse-row : tie.Need-mul-inverse-row Inv-loop μ-loop
+mul-inverse-row c = search needs
 
-element-copy-out-multiply : tie.Need-element-copy-out-multiply Inv-loop μ-loop
-element-copy-out-multiply c = search needs
+element-copy-out-inverse-row : tie.Need-element-copy-out-inverse-row Inv-loop μ-loop
+element-copy-out-inverse-row c = search needs
 
-mul-dot : tie.Need-mul-dot Inv-loop μ-loop
-mul-dot c = search needs
+mul-inverse-row-2 : tie.Need-mul-inverse-row-2 Inv-loop μ-loop
+mul-inverse-row-2 c = search needs
 
-element-copy-out-dot : tie.Need-element-copy-out-dot Inv-loop μ-loop
-element-copy-out-dot c = search needs
+element-copy-out-inverse-row-2 : tie.Need-element-copy-out-inverse-row-2 Inv-loop μ-loop
+element-copy-out-inverse-row-2 c = search needs
 
-dot-requires : tie.Need-dot-requires Inv-loop μ-loop
-dot-requires c κs =
-    let s = c .before .before .before .before .before .before .pre .square in
-    let i = c .before .before .before .before .loop .i in
-    (s .few, near (s .rows-good) (omega (arith, s .columns-good .inside i (c .before .before .before .loop-test .taken))))
+inverse-row-requires : tie.Need-inverse-row-requires Inv-loop μ-loop
+inverse-row-requires c κs =
+    let s = c .before .before .before .before .before .pre .square in
+    let i = c .before .before .before .loop .i in
+    (s .few, near (s .rows-good) (omega (arith, s .columns-good .inside i (c .before .before .loop-test .taken))))
 
-multiply-requires : tie.Need-multiply-requires Inv-loop μ-loop
-multiply-requires c κs = search needs
+put-row-requires : tie.Need-put-row-requires Inv-loop μ-loop
+put-row-requires c κs =
+    let l = c .before .before .before .before .before .before .loop in
+    let s = c .before .before .before .before .before .before .before .before .pre .square in
+    (omega (arith, l .inv .1 .place, s .few, c .before .before .before .before .before .loop-test .taken), l .inv .1 .long, filled-factors _ _ _ (s .few) (c .before .before .inverse-row .ensures))
 
-mul-out : tie.Need-mul-out Inv-loop μ-loop
-mul-out c = search needs
-
-array-write-out : tie.Need-array-write-out Inv-loop μ-loop
-array-write-out c = search needs
+add-at : tie.Need-add-at Inv-loop μ-loop
+add-at c = search needs
 
 add-i : tie.Need-add-i Inv-loop μ-loop
 add-i c = search needs
@@ -56,16 +56,13 @@ loop-less c = search needs
 
 loop-again : tie.Need-loop-again Inv-loop μ-loop
 loop-again c =
-    let l = c .before .before .before .before .before .before .loop in
-    let s = c .before .before .before .before .before .before .before .before in
-    let h = c .before .before .before .before .before .loop-test .taken in
-    let w = c .before .before .before .before .before .before .before .scale .ensures in
-    filling-more _ _ (l .i) _ _ (s .pre .square .few) h
-    (unknown-right _ _ _ _ (l .i) h _ _ _ _ _ (s .pre) w (c .before .dot .ensures) (c .multiply .ensures)) (l .inv)
+    let l = c .before .before .before .before .before .before .before .loop in
+    let s = c .before .before .before .before .before .before .before .before .before in
+    let h = c .before .before .before .before .before .before .loop-test .taken in
+    (omega arith, rows-more _ _ _ (l .i) _ _ _ (omega arith) (l .inv .1) (λ b k. unknown-right _ _ _ _ (l .i) h _ _ _ b (s .pre) (c .before .before .before .inverse-row .ensures)) (c .put-row .ensures))
 
 returns : tie.Need-returns Inv-loop μ-loop
-unfolding solution-of
-returns c = filling-end _ _ _ _ (c .loop-test .left) (c .before .loop .inv)
+returns c = record { each = λ i b h. c .before .loop .inv .1 .each i b (omega arith) }
 
 pub solve-spec : {M : Type 1} → statement M
 solve-spec =
@@ -73,16 +70,15 @@ solve-spec =
     (tie.spec
     Inv-loop
     μ-loop
-    scale-requires
+    no-cells-requires
     loop-holds
-    mul-multiply
-    element-copy-out-multiply
-    mul-dot
-    element-copy-out-dot
-    dot-requires
-    multiply-requires
-    mul-out
-    array-write-out
+    mul-inverse-row
+    element-copy-out-inverse-row
+    mul-inverse-row-2
+    element-copy-out-inverse-row-2
+    inverse-row-requires
+    put-row-requires
+    add-at
     add-i
     loop-less
     loop-again

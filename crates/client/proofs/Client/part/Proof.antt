@@ -2,13 +2,14 @@
 -- Assumes nothing.
 use mathlib.Core.Path.{_≡_, sym, ap, _∙_}
 use Prim.Native.Nat.{ℕ, _+_, _-_}
+use native.Mathlib.Nat.{le-of-lt}
 use native.Mathlib.Omega.{arith}
 use denote.Ref.{now}
 use borrow.Author.Needs.{needs}
 use borrow.Author.Tests.{not-true, not-false, eq-eqb, ne-eqb}
 use Rattle.scheme.specs.Scheme.{sixteen, reply}
 use Rattle.plan.specs.Plan.{plan-of}
-use Rattle.plan.proofs.Laws.{usable-le, reply-inside}
+use Rattle.plan.proofs.Laws.{usable-small, reply-inside}
 use Rattle.client.specs.Client.{gives, part-of, part-start}
 use Rattle.scheme.proofs.Refusals.{start-taken}
 use Rattle.client.proofs.Laws.{Answers, reply-answers, answers-held}
@@ -63,7 +64,7 @@ reply-start-requires : tie.Need-reply-start-requires
 reply-start-requires c κs =
     let t = taken c in
     let g = start-taken _ _ (t .begun) in
-    (g .0, g .1, omega arith, usable-le _ _ (g .0) (t .whole))
+    (g .0, g .1, omega arith, le-of-lt (usable-small _ _ (t .whole)))
 
 cast-end : tie.Need-cast-end
 cast-end c = search needs

@@ -1,0 +1,93 @@
+-- `finish::first_sums` meets its contract. The loop's invariant: in each place the sum so far and the sum over the rows that are left make
+-- the whole sum. The measure is how many are left. Assumes nothing.
+use mathlib.Core.Path.{_≡_, sym, ap, _∙_}
+use mathlib.Core.List.{List}
+use Prim.Native.Nat.{ℕ, _+_, _-_, _≤_, _<_}
+use native.Mathlib.Nat.{zero-add}
+use native.Mathlib.Omega.{arith}
+use lib.ListN.{length, getD, length-replicate}
+use borrow.Author.Needs.{needs}
+use Rattle.solve.specs.Solve.{Put}
+use Rattle.solve.proofs.Filled.{zeros-at}
+use Rattle.finish.specs.Parts.{held-in, first-of}
+use Rattle.finish.proofs.Turns.{held-at, Summing, summing-start, summing-more, summing-end}
+use Rattle.finish.proofs.first_sums.Statement.{statement}
+use Rattle.finish.proofs.first_sums.Tie as tie
+
+put-first : {f : ℕ → ℕ} {n : ℕ} {old new : List ℕ} → Put f n 0 old new → (i : ℕ) → i < n → getD new i 0 ≡ f i
+put-first {new = new} d i h = ap (λ (k : ℕ). getD new k 0) (sym (zero-add i)) ∙ d .each i h
+
+abbrev Inv-loop : tie.InvT-loop
+Inv-loop first rows count places sums₀ i₀ sums i = (i ≤ count) × (length sums ≡ 96) × ((p : ℕ) → p < places → Summing (λ a. held-in 96 first (getD rows a 0) p) count i (getD sums p 0))
+
+abbrev μ-loop : tie.MeasureT-loop
+μ-loop first rows count places sums₀ i₀ sums i = count - i
+
+no-sums-requires : tie.Need-no-sums-requires Inv-loop μ-loop
+no-sums-requires c κs = search needs
+
+loop-holds : tie.Need-loop-holds Inv-loop μ-loop
+loop-holds c = (omega arith, rw (c .no-sums .ensures) (length-replicate {A = ℕ} 96 0), λ p h. rw (c .no-sums .ensures, zeros-at 96 p) (summing-start _ _))
+
+mul-start-of : tie.Need-mul-start-of Inv-loop μ-loop
+mul-start-of c = search needs
+
+element-copy-out-start-of : tie.Need-element-copy-out-start-of Inv-loop μ-loop
+element-copy-out-start-of c = search needs
+
+start-of-requires : tie.Need-start-of-requires Inv-loop μ-loop
+start-of-requires c κs = let x = c .before .before .before .before .pre .2 .inside (c .before .before .loop .i) (c .before .loop-test .taken) in (x .0, x .1, omega arith)
+
+add-first-requires : tie.Need-add-first-requires Inv-loop μ-loop
+add-first-requires c κs =
+    let l = c .before .before .before .before .loop in
+    let s = c .before .before .before .before .before .before in
+    let x = s .pre .2 .inside (l .i) (c .before .before .before .loop-test .taken) in
+    ((s .pre .1, omega (arith, x .0, x .1, c .before .start-of .ensures), l .inv .1), λ p h. omega (arith, l .inv .2 p h .low, c .before .before .before .loop-test .taken))
+
+add-i : tie.Need-add-i Inv-loop μ-loop
+add-i c = search needs
+
+loop-less : tie.Need-loop-less Inv-loop μ-loop
+loop-less c = search needs
+
+loop-again : tie.Need-loop-again Inv-loop μ-loop
+loop-again c =
+    let l = c .before .before .before .before .before .loop in
+    let s = c .before .before .before .before .before .before .before in
+    let t = c .before .before .before .before .loop-test .taken in
+    let x = s .pre .2 .inside (l .i) t in
+    let y = s .args .first .now in
+    let d = c .add-first .ensures .0 in (
+      omega arith,
+      d .long ∙ l .inv .1,
+      λ p h.
+          rw (put-first d p h)
+          (summing-more _ _ (l .i) _ _ t (ap (λ (f : ℕ). getD y (f + p) 0 - 1) (c .before .before .start-of .ensures) ∙ sym (held-at 96 y _ p (x .0) (x .1) (omega arith))) (c .add-first .ensures .1 p h) (l .inv .2 p h)),
+    )
+
+returns : tie.Need-returns Inv-loop μ-loop
+unfolding first-of
+returns c =
+    let l = c .before .loop in
+    record {
+      small = record { low = λ i h. omega (arith, l .inv .2 i h .low) };
+      right = λ i h. summing-end _ _ (l .i) _ (c .loop-test .left) (l .inv .2 i h);
+    }
+
+pub first-sums-spec : {M : Type 1} → statement M
+first-sums-spec =
+    tie.close
+    (tie.spec
+    Inv-loop
+    μ-loop
+    no-sums-requires
+    loop-holds
+    mul-start-of
+    element-copy-out-start-of
+    start-of-requires
+    add-first-requires
+    add-i
+    loop-less
+    loop-again
+    returns)

@@ -1,0 +1,78 @@
+-- `keys::dot` meets its contract: one number a turn (Sums.dotted-more).
+use mathlib.Core.Path.{_≡_}
+use mathlib.Core.List.{List}
+use Prim.Native.Nat.{ℕ, _+_, _*_, _-_, _≤_}
+use native.Mathlib.Omega.{arith}
+use lib.ListN.{length, getD}
+use borrow.Author.Needs.{needs}
+use Rattle.keys.specs.Parts.{Dotted}
+use Rattle.keys.proofs.Sums.{dotted-none, dotted-more}
+use Rattle.keys.proofs.dot.Statement.{statement}
+use Rattle.keys.proofs.dot.Tie as tie
+
+done : {cs : List ℕ} {i n : ℕ} {f : ℕ → ℕ} {total : ℕ} → i ≡ n → Dotted cs i f total → Dotted cs n f total
+done e d = rw (← e) d
+
+abbrev Inv-loop : tie.InvT-loop
+Inv-loop row n list from sum₀ i₀ sum i = (i ≤ n) × Dotted row i (λ j. getD list (from + j) 0) sum
+
+abbrev μ-loop : tie.MeasureT-loop
+μ-loop row n list from sum₀ i₀ sum i = n - i
+
+loop-holds : tie.Need-loop-holds Inv-loop μ-loop
+loop-holds c = (search needs, dotted-none _ _)
+
+mul-times : tie.Need-mul-times Inv-loop μ-loop
+mul-times c = search needs
+
+element-copy-out-times : tie.Need-element-copy-out-times Inv-loop μ-loop
+element-copy-out-times c = search needs
+
+add-times : tie.Need-add-times Inv-loop μ-loop
+add-times c = search needs
+
+mul-times-2 : tie.Need-mul-times-2 Inv-loop μ-loop
+mul-times-2 c = search needs
+
+shared-slice-read-times : tie.Need-shared-slice-read-times Inv-loop μ-loop
+shared-slice-read-times c = search needs
+
+times-requires : tie.Need-times-requires Inv-loop μ-loop
+times-requires c κs = search needs
+
+add-sum : tie.Need-add-sum Inv-loop μ-loop
+add-sum c = omega (arith, c .before .before .before .before .loop .inv .1 .small, c .times .ensures .1)
+
+add-i : tie.Need-add-i Inv-loop μ-loop
+add-i c = search needs
+
+loop-less : tie.Need-loop-less Inv-loop μ-loop
+loop-less c = search needs
+
+loop-again : tie.Need-loop-again Inv-loop μ-loop
+loop-again c = (omega arith, dotted-more (c .before .before .before .before .loop .inv .1) (c .times .ensures))
+
+returns : tie.Need-returns Inv-loop μ-loop
+returns c =
+    let l = c .before .loop in
+    let e : l .i ≡ c .before .before .before .args .n = omega arith in
+    done e (l .inv .1)
+
+pub dot-spec : {M : Type 1} → statement M
+dot-spec =
+    tie.close
+    (tie.spec
+    Inv-loop
+    μ-loop
+    loop-holds
+    mul-times
+    element-copy-out-times
+    add-times
+    mul-times-2
+    shared-slice-read-times
+    times-requires
+    add-sum
+    add-i
+    loop-less
+    loop-again
+    returns)

@@ -1,0 +1,92 @@
+-- `solve::same_row` meets its contract. The loop's invariant: what was found so far, and the answer for the blocks that are left, is the
+-- answer for all. The measure is how many are left. Assumes nothing.
+use mathlib.Core.Path.{_≡_, refl, sym, ap, _∙_}
+use mathlib.Core.Logic.{⊎-elim}
+use mathlib.Core.Bool.{Bool, true, false, _&&_}
+use mathlib.Core.List.{List}
+use Prim.Native.Nat.{ℕ, _+_, _-_, _≤_}
+use native.Mathlib.Omega.{arith}
+use lib.Dec.{eqb}
+use lib.ListN.{getD}
+use borrow.Author.Needs.{needs}
+use borrow.Author.Tests.{eq-eqb, ne-eqb}
+use Rattle.scheme.specs.Scheme.{span}
+use Rattle.scheme.specs.Totals.{all-of}
+use Rattle.solve.specs.Solve.{combined}
+use Rattle.solve.proofs.Turns.{span-start, fits-next, fits-stop, fits-end}
+use Rattle.solve.proofs.same_row.Statement.{statement}
+use Rattle.solve.proofs.same_row.Tie as tie
+
+abbrev passes : (list grid : List ℕ) → (n : ℕ) → (values : List ℕ) → (at b : ℕ) → Bool
+passes cs g n vs at b = eqb (combined cs g n b) (getD vs (at + b) 0)
+
+and-false : (b : Bool) → (b && false) ≡ false
+and-false true = refl
+and-false false = refl
+
+and-true : (b : Bool) → (b && true) ≡ b
+and-true true = refl
+and-true false = refl
+
+abbrev Inv-loop : tie.InvT-loop
+Inv-loop list grid n values at blocks good₀ b₀ good b = (b ≤ blocks) × ((good && all-of (passes list grid n values at) (span (blocks - b) b)) ≡ all-of (passes list grid n values at) (span blocks 0))
+
+abbrev μ-loop : tie.MeasureT-loop
+μ-loop list grid n values at blocks good₀ b₀ good b = blocks - b
+
+loop-holds : tie.Need-loop-holds Inv-loop μ-loop
+loop-holds c = (search needs, ap (all-of _) (span-start (c .args .blocks)))
+
+dot-requires : tie.Need-dot-requires Inv-loop μ-loop
+dot-requires c κs = (c .before .before .pre .2, omega arith)
+
+reduce-requires : tie.Need-reduce-requires Inv-loop μ-loop
+reduce-requires c κs = search needs
+
+add-if1 : tie.Need-add-if1 Inv-loop μ-loop
+add-if1 c = search needs
+
+mul-if1 : tie.Need-mul-if1 Inv-loop μ-loop
+mul-if1 c = search needs
+
+element-copy-out-if1 : tie.Need-element-copy-out-if1 Inv-loop μ-loop
+element-copy-out-if1 c = search needs
+
+add-b : tie.Need-add-b Inv-loop μ-loop
+add-b c = search needs
+
+loop-less : tie.Need-loop-less Inv-loop μ-loop
+loop-less c = search needs
+
+loop-again : tie.Need-loop-again Inv-loop μ-loop
+loop-again c =
+    let l = c .before .before .before .before .before .loop in
+    let h = c .before .before .before .before .loop-test .taken in
+    let e = c .before .before .reduce .ensures ∙ c .before .before .before .dot .ensures .0 in (
+      search needs,
+      ⊎-elim
+          (λ w. rw (w .1) (sym (and-false (l .good)) ∙ ap (λ (b : Bool). l .good && b) (sym (fits-stop _ _ (l .b) h (ne-eqb _ _ (λ d. w .0 .taken (e ∙ d))))) ∙ l .inv .1))
+          (λ w. rw (w .1) (ap (λ (b : Bool). l .good && b) (fits-next _ _ (l .b) h (eq-eqb _ _ (sym e ∙ w .0 .left))) ∙ l .inv .1)) (c .if1 .came),
+    )
+
+returns : tie.Need-returns Inv-loop μ-loop
+returns c =
+    let l = c .before .loop in
+    sym (and-true (l .good)) ∙ ap (λ (b : Bool). l .good && b) (sym (fits-end _ _ _ (c .loop-test .left))) ∙ l .inv .1
+
+pub same-row-spec : {M : Type 1} → statement M
+same-row-spec =
+    tie.close
+    (tie.spec
+    Inv-loop
+    μ-loop
+    loop-holds
+    dot-requires
+    reduce-requires
+    add-if1
+    mul-if1
+    element-copy-out-if1
+    add-b
+    loop-less
+    loop-again
+    returns)

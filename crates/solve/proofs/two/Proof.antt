@@ -1,0 +1,85 @@
+-- `solve::two` meets its contract: a folded product is the product modulo q.
+-- Assumes nothing.
+use mathlib.Core.Path.{_≡_, ap, _∙_}
+use Prim.Native.Nat.{ℕ, _+_, _*_, _%_}
+use native.Mathlib.Omega.{arith}
+use lib.ListN.{getD}
+use borrow.Author.Needs.{needs}
+use Rattle.scheme.specs.Scheme.{q}
+use Rattle.solve.proofs.Turns.{sum-two}
+use Rattle.solve.proofs.two.Statement.{statement}
+use Rattle.solve.proofs.two.Tie as tie
+
+mul-at : tie.Need-mul-at
+mul-at c = search needs
+
+add-at : tie.Need-add-at
+add-at c = search needs
+
+mul-folded : tie.Need-mul-folded
+mul-folded c = search needs
+
+element-copy-out-folded : tie.Need-element-copy-out-folded
+element-copy-out-folded c = search needs
+
+mul-folded-2 : tie.Need-mul-folded-2
+mul-folded-2 c = search needs
+
+element-copy-out-folded-2 : tie.Need-element-copy-out-folded-2
+element-copy-out-folded-2 c = search needs
+
+folded-requires : tie.Need-folded-requires
+folded-requires c κs = search needs
+
+add-folded : tie.Need-add-folded
+add-folded c = search needs
+
+mul-folded-3 : tie.Need-mul-folded-3
+mul-folded-3 c = search needs
+
+element-copy-out-folded-3 : tie.Need-element-copy-out-folded-3
+element-copy-out-folded-3 c = search needs
+
+add-folded-2 : tie.Need-add-folded-2
+add-folded-2 c = search needs
+
+mul-folded-4 : tie.Need-mul-folded-4
+mul-folded-4 c = search needs
+
+element-copy-out-folded-4 : tie.Need-element-copy-out-folded-4
+element-copy-out-folded-4 c = search needs
+
+folded-requires-2 : tie.Need-folded-requires-2
+folded-requires-2 c κs = search needs
+
+add-result : tie.Need-add-result
+add-result c = search needs
+
+returns : tie.Need-returns
+returns c =
+    let a = c .before .before .before .before .before .before .args in
+    let s = c .before .before .before .folded .ensures in
+    let t = c .folded2 .ensures in
+    let e : a .i * 16 + a .b + 16 ≡ (a .i + 1) * 16 + a .b = omega arith in
+    (sum-two _ (a .i) _ _ (s .0) (t .0 ∙ ap (λ (k : ℕ). getD (a .list .now) (a .i + 1) 0 * getD (a .grid .now) k 0 % q) e), omega (arith, s .1, t .1))
+
+pub two-spec : {M : Type 1} → statement M
+two-spec =
+    tie.close
+    (tie.spec
+    mul-at
+    add-at
+    mul-folded
+    element-copy-out-folded
+    mul-folded-2
+    element-copy-out-folded-2
+    folded-requires
+    add-folded
+    mul-folded-3
+    element-copy-out-folded-3
+    add-folded-2
+    mul-folded-4
+    element-copy-out-folded-4
+    folded-requires-2
+    add-result
+    returns)
