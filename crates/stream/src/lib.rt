@@ -200,29 +200,20 @@ fn take_finish(
 {
     let round = head.round;
     let plan = head.plan;
-    let firsts = *first;
-    let replies = *reply;
-    let before = Service {
-        head,
-        first: firsts,
-        reply: replies,
-    };
-    let finished = finish::finish(before);
-    let number = finished.number;
-    let totals = finished.totals;
+    let given = finish::totals_given(head, first, reply);
+    let number = given.number;
+    let totals = given.totals;
     if number != 0 {
         let wrote = lines::put_refusal(out, at, number, offset);
         return Turned { head, wrote };
     }
-    let service = finished.service;
-    let next = service.head;
-    let firsts = service.first;
-    let replies = service.reply;
-    *first = firsts;
-    *reply = replies;
+    service::clear(first, reply);
     let places = plan::places_of(plan);
     let wrote = lines::put_total(out, at, round, &totals, places);
-    Turned { head: next, wrote }
+    Turned {
+        head: finish::idle(head),
+        wrote,
+    }
 }
 
 // A record other than an element: plan, open, close or finish.
