@@ -1,15 +1,17 @@
 -- Laws of the service on lent arrays.
 --   phase-replying                     a number from 3 on
---   taken-right, refused-right         what a call answers and leaves
---   same-arrays, close-keeps           close leaves the first elements
+--   taken-right, refused-right, kept-right     what a call answers and leaves; kept-right of a call on the arrays themselves
+--   same-head                          arrays with equal heads
+--   close-kept                         a refused close keeps the state
 -- Assumes nothing.
 use mathlib.Core.Path.{_≡_, refl, sym, ap, _∙_}
 use mathlib.Core.List.{List}
 use Prim.Native.Nat.{ℕ, zero, suc}
 use Rattle.service.specs.declared.Phase.the-variants.{Replying}
+use Rattle.service.specs.declared.Head.{Head}
 use Rattle.service.specs.declared.Service.{Service}
-use Rattle.service.specs.Calls.{close-refusal, closed, close-answer, close-step}
-use Rattle.capi.specs.Lent.{Arrays, arrays, arrays-of, phase-at, left}
+use Rattle.service.specs.Calls.{lent, close-refusal, close-answer, close-step}
+use Rattle.capi.specs.Lent.{Arrays, arrays, state, arrays-of, phase-at, left}
 
 pub phase-replying : (n : ℕ) → (n ≡ 0 → ⊥) → (n ≡ 1 → ⊥) → (n ≡ 2 → ⊥) → phase-at n ≡ Replying
 unfolding phase-at
@@ -32,13 +34,18 @@ module _ (a : Arrays) {n : ℕ} (s : Service) {m : ℕ} (e : m ≡ n) where
       kept zero h = absurd (h refl)
       kept (suc n) h = refl
 
-pub same-arrays : {g h xs ys zs : List ℕ} → g ≡ h → xs ≡ ys → arrays g xs zs ≡ arrays h ys zs
-same-arrays e f = cc
+  pub kept-right : {h : Head} {xs ys : List ℕ} → (m ≡ 0 → ⊥) → lent h xs ys ≡ s → s ≡ state a → (m ≡ n) × (arrays (a .head) xs ys ≡ left n s a)
+  kept-right h f k =
+      let d = refused-right h in
+      (d .0, (λ i. arrays (a .head) ((f ∙ k) i .first) ((f ∙ k) i .reply)) ∙ d .1)
 
-pub close-keeps : (s : Service) → close-step s .service .first ≡ s .first
-unfolding close-step close-answer closed
-close-keeps s = either (close-refusal s)
+pub same-head : {g h xs ys : List ℕ} → g ≡ h → arrays g xs ys ≡ arrays h xs ys
+same-head e = cc
+
+pub close-kept : (s : Service) → (close-step s .number ≡ 0 → ⊥) → close-step s .service ≡ s
+unfolding close-step close-answer
+close-kept s = either (close-refusal s)
   where
-    either : (n : ℕ) → close-answer n s .service .first ≡ s .first
-    either zero = refl
-    either (suc n) = refl
+    either : (n : ℕ) → (close-answer n s .number ≡ 0 → ⊥) → close-answer n s .service ≡ s
+    either zero h = absurd (h refl)
+    either (suc n) h = refl

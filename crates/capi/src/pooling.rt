@@ -1,21 +1,20 @@
 // The pooling service for callers in C and Rust, over state that the caller lends: include/cutawheno.h declares these functions.
 //   cutawheno_service_plan, cutawheno_service_open       begin
-//   cutawheno_service_first_element, cutawheno_service_reply_element     hold an element: the hot path, which copies no array
+//   cutawheno_service_first_element, cutawheno_service_reply_element     hold an element: the hot path
 //   cutawheno_service_close, cutawheno_service_finish    the survivors' set, and the total
 // The state is three arrays, all zero for a new service: `head` has the phase (0 unplanned, 1 idle, 2 gathering, 3 replying), users,
 // threshold, collusion, blocks, places, round and survivors; `first` and `reply` hold the elements as crate service does. A refused
-// call hands back its number and leaves every array as it came.
+// call hands back its number and leaves every array as it came. No call copies a state.
 ghost use mathlib.Core.Path.{_≡_};
 ghost use Rattle.service.specs.Calls.{plan-step, open-step, first-refusal, first-left, close-step, reply-refusal, reply-left};
 ghost use Rattle.finish.specs.Finish.{finish-step};
-ghost use Rattle.capi.specs.Lent.{arrays, state, code-plan, phase-at, phase-number, head-at, numbers, arrays-of, plan-left, open-left, closed-answer, close-left, finish-left, finish-totals};
+ghost use Rattle.capi.specs.Lent.{arrays, state, code-plan, phase-at, phase-number, head-at, numbers, plan-left, open-left, closed-answer, close-left, finish-left, finish-totals};
 use plan::MOST_PLACES;
 use plan::Plan;
 use service::FIRSTS;
 use service::Head;
 use service::Phase;
 use service::REPLIES;
-use service::Service;
 
 // The length of `head`.
 pub const NUMBERS: usize = 8;
@@ -91,32 +90,6 @@ fn numbers(head: Head) -> [u32; NUMBERS]
     ]
 }
 
-// The state that the arrays stand for, and back.
-fn state(head: &[u32; NUMBERS], first: &[u16; FIRSTS], reply: &[u16; REPLIES]) -> Service
-    ensures { λ r. ⌜ r ≡ state (arrays (now (head .entry)) (now (first .entry)) (now (reply .entry))) ⌝ }
-{
-    let head = head_at(head);
-    let first = *first;
-    let reply = *reply;
-    Service { head, first, reply }
-}
-
-fn store(
-    service: Service,
-    head: &mut [u32; NUMBERS],
-    first: &mut [u16; FIRSTS],
-    reply: &mut [u16; REPLIES],
-)
-    ensures { λ r. ⌜ arrays (now (head .exit)) (now (first .exit)) (now (reply .exit)) ≡ arrays-of service ⌝ }
-{
-    let next = service.head;
-    let firsts = service.first;
-    let replies = service.reply;
-    *head = numbers(next);
-    *first = firsts;
-    *reply = replies;
-}
-
 // 11, 1.
 #[no_mangle]
 pub extern "C" fn cutawheno_service_plan(
@@ -137,14 +110,14 @@ pub extern "C" fn cutawheno_service_plan(
         collusion,
         blocks,
     };
-    let before = state(head, first, reply);
-    let planned = before.plan(plan);
-    let number = planned.number;
+    let held = head_at(head);
+    let step = service::plan_lent(held, first, reply, plan);
+    let number = step.number;
     if number != 0 {
         return number;
     }
-    let next = planned.service;
-    store(next, head, first, reply);
+    let planned = step.head;
+    *head = numbers(planned);
     0
 }
 
@@ -159,14 +132,14 @@ pub extern "C" fn cutawheno_service_open(
     ensures number { λ r. ⌜ r ≡ open-step (state (arrays (now (head .entry)) (now (first .entry)) (now (reply .entry)))) round .number ⌝ }
     ensures left { λ r. ⌜ arrays (now (head .exit)) (now (first .exit)) (now (reply .exit)) ≡ open-left (arrays (now (head .entry)) (now (first .entry)) (now (reply .entry))) round ⌝ }
 {
-    let before = state(head, first, reply);
-    let opened = before.open(round);
-    let number = opened.number;
+    let held = head_at(head);
+    let step = service::open_lent(held, first, reply, round);
+    let number = step.number;
     if number != 0 {
         return number;
     }
-    let next = opened.service;
-    store(next, head, first, reply);
+    let opened = step.head;
+    *head = numbers(opened);
     0
 }
 
@@ -196,18 +169,15 @@ pub extern "C" fn cutawheno_service_close(
     ensures answer { λ r. ⌜ r ≡ closed-answer (close-step (state (arrays (now (head .entry)) (now (first .entry)) (now (reply .entry))))) ⌝ }
     ensures left { λ r. ⌜ arrays (now (head .exit)) (now (first .entry)) (now (reply .exit)) ≡ close-left (arrays (now (head .entry)) (now (first .entry)) (now (reply .entry))) ⌝ }
 {
-    let before = state(head, first, reply);
-    let closed = before.close();
-    let number = closed.number;
-    let set = closed.set;
+    let held = head_at(head);
+    let step = service::close_lent(held, first, reply);
+    let number = step.number;
+    let set = step.set;
     if number != 0 {
         return CutawhenoClosed { number, set };
     }
-    let next = closed.service;
-    let replying = next.head;
-    let replies = next.reply;
+    let replying = step.head;
     *head = numbers(replying);
-    *reply = replies;
     CutawhenoClosed { number, set }
 }
 
@@ -240,16 +210,14 @@ pub extern "C" fn cutawheno_service_finish(
     ensures totals { λ r. ⌜ now (totals .exit) ≡ finish-totals (arrays (now (head .entry)) (now (first .entry)) (now (reply .entry))) (now (totals .entry)) ⌝ }
 {
     let held = head_at(head);
-    let given = finish::totals_given(held, first, reply);
-    let number = given.number;
-    let sums = given.totals;
+    let step = finish::finish_lent(held, first, reply);
+    let number = step.number;
+    let sums = step.totals;
     if number != 0 {
         return number;
     }
-    let idle = finish::idle(held);
+    let idle = step.head;
     *head = numbers(idle);
-    *first = service::nothing_first();
-    *reply = service::nothing_reply();
     *totals = sums;
     0
 }

@@ -2,6 +2,7 @@
 --   prepared-own, solved-same        the system by the plan and the set that it holds
 --   refused-right, given-right       the answer, refused and taken
 --   left-refused, left-taken         the answer with the state
+--   finish-refuses, finish-kept      a refused finish
 --   Ripe, ripe-refusal               the tests before 16 are passed
 --   totalled-right                   the totals of the code, where its set is that of the complete replies
 -- Assumes nothing.
@@ -22,7 +23,7 @@ use Rattle.finish.specs.declared.System.{System}
 use Rattle.finish.specs.declared.Explained.{Explained}
 use Rattle.finish.specs.declared.Summed.{Summed}
 use Rattle.finish.specs.declared.Given.{Given}
-use Rattle.finish.specs.Finish.{choice, finish-refusal, finished, finish-answer, finish-step}
+use Rattle.finish.specs.Finish.{choice, finish-refusal, finished, finish-refused, finish-answer, finish-step}
 use Rattle.finish.specs.Parts.{Prepared, Blocks-solved, Totalled, given-refused, given}
 
 -- ---- the system by the plan and the set that it holds
@@ -61,6 +62,19 @@ left-taken s g h e = (λ i. record { number = e i .number; totals = e i .totals;
     left : (m : ℕ) → finish-answer m s .number ≡ 0 → record { number = finish-answer m s .number; totals = finish-answer m s .totals; service = finished (s .head) } ≡ finish-answer m s
     left zero z = refl
     left (suc m) z = absurd (omega arith)
+
+pub finish-refuses : (s : Service) {n : ℕ} → (n ≡ 0 → ⊥) → finish-refusal s ≡ n → finish-refused n s ≡ finish-step s
+unfolding finish-step finish-answer
+finish-refuses s {n = zero} h e = absurd (h refl)
+finish-refuses s {n = suc n} h e = rw e
+
+pub finish-kept : (s : Service) → (finish-step s .number ≡ 0 → ⊥) → finish-step s .service ≡ s
+unfolding finish-step finish-answer
+finish-kept s = either (finish-refusal s)
+  where
+    either : (n : ℕ) → (finish-answer n s .number ≡ 0 → ⊥) → finish-answer n s .service ≡ s
+    either zero h = absurd (h refl)
+    either (suc n) h = refl
 
 -- ---- the tests before 16 are passed
 pub record Ripe (s : Service) : Type 0 where

@@ -373,7 +373,11 @@ pub struct Finished {
 
 // "Finish uses every survivor with all M blocks held, ignores partial replies, gives the total and returns to idle." After a refusal
 // the state is as before. On lent arrays.
-pub fn finish_lent(head: Head, first: &mut [u16; FIRSTS], reply: &mut [u16; REPLIES]) -> FinishedHead
+pub fn finish_lent(
+    head: Head,
+    first: &mut [u16; FIRSTS],
+    reply: &mut [u16; REPLIES],
+) -> FinishedHead
     ensures { λ r. ⌜ finishing r (now (first .exit)) (now (reply .exit)) ≡ finish-step (lent head (now (first .entry)) (now (reply .entry))) ⌝ }
 {
     let given = totals_given(head, first, reply);

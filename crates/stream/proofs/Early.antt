@@ -11,7 +11,7 @@ use Rattle.service.specs.Calls.{plan-step, plan-refusal, open-step, close-refus
 use Rattle.service.proofs.Refused.{stopped, after-refused, close-refused}
 use Rattle.finish.specs.declared.Finished.{Finished}
 use Rattle.finish.specs.Finish.{finish-refusal}
-use Rattle.finish.proofs.Answers.{refused-right}
+use Rattle.finish.proofs.Answers.{finish-refuses}
 use Rattle.stream.specs.Stream.{step, early-refusal}
 use Rattle.stream.proofs.Turns.{told-refused}
 
@@ -28,6 +28,6 @@ early-says s close-record h =
     (told-refused (λ z. h (n ∙ z)) _ ∙ ap refused (sym n), sym (ap (λ (c : Closed). c .service) e))
 early-says s (reply-record k b x) h = absurd (h refl)
 early-says s finish-record h =
-    let e = refused-right s h (stopped _ _ _ _ refl h) in
+    let e = finish-refuses s h (stopped _ _ _ _ refl h) in
     let n = ap (λ (f : Finished). f .number) e in
     (told-refused (λ z. h (n ∙ z)) _ ∙ ap refused (sym n), sym (ap (λ (f : Finished). f .service) e))

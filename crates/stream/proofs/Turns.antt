@@ -2,7 +2,7 @@
 --   told-taken, told-refused                  what a number answers
 --   turn-taken, turn-refused, turns-as        the call's answer decides the line
 --   record-plan .. record-finish              which record stands at a place
---   finish-kept, finish-good                  a refused finish keeps the state; an accepted one has a good plan
+--   finish-good                               an accepted finish has a good plan
 --   line-short                                every line fits into the room for one
 -- Assumes nothing.
 use mathlib.Core.Path.{_≡_, refl, sym, ap, _∙_, subst}
@@ -27,9 +27,7 @@ use Rattle.service.specs.declared.Service.{Service}
 use Rattle.service.specs.View.{view}
 use Rattle.service.specs.Promise.{told}
 use Rattle.solve.specs.Solve.{padded}
-use Rattle.finish.specs.declared.Finished.{Finished}
 use Rattle.finish.specs.Finish.{choice, finish-refusal, finish-answer, finish-step}
-use Rattle.finish.proofs.Answers.{refused-right}
 use Rattle.solve.proofs.Filled.{padded-take}
 use Rattle.lines.specs.Text.{decimal, numbers, line}
 use Rattle.lines.specs.Put.{room, Put}
@@ -92,10 +90,6 @@ answer-number : (n : ℕ) (s : Service) → finish-answer n s .number ≡ n
 unfolding finish-answer
 answer-number zero s = refl
 answer-number (suc n) s = refl
-
-pub finish-kept : (s : Service) → (finish-step s .number ≡ 0 → ⊥) → s ≡ finish-step s .service
-unfolding finish-step
-finish-kept s h = ap (λ (r : Finished). r .service) (refused-right s (λ z. h (answer-number (finish-refusal s) s ∙ z)) refl)
 
 pub finish-good : (s : Service) → finish-step s .number ≡ 0 → Good (plan-of (s .head .plan))
 unfolding finish-step finish-refusal

@@ -1,31 +1,29 @@
--- `capi::pooling::cutawheno_service_close` meets its contract: the service's step decides, on the state that the arrays stand for.
+-- `capi::pooling::cutawheno_service_close` meets its contract: the leaf's step decides, on the state that the arrays stand for.
 -- Assumes nothing.
-use mathlib.Core.Path.{_≡_, sym, ap, _∙_}
-use denote.Ref.{now}
+use mathlib.Core.Path.{ap, _∙_}
 use borrow.Author.Needs.{needs}
+use Rattle.service.specs.declared.Head.{Head}
 use Rattle.service.specs.declared.Closed.{Closed}
-use Rattle.service.specs.Calls.{close-step}
-use Rattle.capi.specs.Lent.{arrays, state, closed-answer, close-left}
-use Rattle.capi.proofs.Lent.{taken-right, refused-right, same-arrays, close-keeps}
+use Rattle.service.specs.Calls.{lent, close-step}
+use Rattle.capi.specs.Lent.{closed-answer, close-left}
+use Rattle.capi.proofs.Lent.{same-head, taken-right, kept-right, close-kept}
 use Rattle.capi.proofs.pooling.cutawheno_service_close.Statement.{statement}
 use Rattle.capi.proofs.pooling.cutawheno_service_close.Tie as tie
 
-stepped : (c : tie.After-close) → let a = c .before .before .before .before .args in
-    c .close .result ≡ close-step (state (arrays (now (a .head)) (now (a .first)) (now (a .reply))))
-stepped c = c .close .ensures ∙ ap close-step (c .before .state .ensures)
+head-at-requires : tie.Need-head-at-requires
+head-at-requires c κs = search needs
 
-state-requires : tie.Need-state-requires
-state-requires c κs = search needs
-
-close-requires : tie.Need-close-requires
-close-requires c κs = search needs
+close-lent-requires : tie.Need-close-lent-requires
+close-lent-requires c κs = search needs
 
 returns : tie.Need-returns
 unfolding close-left
 returns c =
-    let e = stepped (c .before) in
+    let x = c .before in
+    let a = x .before .before .before .before .args in
+    let e = x .close-lent .ensures ∙ ap (λ (h : Head). close-step (lent h (a .first .now) (a .reply .now))) (x .before .before .head-at .ensures) in
     let n = ap (λ (t : Closed). t .number) e in
-    (ap closed-answer e, refused-right _ _ n (c .if1 .taken) .1)
+    (ap closed-answer e, kept-right _ _ n (c .if1 .taken) (ap (λ (t : Closed). t .service) e) (close-kept _ (λ z. c .if1 .taken (n ∙ z))) .1)
 
 numbers-requires : tie.Need-numbers-requires
 numbers-requires c κs = search needs
@@ -33,11 +31,12 @@ numbers-requires c κs = search needs
 returns-2 : tie.Need-returns-2
 unfolding close-left
 returns-2 c =
-    let f = c .before .before .before .before in
-    let e = stepped (f .before) in
+    let x = c .before .before .before in
+    let a = x .before .before .before .before .args in
+    let e = x .close-lent .ensures ∙ ap (λ (h : Head). close-step (lent h (a .first .now) (a .reply .now))) (x .before .before .head-at .ensures) in
     let n = ap (λ (t : Closed). t .number) e in
-    let kept = ap (λ (t : Closed). t .service .first) e ∙ close-keeps _ in
-    (ap closed-answer e, taken-right _ _ n (f .if1 .left) (ap (λ (t : Closed). t .service) e) (same-arrays (c .numbers .ensures) (sym kept)) .1)
+    (ap closed-answer e, taken-right _ _ n (c .before .before .if1 .left) (ap (λ (t : Closed). t .service) e) (same-head (c .numbers .ensures)) .1)
 
 pub cutawheno-service-close-spec : {M : Type 1} → statement M
-cutawheno-service-close-spec = tie.close (tie.spec state-requires close-requires returns numbers-requires returns-2)
+cutawheno-service-close-spec =
+    tie.close (tie.spec head-at-requires close-lent-requires returns numbers-requires returns-2)

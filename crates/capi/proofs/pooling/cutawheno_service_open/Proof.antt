@@ -1,43 +1,42 @@
--- `capi::pooling::cutawheno_service_open` meets its contract: the service's step decides, on the state that the arrays stand for.
+-- `capi::pooling::cutawheno_service_open` meets its contract: the leaf's step decides, on the state that the arrays stand for.
 -- Assumes nothing.
-use mathlib.Core.Path.{_≡_, ap, _∙_}
-use denote.Ref.{now}
+use mathlib.Core.Path.{ap, _∙_}
 use borrow.Author.Needs.{needs}
-use Rattle.service.specs.declared.Service.{Service}
+use Rattle.service.specs.declared.Head.{Head}
 use Rattle.service.specs.declared.Stepped.{Stepped}
-use Rattle.service.specs.Calls.{open-step}
-use Rattle.capi.specs.Lent.{arrays, state, open-left}
-use Rattle.capi.proofs.Lent.{taken-right, refused-right}
+use Rattle.service.specs.Calls.{lent, open-step}
+use Rattle.service.proofs.Refused.{after-refused}
+use Rattle.capi.specs.Lent.{open-left}
+use Rattle.capi.proofs.Lent.{same-head, taken-right, kept-right}
 use Rattle.capi.proofs.pooling.cutawheno_service_open.Statement.{statement}
 use Rattle.capi.proofs.pooling.cutawheno_service_open.Tie as tie
 
-stepped : (c : tie.After-open) → let a = c .before .before .before .before .before .args in
-    c .«open» .result ≡ open-step (state (arrays (now (a .head)) (now (a .first)) (now (a .reply)))) (a .round)
-stepped c =
-    let a = c .before .before .before .before .before .args in
-    c .«open» .ensures ∙ ap (λ (s : Service). open-step s (a .round)) (c .before .state .ensures)
+head-at-requires : tie.Need-head-at-requires
+head-at-requires c κs = search needs
 
-state-requires : tie.Need-state-requires
-state-requires c κs = search needs
-
-open-requires : tie.Need-open-requires
-open-requires c κs = search needs
+open-lent-requires : tie.Need-open-lent-requires
+open-lent-requires c κs = search needs
 
 returns : tie.Need-returns
-unfolding open-left
+unfolding open-left open-step
 returns c =
-    let e = stepped (c .before) in
-    refused-right _ _ (ap (λ (t : Stepped). t .number) e) (c .if1 .taken)
+    let x = c .before in
+    let a = x .before .before .before .before .before .args in
+    let e = x .open-lent .ensures ∙ ap (λ (h : Head). open-step (lent h (a .first .now) (a .reply .now)) (a .round)) (x .before .before .before .head-at .ensures) in
+    let n = ap (λ (t : Stepped). t .number) e in
+    kept-right _ _ n (c .if1 .taken) (ap (λ (t : Stepped). t .service) e) (after-refused (λ z. c .if1 .taken (n ∙ z)) _ _)
 
-store-requires : tie.Need-store-requires
-store-requires c κs = search needs
+numbers-requires : tie.Need-numbers-requires
+numbers-requires c κs = search needs
 
 returns-2 : tie.Need-returns-2
 unfolding open-left
 returns-2 c =
-    let f = c .before .before .before .before .before in
-    let e = stepped (f .before) in
-    taken-right _ _ (ap (λ (t : Stepped). t .number) e) (f .if1 .left) (ap (λ (t : Stepped). t .service) e) (c .store .ensures)
+    let x = c .before .before .before in
+    let a = x .before .before .before .before .before .args in
+    let e = x .open-lent .ensures ∙ ap (λ (h : Head). open-step (lent h (a .first .now) (a .reply .now)) (a .round)) (x .before .before .before .head-at .ensures) in
+    taken-right _ _ (ap (λ (t : Stepped). t .number) e) (c .before .before .if1 .left) (ap (λ (t : Stepped). t .service) e) (same-head (c .numbers .ensures))
 
 pub cutawheno-service-open-spec : {M : Type 1} → statement M
-cutawheno-service-open-spec = tie.close (tie.spec state-requires open-requires returns store-requires returns-2)
+cutawheno-service-open-spec =
+    tie.close (tie.spec head-at-requires open-lent-requires returns numbers-requires returns-2)

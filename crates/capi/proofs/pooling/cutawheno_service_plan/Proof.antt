@@ -1,43 +1,42 @@
--- `capi::pooling::cutawheno_service_plan` meets its contract: the service's step decides, on the state that the arrays stand for.
+-- `capi::pooling::cutawheno_service_plan` meets its contract: the leaf's step decides, on the state that the arrays stand for.
 -- Assumes nothing.
-use mathlib.Core.Path.{_≡_, ap, _∙_}
-use denote.Ref.{now}
+use mathlib.Core.Path.{ap, _∙_}
 use borrow.Author.Needs.{needs}
-use Rattle.service.specs.declared.Service.{Service}
+use Rattle.service.specs.declared.Head.{Head}
 use Rattle.service.specs.declared.Stepped.{Stepped}
-use Rattle.service.specs.Calls.{plan-step}
-use Rattle.capi.specs.Lent.{arrays, code-plan, state, plan-left}
-use Rattle.capi.proofs.Lent.{taken-right, refused-right}
+use Rattle.service.specs.Calls.{lent, plan-step}
+use Rattle.service.proofs.Refused.{after-refused}
+use Rattle.capi.specs.Lent.{code-plan, plan-left}
+use Rattle.capi.proofs.Lent.{same-head, taken-right, kept-right}
 use Rattle.capi.proofs.pooling.cutawheno_service_plan.Statement.{statement}
 use Rattle.capi.proofs.pooling.cutawheno_service_plan.Tie as tie
 
-stepped : (c : tie.After-plan) → let a = c .before .before .before .before .before .args in
-    c .plan .result ≡ plan-step (state (arrays (now (a .head)) (now (a .first)) (now (a .reply)))) (code-plan (a .users) (a .threshold) (a .collusion) (a .blocks))
-stepped c =
-    let a = c .before .before .before .before .before .args in
-    c .plan .ensures ∙ ap (λ (s : Service). plan-step s (code-plan (a .users) (a .threshold) (a .collusion) (a .blocks))) (c .before .state .ensures)
+head-at-requires : tie.Need-head-at-requires
+head-at-requires c κs = search needs
 
-state-requires : tie.Need-state-requires
-state-requires c κs = search needs
-
-plan-requires : tie.Need-plan-requires
-plan-requires c κs = search needs
+plan-lent-requires : tie.Need-plan-lent-requires
+plan-lent-requires c κs = search needs
 
 returns : tie.Need-returns
-unfolding plan-left
+unfolding plan-left plan-step
 returns c =
-    let e = stepped (c .before) in
-    refused-right _ _ (ap (λ (t : Stepped). t .number) e) (c .if1 .taken)
+    let x = c .before in
+    let a = x .before .before .before .before .before .args in
+    let e = x .plan-lent .ensures ∙ ap (λ (h : Head). plan-step (lent h (a .first .now) (a .reply .now)) (code-plan (a .users) (a .threshold) (a .collusion) (a .blocks))) (x .before .before .before .head-at .ensures) in
+    let n = ap (λ (t : Stepped). t .number) e in
+    kept-right _ _ n (c .if1 .taken) (ap (λ (t : Stepped). t .service) e) (after-refused (λ z. c .if1 .taken (n ∙ z)) _ _)
 
-store-requires : tie.Need-store-requires
-store-requires c κs = search needs
+numbers-requires : tie.Need-numbers-requires
+numbers-requires c κs = search needs
 
 returns-2 : tie.Need-returns-2
 unfolding plan-left
 returns-2 c =
-    let f = c .before .before .before .before .before in
-    let e = stepped (f .before) in
-    taken-right _ _ (ap (λ (t : Stepped). t .number) e) (f .if1 .left) (ap (λ (t : Stepped). t .service) e) (c .store .ensures)
+    let x = c .before .before .before in
+    let a = x .before .before .before .before .before .args in
+    let e = x .plan-lent .ensures ∙ ap (λ (h : Head). plan-step (lent h (a .first .now) (a .reply .now)) (code-plan (a .users) (a .threshold) (a .collusion) (a .blocks))) (x .before .before .before .head-at .ensures) in
+    taken-right _ _ (ap (λ (t : Stepped). t .number) e) (c .before .before .if1 .left) (ap (λ (t : Stepped). t .service) e) (same-head (c .numbers .ensures))
 
 pub cutawheno-service-plan-spec : {M : Type 1} → statement M
-cutawheno-service-plan-spec = tie.close (tie.spec state-requires plan-requires returns store-requires returns-2)
+cutawheno-service-plan-spec =
+    tie.close (tie.spec head-at-requires plan-lent-requires returns numbers-requires returns-2)
