@@ -1,8 +1,8 @@
 // Key maker, airfield end and pooling service for callers in C and Rust: include/cutawheno.h declares these functions.
 //   cutawheno_list_len, cutawheno_key_len   the lengths that a plan fixes, 0 for a plan that test 1 refuses
 //   cutawheno_make_key                      a user's key from the random list
-//   cutawheno_first_message                 figures plus masks
-//   cutawheno_reply                         where in the key the shares for a set lie
+//   cutawheno_first_message                 figures plus masks; CutawhenoSent: its number, and the stage
+//   cutawheno_reply                         where in the key the shares for a set lie; CutawhenoPart: the number, the place, and the stage
 //   pooling                                 the pooling service
 // An end is its plan, its number and its stage, which the caller keeps: 0 fresh, 1 sent, 2 + v has answered the set v. So 1 and 4
 // are tested at each call, ahead of the others. A refused call hands back its number, and leaves stage and buffers as they came.

@@ -1,7 +1,8 @@
 // The pooling service for callers in C and Rust, over state that the caller lends: include/cutawheno.h declares these functions.
 //   cutawheno_service_plan, cutawheno_service_open       begin
 //   cutawheno_service_first_element, cutawheno_service_reply_element     hold an element: the hot path
-//   cutawheno_service_close, cutawheno_service_finish    the survivors' set, and the total
+//   cutawheno_service_close, cutawheno_service_finish    the survivors' set, and the total; CutawhenoClosed: a close's number, and the set
+//   NUMBERS                                              the length of `head`
 // The state is three arrays, all zero for a new service: `head` has the phase (0 unplanned, 1 idle, 2 gathering, 3 replying), users,
 // threshold, collusion, blocks, places, round and survivors; `first` and `reply` hold the elements as crate service does. A refused
 // call hands back its number and leaves every array as it came. No call copies a state.

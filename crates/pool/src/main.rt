@@ -1,8 +1,10 @@
 // The pooling program of document 01: reads records from standard input and writes their lines to standard output, each as soon as its
 // record is whole. It stops at the end of the input, behind the line of refusal 7, or with a message where a read or a write fails.
+//   Live           what goes from read to read: the state and the bytes that wait
 //   main, turn     one read, the whole records that are there, their lines, and what is left kept for the next read
 //   take           feeds what was read, and writes the lines
-//   fill, write, write_from    one read; all of a write, past interruptions
+//   Read, fill     one read, and what came of it
+//   Wrote, write_from, write   all of a write, past interruptions
 //   keep           moves the bytes of a record that is not whole to the front
 // No byte of output is made outside the crate stream.
 ghost use mathlib.Core.Path.{_≡_};

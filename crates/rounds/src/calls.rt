@@ -2,8 +2,9 @@
 // writes such lines (reference/src/material/vectors.rs sets them out).
 //   Case              what the lines of a case have made so far
 //   Verdict, Checked  whether a call answered as the line says, or what differs; and the case
-//   check             the call of one line
-//   give_first, give_reply   elements to the service, one place or block after the other
+//   new_case, check   a case before its first line; the call of one line
+//   make_into, send_into     a key, a first message into a marked buffer
+//   Given, give_first, give_reply   elements to the service, one place or block after the other
 // Every answer is compared whole: number, stage, set, and the lent buffer to its end.
 use crate::lists::KEY_AT;
 use crate::lists::ROOM;

@@ -1,6 +1,7 @@
 // The examples of document 01 that no theorem covers.
 //   whole_plan     plan 8 2 1 16: its lengths, and a round with dropouts before the close and behind it
 //   stream_lines   the example stream, cut in two at every byte: the printed lines; and the line of refusal 7
+//   BYTES, piece   the length of the buffer for lines; the bytes of a range
 // Document 01's airfield is a user here.
 ghost use Prim.Native.Nat.{_≤_};
 ghost use Rattle.scheme.specs.Good.{Good};

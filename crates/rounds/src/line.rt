@@ -1,7 +1,7 @@
 // A line of the input from its bytes: a letter, then decimal numbers up to 65535, each led by one space, then a line end.
 //   Line, new_line    a line under way
 //   take              one byte more
-//   read_on            the bytes of a chunk up to the end of the line
+//   Read, read_on     the bytes of a chunk up to the end of the line
 ghost use mathlib.Core.Path.{_≡_};
 ghost use Prim.Native.Nat.{_+_, _*_, _-_, _≤_, _<_, min};
 ghost use lib.ListN.{length};

@@ -1,5 +1,5 @@
 // Lists of numbers, read without a requirement: past the end stands 0, and what is no part of a list is empty.
-//   SPACE, space            what is lent
+//   SPACE, space, KEY_AT    what is lent, and where the key starts in it
 //   ROOM, MARK, marked      a buffer for a key or a message
 //   number_at, part, rest   a number; the numbers of a range; those from a place on
 //   front, key_of           the first elements of a buffer; the key that is lent

@@ -1,5 +1,6 @@
 // Runs the examples of document 01 that no theorem covers, and the cases of the second implementation that come on standard input, by
 // the public functions, and checks every result. It says what agrees, or the first line of the input that does not.
+//   Run              how far the run has come
 //   main, examples   the examples, then the input
 //   turn             one read, and its lines
 //   take             the lines of a chunk

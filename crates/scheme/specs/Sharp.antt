@@ -1,7 +1,7 @@
--- The premises of demands 2 and 3 are sharp: statements whose proofs are owed.
+-- The premises of demands 2 and 3 are sharp.
 --   Totals-needed      tables with another total over the set have no matching, whoever colludes
 --   Own-needed         nor have tables that differ for a colluder
---   Collusion-needed   with one colluder more than T, some tables that are alike have no matching: owed at every good plan, modulo 65521
+--   Collusion-needed   with one colluder more than T, some tables that are alike have no matching: at every good plan, modulo 65521
 --   smallest           the plan with K, U, T and M 3, 2, 1 and 1
 --   Threshold-needed   with one reply fewer than U, some replies are explained by unknowns with other sums
 --   Sums-open          and all such replies, at every plan, by unknowns with every element as a sum

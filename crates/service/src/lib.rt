@@ -1,12 +1,14 @@
-// The pooling service of document 01: one call for each kind of record but finish, which needs a solver (crate finish). The state goes in by value and is handed back.
+// The pooling service of document 01: one call for each kind of record but finish, which needs a solver (crate finish). The state goes in by
+// value and is handed back.
 //   Phase, Head, Service         the state: its head, and the elements held
+//   ROW, FIRSTS, BLOCKS, REPLIES the lengths of rows and arrays
 //   Stepped, Closed              what the calls hand back: 0 or the refusal's number, and the state
 //   SteppedHead, ClosedHead      what their leaves hand back: the same, with the head alone
 //   second_plan, open_refusal, not_gathering, not_replying     the refusals that the head alone decides
 //   element_refusal              the tests that both kinds of element share
 //   put_first, put_reply         the leaves that hold an element, on a lent array: the hot path
 //   complete_set                 the users with all their elements held
-//   clear                        drops all elements
+//   nothing_first, nothing_reply, clear     no elements held; drops all
 //   plan_lent, open_lent, close_lent     the leaves of the other calls: they copy no array
 //   Service::new, plan, open, first_element, close, reply_element
 // After a refusal the state is as before.

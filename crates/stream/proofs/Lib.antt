@@ -1,4 +1,5 @@
--- Records: the records of an input. Turns: one record's answer and line. Feeding: what holds at each turn of feed. Promise: the theorems of specs/Promise.antt.
+-- Records: the records of an input. Turns: one record's answer and line. Early: a record that the head alone refuses.
+-- Feeding: what holds at each turn of feed. Promise: the theorems of specs/Promise.antt.
 pub mod Records
 pub mod Turns
 pub mod Early

@@ -1,5 +1,7 @@
 -- The record stream of document 01: bytes, records with their offsets, answers, lines.
---   record-length, record-of     how long a record of a kind is; the record that a list of bytes starts with
+--   record-length                how long a record of a kind is
+--   two-bytes, four-bytes        numbers of two and of four bytes, the low byte first
+--   record-at                    the record that stands at a place
 --   Item, items                  the records of an input, each with its offset, and where it breaks off
 --   Outcome, step                one record on the service's state: the answer and the next state
 --   Told, answers                the answers to a list of records, each with its record's offset; 7 ends the run

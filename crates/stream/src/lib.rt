@@ -1,6 +1,8 @@
 // The record stream of document 01, a chunk at a time: bytes in, lines out.
 //   Fed, Stop      what feed hands back: the state, how many bytes it used and wrote, and why it stopped
 //   feed           takes the whole records of a chunk in order
+//   Turned, take_other, take_plan ..     one record other than an element: the head behind it, and how far out is written
+//   early_refusal  what the head alone refuses
 //   cut            the line of refusal 7, for an unknown kind or a record that the end of the input cuts short
 ghost use mathlib.Core.Path.{_≡_};
 ghost use Prim.Native.Nat.{_+_, _*_, _≤_, _<_};
