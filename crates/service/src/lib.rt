@@ -317,11 +317,11 @@ pub fn open_lent(
 ) -> SteppedHead
     ensures { λ r. ⌜ stepped r (now (first .exit)) (now (reply .exit)) ≡ open-step (lent head (now (first .entry)) (now (reply .entry))) round ⌝ }
 {
+    let plan = head.plan;
     let number = open_refusal(head, round);
     if number != 0 {
         return SteppedHead { number, head };
     }
-    let plan = head.plan;
     let gathering = Head {
         phase: Phase::Gathering,
         plan,

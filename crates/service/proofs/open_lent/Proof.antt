@@ -20,7 +20,7 @@ clear-requires c κs = search needs
 returns-2 : tie.Need-returns-2
 unfolding open-step opened after
 returns-2 c =
-    let e = c .before .before .before .before in
+    let e = c .before .before .before in
     simp (sym (e .before .open-refusal .ensures) ∙ e .if1 .left, c .clear .ensures .0, c .clear .ensures .1)
 
 pub open-lent-spec : {M : Type 1} → statement M
