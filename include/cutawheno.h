@@ -105,7 +105,7 @@ typedef struct {
 } CutawhenoPart;
 
 /* What closing a round answers: the refusal or 0; the survivors' set, 0 after a refusal. */
-typedef struct cutawheno_closed {
+typedef struct {
     uint32_t number;
     uint32_t set;
 } CutawhenoClosed;

@@ -1,12 +1,11 @@
 // Elements of document 01: whole numbers modulo 65521, held in 16 bits.
 //   Q                         the modulus
-//   add, subtract, multiply   of any two 16-bit numbers, through wider integers; the result is an element
+//   add, multiply             of two elements; of any two 16-bit numbers, through wider integers
 //   reduce, folded            n % Q and a product without a division
 //   inverse_of, coefficient   from a table of the inverses below 16
-//   is_element, all_elements  test 3 of document 01
+//   excess, all_elements      test 3 of document 01
 ghost use mathlib.Core.Path.{_≡_};
 ghost use Prim.Native.Nat.{_+_, _-_, _*_, _%_, _≤_, _<_};
-ghost use lib.Dec.{ltb};
 ghost use Rattle.algebra.specs.Residue.{inverse};
 ghost use Rattle.scheme.specs.Scheme.{q, sixteen, elements};
 
@@ -22,13 +21,6 @@ pub fn add(a: u16, b: u16) -> u16
         return a + b;
     }
     a - rest
-}
-
-// The subtrahend is reduced first, so that nothing falls below zero.
-pub fn subtract(a: u16, b: u16) -> u16
-    ensures { λ r. ⌜ r ≡ sixteen .subtract a b ⌝ }
-{
-    ((a as u32 + (Q - b as u32 % Q)) % Q) as u16
 }
 
 pub fn multiply(a: u16, b: u16) -> u16
@@ -90,12 +82,6 @@ pub fn coefficient(user: u32, column: u32) -> u16
     ensures { λ r. ⌜ r ≡ sixteen .coefficient user column ⌝ }
 {
     inverse_of(user + column)
-}
-
-pub fn is_element(x: u16) -> bool
-    ensures { λ r. ⌜ r ≡ ltb x q ⌝ }
-{
-    (x as u32) < Q
 }
 
 // How far x is past the last element: 0 of an element.

@@ -1,4 +1,5 @@
 -- That the program drops no byte between reads.
+--   Keeps            the bytes used and those that wait are the bytes fed
 --   Nothing-lost     where the run goes on, the bytes used and those that wait are the bytes fed, and the offset is that of the first that waits
 -- Assumes nothing: these are definitions.
 use mathlib.Core.Path.{_≡_}

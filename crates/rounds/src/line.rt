@@ -3,7 +3,7 @@
 //   take              one byte more
 //   Read, read_on     the bytes of a chunk up to the end of the line
 ghost use mathlib.Core.Path.{_≡_};
-ghost use Prim.Native.Nat.{_+_, _*_, _-_, _≤_, _<_, min};
+ghost use Prim.Native.Nat.{_+_, _*_, _≤_, _<_, min};
 ghost use lib.ListN.{length};
 
 // The largest number of a line, and what stands for all that are larger.

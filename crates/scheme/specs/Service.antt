@@ -1,6 +1,7 @@
 -- The pooling service of document 01, record by record, over an arithmetic: refusals 1, 3, 4, 8 and 11 to 17, answers and states.
 --   Phase, State, new-state        what the service holds
---   complete-set                   the users with all their elements held, as a set
+--   has-plan, is-gathering, is-replying     tests of a phase
+--   complete-set, gathered, replied         the users with all their elements held, as a set: of first messages, of replies
 --   Record, Answer                 what comes in, and what is answered
 --   refusal                        0, or the earliest refusal that applies, but for 16
 --   next-state, answer-of          of an accepted record other than finish

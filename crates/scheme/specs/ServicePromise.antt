@@ -1,8 +1,8 @@
 -- The promises of demands 1 and 2, about the abstract service.
---   One-answer, Always-answers, Refused-unchanged    each record has one answer, and a refusal changes nothing
+--   One-answer, Answered, Always-answers, Refused-unchanged    each record has one answer, and a refusal changes nothing
 --   As-new                                           a round keeps nothing but the plan of what was before
 --   Finish-right                                     replies that follow the rules give the survivors' total
---   Sixteen-exactly, Never-sixteen                   when 16 is given, and when never
+--   Unexplained, Sixteen-exactly, Never-sixteen      when 16 is given, and when never
 --   Stays-well                                       every run stays well-formed
 --   Demand-2                                         all of them modulo 65521
 -- Assumes nothing: these are definitions.
