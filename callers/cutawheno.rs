@@ -109,22 +109,29 @@ extern "C" {
 fn outcome(number: u32) -> Result<(), Refusal> {
     match number {
         0 => Ok(()),
-        1 => Err(Refusal::BadPlan),
-        2 => Err(Refusal::BadLength),
-        3 => Err(Refusal::BadElement),
-        4 => Err(Refusal::BadUser),
-        5 => Err(Refusal::SetUnusable),
-        6 => Err(Refusal::NotInSet),
-        8 => Err(Refusal::BadPlace),
-        11 => Err(Refusal::PlanOrder),
-        12 => Err(Refusal::OtherPhase),
-        13 => Err(Refusal::Held),
-        14 => Err(Refusal::NoSurvivor),
-        15 => Err(Refusal::TooFew),
-        16 => Err(Refusal::Unexplained),
-        17 => Err(Refusal::OldRound),
-        18 => Err(Refusal::OutOfTurn),
-        19 => Err(Refusal::OtherSet),
+        _ => Err(refusal(number)),
+    }
+}
+
+#[cold]
+fn refusal(number: u32) -> Refusal {
+    match number {
+        1 => Refusal::BadPlan,
+        2 => Refusal::BadLength,
+        3 => Refusal::BadElement,
+        4 => Refusal::BadUser,
+        5 => Refusal::SetUnusable,
+        6 => Refusal::NotInSet,
+        8 => Refusal::BadPlace,
+        11 => Refusal::PlanOrder,
+        12 => Refusal::OtherPhase,
+        13 => Refusal::Held,
+        14 => Refusal::NoSurvivor,
+        15 => Refusal::TooFew,
+        16 => Refusal::Unexplained,
+        17 => Refusal::OldRound,
+        18 => Refusal::OutOfTurn,
+        19 => Refusal::OtherSet,
         _ => unreachable!("the calls have no other refusal"),
     }
 }

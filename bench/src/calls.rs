@@ -20,7 +20,7 @@ pub fn measure_keys(p: Plan) -> [f64; 2] {
         ours(p).make_key(user, list, &mut key).unwrap();
         assert!(key == round.keys[user as usize - 1], "key of {user} under {}", named(p));
     }
-    let rust = black_box(fast::make_key);
+    let rust = black_box(fast::make_key as fn(Plan, u32, &[u16], &mut [u16]) -> u32);
     let all_users = duel(
         || (1..=p.users).for_each(|user| ours(p).make_key(user, list, &mut key).unwrap()),
         || (1..=p.users).for_each(|user| assert_eq!(rust(p, user, list, &mut rust_key), 0)),
@@ -36,7 +36,7 @@ pub fn measure_first(p: Plan) -> [f64; 2] {
     let mut rust_message = message.clone();
     cutawheno::End::new(ours(p), 3).first_message(key, figures, &mut message).unwrap();
     assert!(message == round.messages[2], "first message under {}", named(p));
-    let rust = black_box(Client::first_message);
+    let rust = black_box(Client::first_message as fn(&mut Client, &[u16], &[u16], &mut [u16]) -> u32);
     duel(
         || cutawheno::End::new(ours(p), 3).first_message(key, figures, &mut message).unwrap(),
         || assert_eq!(rust(&mut Client { plan: p, user: 3, stage: Stage::Fresh }, key, figures, &mut rust_message), 0),
@@ -51,7 +51,7 @@ pub fn measure_reply(p: Plan) -> [f64; 2] {
     end.first_message(key, &round.figures[2], &mut vec![0; p.places()]).unwrap();
     assert!(end.reply(key, round.everyone).unwrap() == round.replies[2], "reply under {}", named(p));
     let mut rust_end = Client { plan: p, user: 3, stage: Stage::Sent };
-    let rust = black_box(Client::reply);
+    let rust = black_box(Client::reply as for<'a> fn(&mut Client, &'a [u16], u32) -> Result<&'a [u16], u32>);
     duel(
         || assert_eq!(end.reply(key, round.everyone).unwrap().len(), p.blocks as usize),
         || assert_eq!(rust(&mut rust_end, key, round.everyone).unwrap().len(), p.blocks as usize),
@@ -89,7 +89,7 @@ fn replied(round: &Round, users: u32) -> (cutawheno::Service, Service) {
 pub fn measure_element(p: Plan) -> [f64; 2] {
     let firsts = Round::new(p, &mut Random(6)).firsts();
     let (service, rust_service) = opened(p);
-    let rust = black_box(Service::first_element);
+    let rust = black_box(Service::first_element as fn(&mut Service, u32, u32, u32) -> u32);
     let round = duel_over(
         (&service, |s: &mut cutawheno::Service| {
             for &(user, place, x) in &firsts {
@@ -116,7 +116,7 @@ pub fn measure_finish(round: &Round, users: u32) -> [f64; 2] {
         let sum: u32 = round.figures.iter().map(|row| row[place] as u32).sum();
         assert_eq!(total as u32, sum % Q);
     }
-    let rust = black_box(Service::finish);
+    let rust = black_box(Service::finish as fn(&mut Service, &mut [u16; MOST_PLACES]) -> u32);
     duel_over(
         (&service, |s: &mut cutawheno::Service| {
             s.finish(black_box(&mut [0; MOST_PLACES])).unwrap();
