@@ -2,7 +2,7 @@
 //   Q                         the modulus
 //   add, multiply             of two elements; of any two 16-bit numbers, through wider integers
 //   reduce, folded            n % Q and a product without a division
-//   inverse_of, coefficient   from a table of the inverses below 16
+//   inverse_of, coefficient   the inverses of the numbers below 16
 //   excess, all_elements      test 3 of document 01
 ghost use mathlib.Core.Path.{_≡_};
 ghost use Prim.Native.Nat.{_+_, _-_, _*_, _%_, _≤_, _<_};
@@ -49,31 +49,30 @@ pub fn folded(a: u16, b: u16) -> u32
     n % 65536 + n / 65536 * 15
 }
 
-// The inverses of 1 to 15 modulo Q; at 0, which has none, the 1 that the definition gives.
-const INVERSES: [u16; 16] = [
-    1,
-    1,
-    32761,
-    43681,
-    49141,
-    52417,
-    54601,
-    56161,
-    57331,
-    58241,
-    58969,
-    11913,
-    60061,
-    60481,
-    60841,
-    61153,
-];
-
+// The inverses of 1 to 15 modulo Q, and at 0, which has none, the 1 that the definition gives. The compiler makes a table of the arms;
+// one written as an array would be built anew at each call.
 pub fn inverse_of(n: u32) -> u16
     requires { ⌜ n < 16 ⌝ }
     ensures { λ r. ⌜ r ≡ inverse q n ⌝ }
 {
-    INVERSES[n as usize]
+    match n {
+        0 => 1,
+        1 => 1,
+        2 => 32761,
+        3 => 43681,
+        4 => 49141,
+        5 => 52417,
+        6 => 54601,
+        7 => 56161,
+        8 => 57331,
+        9 => 58241,
+        10 => 58969,
+        11 => 11913,
+        12 => 60061,
+        13 => 60481,
+        14 => 60841,
+        _ => 61153,
+    }
 }
 
 // "The coefficient of airfield k and column j is the inverse of k + j modulo q."

@@ -101,11 +101,11 @@ fn write_sets(plan: Plan, user: u32, list: &[u16], out: &mut [u16], row: usize)
     let high = coefficients(user, 1 + items, plan.collusion);
     let blocks = plan.blocks as usize;
     let step = blocks * plan.collusion as usize;
-    let end = all_sets(plan);
     let mut noise = plan.users as usize * row;
     let mut at = row;
     let mut v: u32 = 0;
-    while v < end {
+    let mut left = all_sets(plan);
+    while 0 < left {
         if has_enough(plan, v) {
             let here = noise;
             noise += step;
@@ -115,6 +115,7 @@ fn write_sets(plan: Plan, user: u32, list: &[u16], out: &mut [u16], row: usize)
             }
         }
         v += 1;
+        left -= 1;
     }
 }
 

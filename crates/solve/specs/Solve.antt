@@ -3,7 +3,7 @@
 --   laws16, point              the field, shut; the number at a position as its element
 --   Points, Near, Square       the first n points are in range and different; sums with them are below 16; such rows and columns
 --   padded, filled             a list in the first of n places, and 0 behind it; n of eight entries by a rule
---   gap-of                     1 / (x - y), and 1 where they are the same
+--   gap-of, gap-at             1 / (x - y), and 1 where they are the same; by 7 + x - y
 --   weight-at, weights-of      the weights of algebra's closed solution
 --   Ready                      a system with its weights
 --   unknown-at, solution-of    algebra's closed solution
@@ -59,6 +59,10 @@ filled n f = padded 8 (map f (span n 0))
 -- ---- THE CLOSED SOLUTION
 unfoldable pub gap-of : (x y : ℕ) → ℕ
 gap-of x y = cond (eqb x y) 1 (inverse q (sixteen .subtract x y))
+
+-- 1 / (d - 7), and 1 at 7
+unfoldable pub gap-at : (d : ℕ) → ℕ
+gap-at d = cond (eqb d 7) 1 (inverse q ((d + (q - 7)) % q))
 
 -- the weight of the point at a position of `own`; for the columns of a system, `own` are the columns and `other` the rows
 unfoldable pub weight-at : (own other : List ℕ) → (n at : ℕ) → ℕ

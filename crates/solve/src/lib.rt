@@ -1,5 +1,5 @@
 // Square Cauchy systems modulo 65521 by their closed solution, the systems of 16 blocks side by side.
-//   gap_of, weights         what depends on the points alone
+//   gap_of, gap_at, weights what depends on the points alone
 //   factors, inverse_row    a row of the system, and a row of its inverse
 //   dot, two                a row times the numbers of a block
 //   put_row, solve          the unknowns of every block
@@ -13,37 +13,42 @@ ghost use lib.Dec.{eqb};
 ghost use lib.ListN.{length, getD, replicate};
 ghost use Rattle.scheme.specs.Scheme.{span, q, sixteen, sum};
 ghost use Rattle.scheme.specs.Totals.{all-of};
-ghost use Rattle.solve.specs.Solve.{Points, Near, Ready, gap-of, weight-at, weights-of, filled, product, Factors, combined, inverse-at, Put, Solved, row-fits};
+ghost use Rattle.solve.specs.Solve.{Points, Near, Ready, gap-of, gap-at, weight-at, weights-of, filled, product, Factors, combined, inverse-at, Put, Solved, row-fits};
 
 // A plan has at most 16 blocks; with eight rows that makes 128 cells.
 pub const BLOCKS: usize = 16;
 
 pub const CELLS: usize = 128;
 
-// 1 / (d - 7) for d from 0 to 14, and 1 at 7.
-const GAPS: [u16; 15] = [
-    9360,
-    10920,
-    13104,
-    16380,
-    21840,
-    32760,
-    65520,
-    1,
-    1,
-    32761,
-    43681,
-    49141,
-    52417,
-    54601,
-    56161,
-];
-
 pub fn gap_of(x: u32, y: u32) -> u16
     requires { ⌜ (1 ≤ x) × (x ≤ 8) × (1 ≤ y) × (y ≤ 8) ⌝ }
     ensures { λ r. ⌜ r ≡ gap-of x y ⌝ }
 {
-    GAPS[(7 + x - y) as usize]
+    gap_at(7 + x - y)
+}
+
+// 1 / (d - 7) for d from 0 to 14, and 1 at 7; by arms, as the inverses of `element`.
+fn gap_at(d: u32) -> u16
+    requires { ⌜ d < 15 ⌝ }
+    ensures { λ r. ⌜ r ≡ gap-at d ⌝ }
+{
+    match d {
+        0 => 9360,
+        1 => 10920,
+        2 => 13104,
+        3 => 16380,
+        4 => 21840,
+        5 => 32760,
+        6 => 65520,
+        7 => 1,
+        8 => 1,
+        9 => 32761,
+        10 => 43681,
+        11 => 49141,
+        12 => 52417,
+        13 => 54601,
+        _ => 56161,
+    }
 }
 
 // One factor of a weight: a sum of two points, and a gap.

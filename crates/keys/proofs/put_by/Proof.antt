@@ -1,13 +1,14 @@
 -- `keys::put_by` meets its contract: in each branch n is the number that the call is given.
 use mathlib.Core.Path.{_≡_, sym, ap, _∙_}
 use mathlib.Core.List.{List, map}
-use Prim.Native.Nat.{ℕ, _+_, _*_, _≤_}
+use Prim.Native.Nat.{ℕ, _*_}
 use native.Mathlib.Nat.{le-antisymm}
 use native.Mathlib.Omega.{arith}
 use lib.Seq.{sets}
 use denote.Ref.{now}
 use borrow.Author.Needs.{needs}
 use Rattle.scheme.specs.Scheme.{span}
+use Rattle.scheme.proofs.Tests.{past}
 use Rattle.keys.specs.Parts.{block-value}
 use Rattle.keys.proofs.put_by.Statement.{statement}
 use Rattle.keys.proofs.put_by.Tie as tie
@@ -42,9 +43,6 @@ put-blocks-requires-5 c κs =
     (omega arith, omega arith, omega (arith, ap (λ (x : ℕ). s .args .blocks * x) (c .before .match .keys5)), omega arith)
 
 -- what is left of 1 to 6
-past : (k n : ℕ) → k ≤ n → (n ≡ k → ⊥) → k + 1 ≤ n
-past k n l d = omega (arith, d)
-
 last : (c : tie.At-match-rest) → c .before .before .before .args .n ≡ 6
 last c =
     let s = c .before .before .before in

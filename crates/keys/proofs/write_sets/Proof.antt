@@ -15,7 +15,7 @@ use Rattle.scheme.proofs.Tests.{joined}
 use Rattle.scheme.proofs.Lists.{rows-length}
 use Rattle.scheme.proofs.Keys.{shares-length}
 use Rattle.plan.specs.Plan.{plan-of}
-use Rattle.plan.proofs.Laws.{reply-inside}
+use Rattle.plan.proofs.Laws.{sets-le, reply-inside}
 use Rattle.keys.proofs.Places.{rows-in, noise-set, noise-skip, noise-room, reply-set, reply-skip}
 use Rattle.scheme.proofs.Lists.{sets-append}
 use Rattle.keys.proofs.Shares.{shares-right}
@@ -79,10 +79,11 @@ unfolding usable-with
 with-none p k v u = rw u
 
 abbrev Inv-loop : tie.InvT-loop
-Inv-loop plan user list out₀ row products items high blocks step end noise₀ at₀ v₀ out noise at v = (v ≤ end) × Going (plan-of plan) user list out₀ out noise at v
+Inv-loop plan user list out₀ row products items high blocks step noise₀ at₀ v₀ left₀ out noise at v left =
+    (v + left ≡ 2 ^ plan .users) × Going (plan-of plan) user list out₀ out noise at v
 
 abbrev μ-loop : tie.MeasureT-loop
-μ-loop plan user list out₀ row products items high blocks step end noise₀ at₀ v₀ out noise at v = end - v
+μ-loop plan user list out₀ row products items high blocks step noise₀ at₀ v₀ left₀ out noise at v left = left
 
 -- the buffer keeps its length
 long : (c : tie.At-loop Inv-loop μ-loop) → length (c .loop .out) ≡ length (c .before .before .before .before .before .before .before .before .before .before .args .out .now)
@@ -113,23 +114,23 @@ mul-step c =
     let l : s .args .plan .blocks * s .args .plan .collusion ≤ 128 = mul-le-mul {n₂ = 16} {m₂ = 8} (g .blocks-high) (omega arith) in
     omega (arith, l)
 
-all-sets-requires : tie.Need-all-sets-requires Inv-loop μ-loop
-all-sets-requires c κs = search needs
-
 cast-noise : tie.Need-cast-noise Inv-loop μ-loop
 cast-noise c = search needs
 
 mul-noise : tie.Need-mul-noise Inv-loop μ-loop
 mul-noise c =
-    let s = c .before .before .before .before .before .before .before .before .before in
+    let s = c .before .before .before .before .before .before .before .before in
     let a = s .args in
     omega (arith, rows-in (plan-of (a .plan)), s .pre .0 .long, ap (λ (x : ℕ). a .plan .users * x) (s .pre .1 .0), s .good)
 
+all-sets-requires : tie.Need-all-sets-requires Inv-loop μ-loop
+all-sets-requires c κs = search needs
+
 loop-holds : tie.Need-loop-holds Inv-loop μ-loop
-loop-holds c = (search needs, start _ _ _ _ _ (c .before .before .before .before .before .before .before .before .before .pre .1 .0))
+loop-holds c = (omega (arith, c .all-sets .ensures .0), start _ _ _ _ _ (c .before .before .before .before .before .before .before .before .before .pre .1 .0))
 
 has-enough-requires : tie.Need-has-enough-requires Inv-loop μ-loop
-has-enough-requires c κs = omega (arith, c .before .before .before .all-sets .ensures .0, c .loop-test .taken)
+has-enough-requires c κs = omega (arith, c .before .loop .inv .0, c .loop-test .taken)
 
 add-noise : tie.Need-add-noise Inv-loop μ-loop
 add-noise c =
@@ -171,7 +172,10 @@ add-at c =
     omega (arith, room t, t .before .before .before .before .before .before .before .before .before .before .before .before .before .before .before .good)
 
 add-v : tie.Need-add-v Inv-loop μ-loop
-add-v c = search needs
+add-v c = omega (arith, c .before .before .before .loop .inv .0, sets-le (plan-of (c .before .before .before .before .before .before .before .before .before .before .before .before .before .args .plan)) (c .before .before .before .before .before .before .before .before .before .before .before .before .before .pre .0 .good))
+
+sub-left : tie.Need-sub-left Inv-loop μ-loop
+sub-left c = search needs
 
 loop-less : tie.Need-loop-less Inv-loop μ-loop
 loop-less c = search needs
@@ -186,7 +190,7 @@ loop-again c =
     let u = sym (c .before .has-enough .ensures) in
     let r = shares-right (plan-of (s .args .plan)) (now (s .args .list)) (s .args .user) (i .v) (i .noise) (l .before .before .before .before .before .before .before .mask-products .result) (l .before .before .before .before .before .coefficients .result)
     (s .pre .0 .good) (g .noise-is) (l .before .before .before .before .before .before .before .mask-products .ensures) (l .before .before .before .before .before .coefficients .ensures) in (
-      omega arith,
+      omega (arith, i .inv .0, c .before .before .loop-test .taken),
       ⊎-elim (λ w. rw (w .9, w .6 .ensures, r, w .10, w .11)
           (taken g (with-both _ _ _ (u ∙ w .0 .taken) (sym (w .1 .ensures) ∙ w .2 .taken)) _ (next-noise g (u ∙ w .0 .taken))))
           (⊎-elim (λ w. rw (w .3, w .4, w .5)
@@ -205,7 +209,7 @@ returns c =
     let a = s .args in
     let p = plan-of (a .plan) in
     let i = c .before .loop in
-    let e : i .v ≡ 2 ^ a .plan .users = omega (arith, c .before .before .before .all-sets .ensures .0) in
+    let e : i .v ≡ 2 ^ a .plan .users = omega (arith, i .inv .0, c .loop-test .left) in
     i .inv .1 .written
     ∙ ap₂ (λ (m n : ℕ). sets (a .out .now) m (rows (shares sixteen p (a .list .now) (a .user)) (members (usable-with p (a .user)) n 0))) (sym (s .pre .1 .0)) e
 
@@ -222,9 +226,9 @@ write-sets-spec =
     cast-blocks
     cast-step
     mul-step
-    all-sets-requires
     cast-noise
     mul-noise
+    all-sets-requires
     loop-holds
     has-enough-requires
     add-noise
@@ -232,6 +236,7 @@ write-sets-spec =
     write-shares-requires
     add-at
     add-v
+    sub-left
     loop-less
     loop-again
     same-length
