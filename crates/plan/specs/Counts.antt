@@ -1,6 +1,6 @@
 -- How many sets are usable, and how many of these hold a user, by the number of users and the threshold alone.
 --   sets-of, holding            the two counts
---   usable-rule, holding-rule   the entries of the code's tables: at 8 * users + threshold
+--   usable-rule, holding-rule   the same at 8 * users + threshold; the code's tables have them from 24 on
 -- Assumes nothing: these are definitions.
 use Prim.Native.Nat.{ℕ, _/_, _%_}
 use lib.ListN.{length}

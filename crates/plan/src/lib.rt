@@ -122,32 +122,8 @@ fn is_usable_with(p: Plan, user: u32, set: u32) -> bool
     holds(set, user)
 }
 
-// How many sets of K users have at least U members, at 8 * K + U.
-const USABLE: [u16; 72] = [
-    1,
-    0,
-    0,
-    0,
-    0,
-    0,
-    0,
-    0,
-    2,
-    1,
-    0,
-    0,
-    0,
-    0,
-    0,
-    0,
-    4,
-    3,
-    1,
-    0,
-    0,
-    0,
-    0,
-    0,
+// How many sets of K users have at least U members, at 8 * (K - 3) + U.
+const USABLE: [u16; 48] = [
     8,
     7,
     4,
@@ -199,31 +175,7 @@ const USABLE: [u16; 72] = [
 ];
 
 // How many of them hold a given one of the users.
-const HOLDING: [u16; 72] = [
-    0,
-    0,
-    0,
-    0,
-    0,
-    0,
-    0,
-    0,
-    1,
-    1,
-    0,
-    0,
-    0,
-    0,
-    0,
-    0,
-    2,
-    2,
-    1,
-    0,
-    0,
-    0,
-    0,
-    0,
+const HOLDING: [u16; 48] = [
     4,
     4,
     3,
@@ -275,15 +227,15 @@ const HOLDING: [u16; 72] = [
 ];
 
 fn usable_at(at: usize) -> u16
-    requires { ⌜ at < 72 ⌝ }
-    ensures { λ r. ⌜ r ≡ usable-rule at ⌝ }
+    requires { ⌜ at < 48 ⌝ }
+    ensures { λ r. ⌜ r ≡ usable-rule (24 + at) ⌝ }
 {
     USABLE[at]
 }
 
 fn holding_at(at: usize) -> u16
-    requires { ⌜ at < 72 ⌝ }
-    ensures { λ r. ⌜ r ≡ holding-rule at ⌝ }
+    requires { ⌜ at < 48 ⌝ }
+    ensures { λ r. ⌜ r ≡ holding-rule (24 + at) ⌝ }
 {
     HOLDING[at]
 }
@@ -292,14 +244,14 @@ pub fn count_usable(p: Plan) -> usize
     requires { ⌜ Good (plan-of p) ⌝ }
     ensures { λ r. ⌜ (r ≡ length (usable-sets (plan-of p))) × (r ≤ 256) ⌝ }
 {
-    usable_at(p.users as usize * 8 + p.threshold as usize) as usize
+    usable_at((p.users as usize - 3) * 8 + p.threshold as usize) as usize
 }
 
 pub fn count_holding(p: Plan, user: u32) -> usize
     requires { ⌜ Good (plan-of p) × (1 ≤ user) × (user ≤ p .users) ⌝ }
     ensures { λ r. ⌜ (r ≡ length (sets-with (plan-of p) user)) × (r ≤ 256) ⌝ }
 {
-    holding_at(p.users as usize * 8 + p.threshold as usize) as usize
+    holding_at((p.users as usize - 3) * 8 + p.threshold as usize) as usize
 }
 
 // The place of a set in a user's key: how many smaller usable sets hold the user.

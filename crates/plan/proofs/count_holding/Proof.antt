@@ -1,7 +1,9 @@
 -- `plan::count_holding` meets its contract: the table's entry is that of user 1, and all users have the same. Assumes nothing.
-use mathlib.Core.Path.{_≡_, sym, _∙_}
+use mathlib.Core.Path.{_≡_, sym, ap, _∙_}
+use Prim.Native.Nat.{_+_, _*_, _-_}
 use native.Mathlib.Omega.{arith}
 use Rattle.plan.specs.Plan.{plan-of}
+use Rattle.plan.specs.Counts.{holding-rule}
 use Rattle.plan.proofs.Counts.{holding-same, holding-entry, with-same, with-few}
 use borrow.Author.Needs.{needs}
 use Rattle.plan.proofs.count_holding.Statement.{statement}
@@ -9,6 +11,9 @@ use Rattle.plan.proofs.count_holding.Tie as tie
 
 cast-holding-at : tie.Need-cast-holding-at
 cast-holding-at c = search needs
+
+sub-holding-at : tie.Need-sub-holding-at
+sub-holding-at c = search needs
 
 mul-holding-at : tie.Need-mul-holding-at
 mul-holding-at c = search needs
@@ -29,8 +34,9 @@ returns : tie.Need-returns
 returns c =
     let a = c .before .before .before in
     let p = a .args .p in
+    let i : 24 + ((p .users - 3) * 8 + p .threshold) ≡ p .users * 8 + p .threshold = omega arith in
     let e =
-    c .holding-at .ensures ∙ holding-entry (p .users) (p .threshold) (omega arith)
+    c .holding-at .ensures ∙ ap holding-rule i ∙ holding-entry (p .users) (p .threshold) (omega arith)
     ∙ sym (holding-same (p .users) (p .threshold) (a .args .user) (omega arith) (omega arith) (a .pre .1) (a .pre .2)) ∙ with-same (plan-of p) (a .args .user) in
     (e, omega (arith, e, with-few (plan-of p) (a .pre .0) (a .args .user)))
 
@@ -39,6 +45,7 @@ count-holding-spec =
     tie.close
     (tie.spec
     cast-holding-at
+    sub-holding-at
     mul-holding-at
     cast-holding-at-2
     add-holding-at

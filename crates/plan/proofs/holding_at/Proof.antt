@@ -1,7 +1,5 @@
 -- `plan::holding_at` meets its contract: antt computes the rule at all entries and compares it with the table; `map-span-at` carries that to
 -- each entry. Assumes nothing.
-use mathlib.Core.Path.{_∙_, ap}
-use native.Mathlib.Nat.{zero-add}
 use Rattle.scheme.specs.Scheme.{sets-with, usable-with, usable, in-set, ones}
 use Rattle.scheme.proofs.Lists.{map-span-at}
 use Rattle.plan.specs.Counts.{holding-rule, holding}
@@ -17,7 +15,7 @@ array-read-result c = search needs
 
 returns : tie.Need-returns
 unfolding holding-rule holding sets-with usable-with usable in-set ones
-returns c = map-span-at holding-rule 72 0 (c .args .at) (c .pre) ∙ ap holding-rule (zero-add (c .args .at))
+returns c = map-span-at holding-rule 48 24 (c .args .at) (c .pre)
 
 pub holding-at-spec : {M : Type 1} → statement M
 holding-at-spec = tie.close (tie.spec mul-result array-read-result returns)
