@@ -304,6 +304,7 @@ pub fn feed(start: Service, b: &[u8], offset: u64, out: &mut [u8]) -> Fed
             };
         }
         let here = offset + at as u64;
+        // an element's length is written out, so that the next record need not wait for one that is looked up
         if kind == 3 {
             let head = service.head;
             let user = wide(b[at + 1]);
@@ -311,7 +312,7 @@ pub fn feed(start: Service, b: &[u8], offset: u64, out: &mut [u8]) -> Fed
             let element = two_at(b, at + 4);
             let number = service::put_first(head, &mut service.first, user, place, element);
             wrote = put_element(out, wrote, number, here);
-            at += n;
+            at += 6;
         } else if kind == 5 {
             let head = service.head;
             let user = wide(b[at + 1]);
@@ -319,7 +320,7 @@ pub fn feed(start: Service, b: &[u8], offset: u64, out: &mut [u8]) -> Fed
             let element = two_at(b, at + 3);
             let number = service::put_reply(head, &mut reply, user, block, element);
             wrote = put_element(out, wrote, number, here);
-            at += n;
+            at += 5;
         } else {
             let head = service.head;
             let number = early_refusal(head, b, at);

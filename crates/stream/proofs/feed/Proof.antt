@@ -1,6 +1,6 @@
 -- `stream::feed` meets its contract: at each turn what fed answers from here on is its answer, and the lines of the bytes used are written.
 -- Assumes nothing.
-use mathlib.Core.Path.{refl, sym, ap, _∙_}
+use mathlib.Core.Path.{_≡_, refl, sym, ap, _∙_}
 use Prim.Native.Nat.{_-_}
 use native.Mathlib.Omega.{arith}
 use lib.ListN.{length}
@@ -103,11 +103,14 @@ loop-less : tie.Need-loop-less Inv-loop μ-loop
 loop-less c = search needs
 
 loop-again : tie.Need-loop-again Inv-loop μ-loop
+unfolding record-length
 loop-again c =
     let d = c .before .before .before .before .before .before .before .before .before .before .before .before in
     let x = d .before .before .before in
-    going-first _ _ _ _ _ _ _ _ (x .before .before .before .loop .inv) (x .before .before .loop-test .taken) (x .record-length .result) (x .record-length .ensures .0) (d .before .before .if2 .left) (omega arith) (omega arith) _ _
-    _ _ _ _ _ (c .before .before .before .before .before .before .before .before .before .before .before .if5 .taken) (c .before .before .before .before .before .before .before .before .wide .ensures) (c .before .before .before .before .before .before .before .two-at .ensures .0) (c .before .before .before .before .before .before .two-at2 .ensures .0) (c .before .before .before .before .put-first .ensures .0) (c .before .before .before .before .put-first .ensures .1) (c .before .before .put-element .ensures)
+    let k = c .before .before .before .before .before .before .before .before .before .before .before .if5 .taken in
+    let e : x .record-length .result ≡ 6 = x .record-length .ensures .0 ∙ ap record-length k in
+    going-first _ _ _ _ _ _ _ _ (x .before .before .before .loop .inv) (x .before .before .loop-test .taken) 6 (sym (ap record-length k)) (λ z. omega arith) (omega (arith, e)) (omega arith) _ _
+    _ _ _ _ _ k (c .before .before .before .before .before .before .before .before .wide .ensures) (c .before .before .before .before .before .before .before .two-at .ensures .0) (c .before .before .before .before .before .before .two-at2 .ensures .0) (c .before .before .before .before .put-first .ensures .0) (c .before .before .before .before .put-first .ensures .1) (c .before .before .put-element .ensures)
 
 add-wide-2 : tie.Need-add-wide-2 Inv-loop μ-loop
 add-wide-2 c = search needs
@@ -149,11 +152,14 @@ loop-less-2 : tie.Need-loop-less-2 Inv-loop μ-loop
 loop-less-2 c = search needs
 
 loop-again-2 : tie.Need-loop-again-2 Inv-loop μ-loop
+unfolding record-length
 loop-again-2 c =
     let d = c .before .before .before .before .before .before .before .before .before .before .before .before .before .before in
     let x = d .before .before .before in
-    going-reply _ _ _ _ _ _ _ _ (x .before .before .before .loop .inv) (x .before .before .loop-test .taken) (x .record-length .result) (x .record-length .ensures .0) (d .before .before .if2 .left) (omega arith) (omega arith) _ _
-    _ _ _ _ _ (c .before .before .before .before .before .before .before .before .before .before .before .before .if6 .taken) (c .before .before .before .before .before .before .before .before .before .wide2 .ensures) (c .before .before .before .before .before .before .before .wide3 .ensures) (c .before .before .before .before .before .before .two-at3 .ensures .0) (c .before .before .before .before .put-reply .ensures .0) (c .before .before .before .before .put-reply .ensures .1) (c .before .before .put-element2 .ensures)
+    let k = c .before .before .before .before .before .before .before .before .before .before .before .before .if6 .taken in
+    let e : x .record-length .result ≡ 5 = x .record-length .ensures .0 ∙ ap record-length k in
+    going-reply _ _ _ _ _ _ _ _ (x .before .before .before .loop .inv) (x .before .before .loop-test .taken) 5 (sym (ap record-length k)) (λ z. omega arith) (omega (arith, e)) (omega arith) _ _
+    _ _ _ _ _ k (c .before .before .before .before .before .before .before .before .before .wide2 .ensures) (c .before .before .before .before .before .before .before .wide3 .ensures) (c .before .before .before .before .before .before .two-at3 .ensures .0) (c .before .before .before .before .put-reply .ensures .0) (c .before .before .before .before .put-reply .ensures .1) (c .before .before .put-element2 .ensures)
 
 early-refusal-requires : tie.Need-early-refusal-requires Inv-loop μ-loop
 early-refusal-requires c κs = ((omega (arith, c .before .before .before .before .before .before .record-length .ensures .0), search needs), (c .before .before .if5 .left, c .before .if6 .left))
