@@ -2,7 +2,7 @@
 use std::time::{Duration, Instant};
 
 /// How often each contender runs: a program over a stream, a batch of calls; and about how long a batch is.
-pub const RUNS: u32 = 9;
+pub const RUNS: u32 = 40;
 pub const BATCHES: u32 = 200;
 const BATCH: Duration = Duration::from_micros(300);
 
