@@ -222,19 +222,20 @@ pub fn put_reply(head: Head, reply: &mut [u16; REPLIES], user: u32, block: u32, 
     0
 }
 
-// Whether the `each` elements from `start` on are all held.
+// Whether the `each` elements from `start` on are all held. Without an early end many are tested at a time.
 fn row_held(held: &[u16], start: usize, each: usize) -> bool
     requires { ⌜ start + each ≤ length (now held) ⌝ }
     ensures { λ r. ⌜ r ≡ row-held (now (held .entry)) start each ⌝ }
 {
+    let mut good = true;
     let mut i = 0;
     while i < each {
         if held[start + i] == 0 {
-            return false;
+            good = false;
         }
         i += 1;
     }
-    true
+    good
 }
 
 // The set of the plan's users with `each` elements held; a user's elements start `stride` behind those of the one before.

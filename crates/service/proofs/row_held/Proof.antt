@@ -1,7 +1,8 @@
--- `service::row_held` meets its contract. The loop's invariant: the elements passed are held, so that those that are left decide.
--- The measure is how many are left. Assumes nothing.
-use mathlib.Core.Path.{_≡_, sym, _∙_}
-use mathlib.Core.Bool.{Bool, not}
+-- `service::row_held` meets its contract. The loop's invariant: what was found so far, and the answer for the elements that are left, is the
+-- answer for all. The measure is how many are left. Assumes nothing.
+use mathlib.Core.Path.{_≡_, refl, sym, ap, _∙_}
+use mathlib.Core.Logic.{⊎-elim}
+use mathlib.Core.Bool.{Bool, true, false, _&&_, not}
 use mathlib.Core.List.{List}
 use Prim.Native.Nat.{ℕ, _+_, _-_, _≤_}
 use native.Mathlib.Nat.{sub-zero}
@@ -20,11 +21,19 @@ use Rattle.service.proofs.row_held.Tie as tie
 abbrev held-at : List ℕ → (start i : ℕ) → Bool
 held-at xs start i = not (eqb (getD xs (start + i) 0) 0)
 
+and-false : (b : Bool) → (b && false) ≡ false
+and-false true = refl
+and-false false = refl
+
+and-true : (b : Bool) → (b && true) ≡ b
+and-true true = refl
+and-true false = refl
+
 abbrev Inv-loop : tie.InvT-loop
-Inv-loop held start each i₀ i = (i ≤ each) × (all-of (held-at held start) (span (each - i) i) ≡ row-held held start each)
+Inv-loop held start each good₀ i₀ good i = (i ≤ each) × ((good && all-of (held-at held start) (span (each - i) i)) ≡ row-held held start each)
 
 abbrev μ-loop : tie.MeasureT-loop
-μ-loop held start each i₀ i = each - i
+μ-loop held start each good₀ i₀ good i = each - i
 
 loop-holds : tie.Need-loop-holds Inv-loop μ-loop
 unfolding row-held
@@ -39,11 +48,6 @@ mul-if1 c = search needs
 shared-slice-read-if1 : tie.Need-shared-slice-read-if1 Inv-loop μ-loop
 shared-slice-read-if1 c = search needs
 
-returns : tie.Need-returns Inv-loop μ-loop
-returns c =
-    let l = c .before .before .before .loop in
-    sym (sym (l .inv .1) ∙ all-of-next _ _ (l .i) (c .before .before .loop-test .taken) ∙ simp (eq-eqb _ _ (c .if1 .taken)))
-
 add-i : tie.Need-add-i Inv-loop μ-loop
 add-i c = search needs
 
@@ -53,25 +57,17 @@ loop-less c = search needs
 loop-again : tie.Need-loop-again Inv-loop μ-loop
 loop-again c =
     let l = c .before .before .before .loop in
-    (omega arith, sym (all-of-next _ _ (l .i) (c .before .before .loop-test .taken) ∙ simp (ne-eqb _ _ (c .if1 .left))) ∙ l .inv .1)
+    let n = all-of-next _ _ (l .i) (c .before .before .loop-test .taken) in
+    let g : Bool → Bool = λ b. l .good && b in (
+      omega arith,
+      ⊎-elim (λ w. rw (w .1) (sym (and-false (l .good)) ∙ ap g (sym (n ∙ simp (eq-eqb _ _ (w .0 .taken)))) ∙ l .inv .1))
+          (λ w. rw (w .1) (ap g (sym (n ∙ simp (ne-eqb _ _ (w .0 .left)))) ∙ l .inv .1)) (c .if1 .came),
+    )
 
-returns-2 : tie.Need-returns-2 Inv-loop μ-loop
-returns-2 c =
+returns : tie.Need-returns Inv-loop μ-loop
+returns c =
     let l = c .before .loop in
-    sym (sym (l .inv .1) ∙ all-of-end _ _ (l .i) (c .loop-test .left))
+    sym (and-true (l .good)) ∙ ap (λ (b : Bool). l .good && b) (sym (all-of-end _ _ (l .i) (c .loop-test .left))) ∙ l .inv .1
 
 pub row-held-spec : {M : Type 1} → statement M
-row-held-spec =
-    tie.close
-    (tie.spec
-    Inv-loop
-    μ-loop
-    loop-holds
-    add-if1
-    mul-if1
-    shared-slice-read-if1
-    returns
-    add-i
-    loop-less
-    loop-again
-    returns-2)
+row-held-spec = tie.close (tie.spec Inv-loop μ-loop loop-holds add-if1 mul-if1 shared-slice-read-if1 add-i loop-less loop-again returns)
