@@ -1,4 +1,5 @@
 -- What several proofs share.
+--   stage-answered                                  a number from 2 on stands for the stage of an answered set
 --   message-fits, message-clean, message-written    where a first message is taken: the buffer is no longer than figures and key, both are elements,
 --                                                   and the message fills it
 --   Answers, reply-answers, reply-taken, answers-held    what holds where a reply is taken, and that it is taken
@@ -7,7 +8,7 @@
 use mathlib.Core.Path.{_≡_, refl, ap}
 use mathlib.Core.Bool.{true, false, _&&_}
 use mathlib.Core.List.{List}
-use Prim.Native.Nat.{ℕ, zero, suc, _≤_}
+use Prim.Native.Nat.{ℕ, zero, suc, _-_, _≤_}
 use native.Mathlib.Omega.{arith}
 use lib.Dec.{eqb}
 use lib.ListN.{length}
@@ -22,7 +23,13 @@ use Rattle.plan.proofs.Laws.{masks-inside}
 use Rattle.client.specs.declared.Stage.{Stage}
 use Rattle.client.specs.declared.Client.{Client}
 use Rattle.client.specs.declared.Start.the-variants.{Refused}
-use Rattle.client.specs.Client.{answer-refusal, start-answer, moved, has-answered, gives, part-of}
+use Rattle.client.specs.Client.{stage-of-number, answer-refusal, start-answer, moved, has-answered, gives, part-of}
+
+pub stage-answered : (s : ℕ) → (s ≡ 0 → ⊥) → (s ≡ 1 → ⊥) → stage-of-number s ≡ scheme.answered (s - 2)
+unfolding stage-of-number
+stage-answered zero z o = absurd (z refl)
+stage-answered (suc zero) z o = absurd (o refl)
+stage-answered (suc (suc v)) z o = let e : v ≡ suc (suc v) - 2 = omega arith in ap scheme.answered e
 
 module _ (A : Arithmetic) (p : scheme.Plan) (k : ℕ) (g : scheme.Stage) (ks fs : List ℕ) (out : ℕ) (e : message-refusal A p k g ks fs out ≡ 0) where
   message-tests : (unless (eqb (length ks) (key-length p k) && (eqb (length fs) (places p) && eqb out (places p))) 2 ≡ 0) × (unless (elements A ks && elements A fs) 3 ≡ 0)

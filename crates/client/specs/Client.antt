@@ -1,5 +1,6 @@
 -- What the calls of an airfield end answer and leave, by the refusals of scheme/specs/Scheme.antt.
 --   stage-of                 document 01's stage of the enum
+--   stage-of-number, stage-number    the stage that a number stands for, where an end is kept as numbers; and the number of a stage
 --   started                  of Client::start: Refused by 1 or 4, or Started with a fresh client
 --   first-refusal, answer-refusal    0, or why a first message or a reply is refused
 --   moved                    number and client handed back: the next stage, or the client as it was
@@ -8,7 +9,7 @@
 -- Assumes nothing: these are definitions.
 use mathlib.Core.Bool.{Bool, false, _&&_, cond}
 use mathlib.Core.List.{List, []}
-use Prim.Native.Nat.{ℕ, zero, suc}
+use Prim.Native.Nat.{ℕ, zero, suc, _+_}
 use lib.Dec.{eqb}
 use lib.ListN.{length}
 use Rattle.scheme.specs.Scheme as scheme
@@ -26,6 +27,17 @@ unfoldable pub stage-of : Stage → scheme.Stage
 stage-of Fresh = scheme.fresh
 stage-of Sent = scheme.sent
 stage-of (Answered v) = scheme.answered v
+
+-- 0 is fresh, 1 is sent, 2 + v has answered the set v
+unfoldable pub stage-of-number : ℕ → scheme.Stage
+stage-of-number zero = scheme.fresh
+stage-of-number (suc zero) = scheme.sent
+stage-of-number (suc (suc v)) = scheme.answered v
+
+unfoldable pub stage-number : scheme.Stage → ℕ
+stage-number scheme.fresh = 0
+stage-number scheme.sent = 1
+stage-number (scheme.answered v) = v + 2
 
 unfoldable pub start-answer : (refusal : ℕ) → Plan → (user : ℕ) → Start
 start-answer zero p k = Started (record { plan = p; user = k; stage = Fresh })

@@ -2,14 +2,15 @@
 //   Stage, Client      the end
 //   Start              what start answers: Refused by 1 or 4, or Started with a fresh end
 //   Answer             what the other calls hand back: 0 or the refusal's number, and the end
-//   Client::start, first_message, reply, part
+//   stage_of_number    the stage that a number stands for, where an end is kept as numbers
+//   Client::start, first_message, reply_refusal, reply, part
 // A refused call hands back its number alone: the end and every lent buffer are as before.
 ghost use mathlib.Core.Path.{_≡_};
 ghost use mathlib.Core.Bool.{true};
 ghost use Prim.Native.Nat.{_+_, _*_, _≤_};
 ghost use lib.ListN.{length};
 ghost use Rattle.scheme.specs.Scheme.{each, sixteen, elements, is-fresh, open-to};
-ghost use Rattle.client.specs.Client.{stage-of, started, first-refusal, first-answer, message-left, answer-refusal, reply-answer, has-answered, part-of, part-start};
+ghost use Rattle.client.specs.Client.{stage-of, stage-of-number, started, first-refusal, first-answer, message-left, answer-refusal, reply-answer, has-answered, part-of, part-start};
 use plan::Plan;
 
 pub enum Stage {
@@ -32,6 +33,19 @@ pub enum Start {
 pub struct Answer {
     pub number: u32,
     pub client: Client,
+}
+
+// 0 is fresh, 1 is sent, 2 + v has answered the set v.
+pub fn stage_of_number(number: u32) -> Stage
+    ensures { λ r. ⌜ stage-of r ≡ stage-of-number number ⌝ }
+{
+    if number == 0 {
+        return Stage::Fresh;
+    }
+    if number == 1 {
+        return Stage::Sent;
+    }
+    Stage::Answered(number - 2)
 }
 
 fn is_fresh(stage: Stage) -> bool
@@ -161,8 +175,8 @@ impl Client {
         Answer { number: 0, client }
     }
 
-    // 18, 2, 3, 5, 6, 19, of a reply; 1 and 4 only of an end that start has not made.
-    fn reply_refusal(self, key: &[u16], set: u32) -> u32
+    // 18, 2, 3, 5, 6, 19, of a reply; 1 and 4 only of an end that start has not made. It hands out no share.
+    pub fn reply_refusal(self, key: &[u16], set: u32) -> u32
         ensures { λ r. ⌜ r ≡ answer-refusal self (now (key .entry)) set ⌝ }
     {
         let plan = self.plan;

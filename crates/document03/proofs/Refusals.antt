@@ -13,7 +13,8 @@ use borrow.Author.Tests.{le-ltb, lt-ltb, le-leb, lt-leb, eq-eqb, ne-eqb}
 use lib.Dec.{ltb, leb, eqb, eqb·suc-zero, eqb·suc-suc}
 use lib.ListN.{length}
 use Rattle.scheme.specs.Scheme.{sixteen, plan-good, is-user, _then_, unless, is-fresh, open-to, start-refusal, key-refusal, message-refusal, reply-refusal}
-use Rattle.document03.specs.Ours.{our-plan, stage-of-number}
+use Rattle.client.specs.Client.{stage-of-number}
+use Rattle.document03.specs.Ours.{our-plan}
 use Rattle.document03.specs.Scheme as D
 use Rattle.document03.specs.Entry as E
 use Rattle.document03.proofs.Sets.{plan-good-same, places-same, in-set-same, usable-same, list-long-same, key-long-same}

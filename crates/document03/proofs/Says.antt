@@ -11,7 +11,8 @@ use lib.ListN.{length}
 use Rattle.scheme.specs.Scheme.{sixteen, key, key-length, first-message, reply-start, sent, answered, key-refusal, message-refusal, reply-refusal, written}
 use Rattle.scheme.proofs.Tests.{both}
 use Rattle.scheme.proofs.Refusals.{then-zero, start-taken, unless-zero, written-taken, written-refused}
-use Rattle.document03.specs.Ours.{our-plan, plan-of-numbers, stage-of-number, left}
+use Rattle.client.specs.Client.{stage-of-number}
+use Rattle.document03.specs.Ours.{our-plan, plan-of-numbers, left}
 use Rattle.document03.specs.Scheme as D
 use Rattle.document03.specs.Entry as E
 use Rattle.document03.specs.declared.Part.{Part}

@@ -1,6 +1,5 @@
 -- Our words for document 03's.
 --   our-plan, plan-of-numbers      our plan of a plan of document 03, and of K, U, T and M
---   stage-of-number                our stage of an end's number: 0 fresh, 1 sent, else 2 and the set answered
 --   left                           what a call leaves: the new value, or after a refusal the old one
 --   our-phase                      our phase of a number: 0 no plan, 2 gathering, 3 replying, all others idle
 --   our-held, our-state            the elements held as a function; our state of the service
@@ -9,7 +8,7 @@
 use mathlib.Core.List.{List, [], _∷_}
 use mathlib.Core.Option.{Option}
 use Prim.Native.Nat.{ℕ, zero, suc}
-use Rattle.scheme.specs.Scheme.{Plan, Stage, fresh, sent, answered}
+use Rattle.scheme.specs.Scheme.{Plan}
 use Rattle.scheme.specs.Service.{Phase, unplanned, idle, gathering, replying, State, nothing, with-element, Record, plan-record, open-record, first-record, close-record, reply-record, finish-record, Answer, silent, planned, opened, closed, totalled, refused}
 use Rattle.document03.specs.Scheme as D
 use Rattle.document03.specs.Service as S
@@ -19,11 +18,6 @@ plan-of-numbers k u t m = record { users = k; threshold = u; collusion = t; bloc
 
 abbrev pub our-plan : D.Plan → Plan
 our-plan p = plan-of-numbers (p .k) (p .u) (p .t) (p .m)
-
-unfoldable pub stage-of-number : ℕ → Stage
-stage-of-number zero = fresh
-stage-of-number (suc zero) = sent
-stage-of-number (suc (suc v)) = answered v
 
 unfoldable pub left : {A : Type 0} → (refusal : ℕ) → (new old : A) → A
 left zero new old = new
