@@ -5,7 +5,7 @@
 --   same-part, one-set   test 19 at the stage that was handed back
 -- Assumes nothing.
 use mathlib.Core.Path.{_≡_, refl, sym, ap, _∙_}
-use mathlib.Core.Bool.{Bool, true, cond}
+use mathlib.Core.Bool.{true}
 use mathlib.Core.List.{List}
 use Prim.Native.Nat.{ℕ, zero, suc, _+_, _*_}
 use native.Mathlib.Omega.{arith}
@@ -16,18 +16,19 @@ use Rattle.scheme.proofs.Good.{good}
 use Rattle.scheme.proofs.Refusals.{then-zero, unless-zero}
 use Rattle.plan.specs.Counts.{holding}
 use Rattle.plan.proofs.Counts.{holding-same}
+use Rattle.plan.proofs.Lengths.{key-len-good}
 use Rattle.client.proofs.Laws.{reply-answers, reply-taken}
-use Rattle.capi.specs.Calls.{stage-of-number, stage-number, key-len, part-answer}
+use Rattle.capi.specs.Calls.{stage-of-number, stage-number, part-answer}
 use Rattle.capi.specs.Promise.{Same-length, Part-is-reply, Same-part, One-set, Stages-numbered}
 use Rattle.capi.proofs.Laws.{part-taken}
 
 pub same-length : Same-length
-unfolding Same-length is-user key-length key-len holding sets-with usable-with usable
+unfolding Same-length is-user key-length holding sets-with usable-with usable
 same-length p k g u =
     let f = good p g in
     let r = both _ _ u in
     let e = holding-same (p .users) (p .threshold) k (omega arith) (omega arith) (leb-true _ _ (r .0)) (leb-true _ _ (r .1)) in
-    ap (λ (n : ℕ). places p + n * p .blocks) e ∙ sym (ap (λ (b : Bool). cond b (key-length p 1) 0) g)
+    ap (λ (n : ℕ). places p + n * p .blocks) e ∙ sym (key-len-good p 1 (f, omega arith, omega (arith, f .users-low)))
 
 stage-back : (s : ℕ) → stage-number (stage-of-number s) ≡ s
 unfolding stage-of-number stage-number

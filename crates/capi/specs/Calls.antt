@@ -1,12 +1,10 @@
 -- What the exported calls hand back, where the plan and the stage come as numbers.
 --   plan-at                          the plan of four numbers
 --   stage-of-number, stage-number    0 is fresh, 1 is sent, 2 + v has answered the set v; and back
---   list-len, key-len                the lengths that a good plan fixes, else 0
 --   sent-answer, part-answer         number, stage and part: of a taken call, or of a refused one, which hands the stage back as it came
 -- Assumes nothing: these are definitions.
-use mathlib.Core.Bool.{cond}
 use Prim.Native.Nat.{ℕ, zero, suc, _+_}
-use Rattle.scheme.specs.Scheme.{Plan, Stage, fresh, sent, answered, plan-good, list-length, key-length, reply-start}
+use Rattle.scheme.specs.Scheme.{Plan, Stage, fresh, sent, answered, reply-start}
 use Rattle.capi.specs.declared.CutawhenoSent.{CutawhenoSent}
 use Rattle.capi.specs.declared.CutawhenoPart.{CutawhenoPart}
 
@@ -22,13 +20,6 @@ unfoldable pub stage-number : Stage → ℕ
 stage-number fresh = 0
 stage-number sent = 1
 stage-number (answered v) = v + 2
-
-unfoldable pub list-len : Plan → ℕ
-list-len p = cond (plan-good p) (list-length p) 0
-
--- of user 1: every user's key has this length (Same-length of Promise.antt)
-unfoldable pub key-len : Plan → ℕ
-key-len p = cond (plan-good p) (key-length p 1) 0
 
 unfoldable pub sent-answer : (refusal stage : ℕ) → CutawhenoSent
 sent-answer zero s = record { number = 0; stage = stage-number sent }

@@ -16,13 +16,14 @@ use Prim.Native.Nat.{ℕ}
 use lib.ListN.{take, drop, replicate}
 use Rattle.scheme.specs.Scheme.{Plan, Stage, sixteen, plan-good, is-user, key-length, reply, reply-refusal}
 use Rattle.plan.specs.declared.Plan as code
+use Rattle.plan.specs.Lengths.{key-len}
 use Rattle.service.specs.Calls.{new-service, plan-step, open-step, first-left, first-step, close-step, reply-left, reply-step}
 use Rattle.finish.specs.Finish.{finish-step}
-use Rattle.capi.specs.Calls.{stage-of-number, stage-number, key-len, part-answer}
+use Rattle.capi.specs.Calls.{stage-of-number, stage-number, part-answer}
 use Rattle.capi.specs.Lent.{Arrays, arrays, head-at, state, plan-left, open-left, close-left, finish-left}
 
 unfoldable pub Same-length : Type 0
-Same-length = (p : Plan) (k : ℕ) → plan-good p ≡ true → is-user p k ≡ true → key-length p k ≡ key-len p
+Same-length = (p : Plan) (k : ℕ) → plan-good p ≡ true → is-user p k ≡ true → key-length p k ≡ key-len p 1
 
 unfoldable pub Part-is-reply : Type 0
 Part-is-reply =

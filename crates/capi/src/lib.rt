@@ -12,7 +12,8 @@ ghost use Prim.Native.Nat.{_+_, _≤_};
 ghost use lib.ListN.{length};
 ghost use Rattle.scheme.specs.Scheme.{sixteen, key, first-message, key-refusal, message-refusal, reply-refusal, written};
 ghost use Rattle.client.specs.Client.{stage-of};
-ghost use Rattle.capi.specs.Calls.{plan-at, stage-of-number, list-len, key-len, sent-answer, part-answer};
+ghost use Rattle.plan.specs.Lengths.{list-len, key-len};
+ghost use Rattle.capi.specs.Calls.{plan-at, stage-of-number, sent-answer, part-answer};
 
 pub mod pooling;
 
@@ -45,16 +46,13 @@ pub extern "C" fn cutawheno_list_len(users: u32, threshold: u32, collusion: u32,
         collusion,
         blocks,
     };
-    if !plan::is_good(plan) {
-        return 0;
-    }
     plan::list_length(plan) as u32
 }
 
 // How long each key of a plan is: user 1's, since the keys of all users are of one length.
 #[no_mangle]
 pub extern "C" fn cutawheno_key_len(users: u32, threshold: u32, collusion: u32, blocks: u32) -> u32
-    ensures { λ r. ⌜ r ≡ key-len (plan-at users threshold collusion blocks) ⌝ }
+    ensures { λ r. ⌜ r ≡ key-len (plan-at users threshold collusion blocks) 1 ⌝ }
 {
     let plan = Plan {
         users,
@@ -62,9 +60,6 @@ pub extern "C" fn cutawheno_key_len(users: u32, threshold: u32, collusion: u32, 
         collusion,
         blocks,
     };
-    if !plan::is_good(plan) {
-        return 0;
-    }
     plan::key_length(plan, 1) as u32
 }
 

@@ -136,7 +136,7 @@ impl Client {
         if key.len() != plan::key_length(plan, user) {
             return 2;
         }
-        let places = plan::places_of(plan);
+        let places = plan::row_length(plan);
         if figures.len() != places {
             return 2;
         }

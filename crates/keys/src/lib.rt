@@ -30,7 +30,7 @@ use plan::has_enough;
 use plan::holds;
 use plan::key_length;
 use plan::list_length;
-use plan::places_of;
+use plan::row_length;
 use plan::start_refusal;
 
 // A plan has at most 16 blocks; with 8 users that makes 128 products.
@@ -51,7 +51,7 @@ pub fn make_key(plan: Plan, user: u32, random: &[u16], out: &mut [u16]) -> u32
     if number != 0 {
         return number;
     }
-    let row = places_of(plan);
+    let row = row_length(plan);
     copy_masks(plan, user, random, out, row);
     write_sets(plan, user, random, out, row);
     0

@@ -1,0 +1,17 @@
+-- How long the lists are that a caller lends: as a plan fixes it, and 0 where test 1 or 4 refuses.
+--   row-len    of a row of figures, and of a first message
+--   list-len   of the random list
+--   key-len    of a user's key
+-- Assumes nothing: these are definitions.
+use mathlib.Core.Bool.{_&&_, cond}
+use Prim.Native.Nat.{ℕ}
+use Rattle.scheme.specs.Scheme.{Plan, plan-good, is-user, places, list-length, key-length}
+
+unfoldable pub row-len : Plan → ℕ
+row-len p = cond (plan-good p) (places p) 0
+
+unfoldable pub list-len : Plan → ℕ
+list-len p = cond (plan-good p) (list-length p) 0
+
+unfoldable pub key-len : Plan → (k : ℕ) → ℕ
+key-len p k = cond (plan-good p && is-user p k) (key-length p k) 0
