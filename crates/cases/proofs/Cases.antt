@@ -18,10 +18,10 @@ use Rattle.client.specs.Client as Client
 use Rattle.service.specs.View as View
 use Rattle.service.specs.Calls as Calls
 use Rattle.finish.specs.Finish as Finish
-use Rattle.cases.specs.Cases.{key-from, key-of, message, part, tried, planned, opened, firsts, replies, pooled, told, told-5, told-7, Cases}
+use Rattle.cases.specs.Cases.{key-from, key-of, message, asked, tried, planned, opened, firsts, replies, pooled, told, told-5, told-7, Cases}
 
 pub cases : Cases
-unfolding key-from key-of message part tried planned opened firsts replies pooled told told-5 told-7
+unfolding key-from key-of message asked tried planned opened firsts replies pooled told told-5 told-7
     sub inverse inverse-from modular-laws laws16 point padded unknown-at shown
     Scheme.rank Scheme.elements Scheme.sum Scheme.plan-good Scheme.items Scheme.places Scheme.is-user Scheme.in-set Scheme.ones Scheme.usable Scheme.usable-with
     Scheme.users-in Scheme.usable-sets Scheme.sets-with Scheme.list-length Scheme.mask Scheme.noise-start Scheme.noise Scheme.column Scheme.row-value
@@ -31,7 +31,7 @@ unfolding key-from key-of message part tried planned opened firsts replies poole
     Delta.colluders-in Delta.kept Delta.given Delta.shift Delta.delta Delta.translation Delta.gap-of Delta.table-delta Delta.partner
     Service.has-plan Service.is-gathering Service.is-replying Service.is-held Service.element-of Service.set-of Service.complete-set Service.gathered
     Service.replied Service.explained-by Service.totals-by
-    Client.stage-of Client.moved Client.has-answered Client.gives Client.part-of
+    Client.stage-of Client.moved Client.part-of
     View.phase-of View.stored View.look View.view
     Calls.after Calls.nothing-first Calls.nothing-reply Calls.new-service Calls.plan-refusal Calls.planned Calls.plan-step Calls.open-refusal Calls.opened
     Calls.open-step Calls.first-refusal Calls.first-left Calls.first-step Calls.reply-refusal Calls.reply-left Calls.reply-step Calls.close-refusal

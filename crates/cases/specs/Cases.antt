@@ -1,6 +1,7 @@
 -- The starred examples of document 01 ("Example round"), about the definitions that the contracts name: one table, a row for each example.
 --   plan, random, partner-list, bad-list, figures   K, U, T, M = 3, 2, 1, 1; the random list, its partner, one that is refused; tables of figures
---   key-of, end-of, message, part, handed           a user's key; its airfield end; its first message and its reply; an answer of an end
+--   key-of, end-of, message                         a user's key; its airfield end; its first message
+--   handed, asked, part                             number and end handed back; what a reply to a set hands back, and its part alone
 --   tried                                           the numbers that the service and an airfield end have for a plan
 --   planned, opened, pooled, told                   a service with the plan; in a round; with the replies; what its finish tells
 --   Cases                                           THE TABLE
@@ -63,12 +64,16 @@ end-of k g = record { plan = plan; user = k; stage = g }
 unfoldable pub message : (k : ℕ) → (key figures : List ℕ) → List ℕ
 message k ks fs = message-left (end-of k Fresh) ks fs (1 ∷ [])
 
--- what an end that is asked for the set, and has sent, hands back
-unfoldable pub part : (set k : ℕ) → List ℕ
-part v k = part-of (reply-answer (end-of k Sent) (key-of k) v .client) (key-of k) v
-
 abbrev pub handed : (number : ℕ) → Client → Answer
 handed n c = record { number = n; client = c }
+
+-- what a reply to the set hands back: number and end, and the part
+unfoldable pub asked : (set : ℕ) → Client → Answer × List ℕ
+asked v c = (reply-answer c (key-of (c .user)) v, part-of c (key-of (c .user)) v)
+
+-- the part, of an end that has sent
+abbrev pub part : (set k : ℕ) → List ℕ
+part v k = asked v (end-of k Sent) .1
 
 -- ---- THE SERVICE
 unfoldable pub tried : Plan → List ℕ
@@ -145,7 +150,7 @@ pub record Cases : Type 0 where
   pub last-round : open-step planned 4294967295 .number ≡ 0
   pub none-after : (r : ℕ) → r ≤ 4294967295 → open-step (opened 4294967295) r .number ≡ 17
   -- sets asked of ends that have sent, and of one that has answered 5
-  pub set-1 : reply-answer (end-of 1 Sent) (key-of 1) 1 ≡ handed 5 (end-of 1 Sent)
-  pub set-5-of-2 : reply-answer (end-of 2 Sent) (key-of 2) 5 ≡ handed 6 (end-of 2 Sent)
-  pub set-5 : reply-answer (end-of 1 Sent) (key-of 1) 5 ≡ handed 0 (end-of 1 (Answered 5))
-  pub then-set-7 : reply-answer (end-of 1 (Answered 5)) (key-of 1) 7 ≡ handed 19 (end-of 1 (Answered 5))
+  pub set-1 : asked 1 (end-of 1 Sent) ≡ (handed 5 (end-of 1 Sent), [])
+  pub set-5-of-2 : asked 5 (end-of 2 Sent) ≡ (handed 6 (end-of 2 Sent), [])
+  pub set-5 : asked 5 (end-of 1 Sent) ≡ (handed 0 (end-of 1 (Answered 5)), 220 ∷ [])
+  pub then-set-7 : asked 7 (end-of 1 (Answered 5)) ≡ (handed 19 (end-of 1 (Answered 5)), [])

@@ -3,18 +3,20 @@
 --   message-fits, message-clean, message-written    where a first message is taken: the buffer is no longer than figures and key, both are elements,
 --                                                   and the message fills it
 --   Answers, reply-answers, reply-taken, answers-held    what holds where a reply is taken, and that it is taken
---   start-refused, moved-number, moved-taken, moved-refused, part-given    what start, first message, reply and part hand back
+--   begun-taken, begun-refused                           what start hands back
+--   moved-number, moved-taken, moved-refused, moved-apart    what first message and reply hand back
+--   part-given, part-refused                             the part of a taken reply, and of a refused one
 -- Assumes nothing.
-use mathlib.Core.Path.{_≡_, refl, ap}
+use mathlib.Core.Path.{_≡_, refl, sym, ap, _∙_}
 use mathlib.Core.Bool.{true, false, _&&_}
-use mathlib.Core.List.{List}
+use mathlib.Core.List.{List, []}
 use Prim.Native.Nat.{ℕ, zero, suc, _-_, _≤_}
 use native.Mathlib.Omega.{arith}
 use lib.Dec.{eqb}
 use lib.ListN.{length}
-use borrow.Author.Tests.{eqb-true, eq-eqb}
+use borrow.Author.Tests.{eqb-true, eq-eqb, ne-eqb}
 use Rattle.scheme.specs.Scheme as scheme
-use Rattle.scheme.specs.Scheme.{each, Arithmetic, elements, places, in-set, usable, usable-with, key-length, first-message, reply, is-fresh, open-to, start-refusal, message-refusal, reply-refusal, unless, _then_}
+use Rattle.scheme.specs.Scheme.{each, Arithmetic, elements, places, in-set, usable, usable-with, key-length, first-message, reply, reply-start, is-fresh, open-to, start-refusal, message-refusal, reply-refusal, unless, _then_}
 use Rattle.scheme.proofs.Tests.{both, joined}
 use Rattle.scheme.proofs.Refusals.{then-zero, unless-zero}
 use Rattle.plan.specs.declared.Plan.{Plan}
@@ -22,8 +24,9 @@ use Rattle.plan.specs.Plan.{plan-of}
 use Rattle.plan.proofs.Laws.{masks-inside}
 use Rattle.client.specs.declared.Stage.{Stage}
 use Rattle.client.specs.declared.Client.{Client}
-use Rattle.client.specs.declared.Start.the-variants.{Refused}
-use Rattle.client.specs.Client.{stage-of-number, answer-refusal, start-answer, moved, has-answered, gives, part-of}
+use Rattle.client.specs.declared.Stage.the-variants.{Fresh}
+use Rattle.client.specs.declared.Start.the-variants.{Refused, Started}
+use Rattle.client.specs.Client.{stage-of-number, begun-by, begun-with, answer-refusal, moved, part-of, part-start}
 
 pub stage-answered : (s : ℕ) → (s ≡ 0 → ⊥) → (s ≡ 1 → ⊥) → stage-of-number s ≡ scheme.answered (s - 2)
 unfolding stage-of-number
@@ -85,10 +88,14 @@ module _ {A : Arithmetic} {p : scheme.Plan} {k : ℕ} {ks : List ℕ} {v : ℕ} 
   answers-held a = joined (a .whole) (a .member)
 
 -- ---- what is handed back
-pub start-refused : {n : ℕ} → (n ≡ 0 → ⊥) → (p : Plan) (k : ℕ) → start-answer n p k ≡ Refused n
-unfolding start-answer
-start-refused {n = zero} h p k = absurd (h refl)
-start-refused {n = suc n} h p k = refl
+pub begun-taken : {n : ℕ} → n ≡ 0 → (p : Plan) (k : ℕ) → begun-by (Started (record { plan = p; user = k; stage = Fresh })) ≡ begun-with n p k
+unfolding begun-by begun-with
+begun-taken e p k = ap (λ (n : ℕ). begun-with n p k) (sym e)
+
+pub begun-refused : {n : ℕ} → (n ≡ 0 → ⊥) → (p : Plan) (k : ℕ) → begun-by (Refused n) ≡ begun-with n p k
+unfolding begun-by begun-with
+begun-refused {n = zero} h p k = absurd (h refl)
+begun-refused {n = suc n} h p k = refl
 
 pub moved-number : (n : ℕ) (c : Client) (g : Stage) → moved n c g .number ≡ n
 unfolding moved
@@ -104,7 +111,16 @@ unfolding moved
 moved-refused {n = zero} h c g = absurd (h refl)
 moved-refused {n = suc n} h c g = refl
 
--- the part of a client that has answered the set, where the reply is taken
-pub part-given : (c : Client) (ks : List ℕ) (v : ℕ) → has-answered v (c .stage) ≡ true → answer-refusal c ks v ≡ 0 → part-of c ks v ≡ reply (plan-of (c .plan)) ks (c .user) v
-unfolding part-of gives
-part-given c ks v h e = simp (h, eq-eqb _ _ e)
+-- number and client, each told by itself
+pub moved-apart : {n m : ℕ} (c : Client) {d : Client} (g : Stage) → n ≡ m → d ≡ moved n c g .client → record { number = n; client = d } ≡ moved m c g
+moved-apart {n = n} c g e f = (λ i. record { number = sym (moved-number n c g) i; client = f i }) ∙ ap (λ (n : ℕ). moved n c g) e
+
+module _ (c : Client) (ks : List ℕ) (v : ℕ) where
+  pub part-given : answer-refusal c ks v ≡ 0
+      → (part-of c ks v ≡ reply (plan-of (c .plan)) ks (c .user) v) × (part-start c ks v ≡ reply-start (plan-of (c .plan)) (c .user) v)
+  unfolding part-of part-start
+  part-given e = (simp (eq-eqb _ _ e), simp (eq-eqb _ _ e))
+
+  pub part-refused : (answer-refusal c ks v ≡ 0 → ⊥) → (part-of c ks v ≡ []) × (part-start c ks v ≡ 0)
+  unfolding part-of part-start
+  part-refused h = (simp (ne-eqb _ _ h), simp (ne-eqb _ _ h))

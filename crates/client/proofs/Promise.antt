@@ -4,36 +4,27 @@
 -- Assumes nothing.
 use mathlib.Core.Path.{_≡_, refl, sym, ap, _∙_}
 use mathlib.Core.Logic.{_≢_}
-use mathlib.Core.Bool.{Bool, true, false, _&&_, cond}
-use mathlib.Core.List.{List, []}
 use Prim.Native.Nat.{ℕ}
 use lib.ListN.{length}
-use borrow.Author.Tests.{eq-eqb, ne-eqb}
+use borrow.Author.Tests.{eq-eqb}
 use Rattle.scheme.specs.Scheme as scheme
-use Rattle.scheme.specs.Scheme.{is-fresh, open-to, reply}
+use Rattle.scheme.specs.Scheme.{is-fresh, open-to}
 use Rattle.scheme.proofs.Refusals.{written-refused}
-use Rattle.plan.specs.Plan.{plan-of}
 use Rattle.client.specs.declared.Stage.the-variants.{Sent, Answered}
 use Rattle.client.specs.declared.Client.{Client}
-use Rattle.client.specs.Client.{stage-of, has-answered, answer-refusal, first-refusal, gives, part-of}
+use Rattle.client.specs.Client.{stage-of, answer-refusal, first-refusal}
 use Rattle.client.specs.Promise.{Same-part, First-unchanged, Reply-unchanged, Refused-unchanged}
-use Rattle.client.proofs.Laws.{reply-answers, reply-taken, moved-number, moved-taken, moved-refused, part-given}
-
-part-refused : (c : Client) (ks : List ℕ) (v : ℕ) → answer-refusal c ks v ≢ 0 → part-of c ks v ≡ []
-unfolding part-of gives
-part-refused c ks v h = none (has-answered v (c .stage)) (ne-eqb _ _ h)
-  where
-    none : (b : Bool) {d : Bool} → d ≡ false → cond (b && d) (reply (plan-of (c .plan)) ks (c .user) v) [] ≡ []
-    none true e = rw e
-    none false e = refl
+use Rattle.client.proofs.Laws.{reply-answers, reply-taken, moved-number, moved-taken, moved-refused, part-given, part-refused}
 
 pub same-part : Same-part
-unfolding Same-part stage-of is-fresh open-to has-answered
+unfolding Same-part stage-of is-fresh open-to
 same-part c ks v n =
     let e = sym (moved-number _ _ _) ∙ n in
     let a = reply-taken (reply-answers _ e) (scheme.answered v) refl (eq-eqb v v refl) in
     let d : Client = record { plan = c .plan; user = c .user; stage = Answered v } in
-    rw (moved-taken e c (Answered v)) (moved-taken a d (Answered v), part-given d ks v (eq-eqb v v refl) a)
+    let once = part-given c ks v e in
+    let again = part-given d ks v a in
+    rw (moved-taken e c (Answered v)) (once .0, moved-taken a d (Answered v), again .0 ∙ sym (once .0), again .1 ∙ sym (once .1))
 
 first-unchanged : First-unchanged
 unfolding First-unchanged
@@ -45,7 +36,7 @@ reply-unchanged : Reply-unchanged
 unfolding Reply-unchanged
 reply-unchanged c ks v h =
     let r : answer-refusal c ks v ≢ 0 = λ e. h (moved-number _ _ _ ∙ e) in
-    (ap (λ a. a .client) (moved-refused r c (Answered v)), part-refused c ks v r)
+    (ap (λ a. a .client) (moved-refused r c (Answered v)), part-refused c ks v r .0)
 
 pub refused-unchanged : Refused-unchanged
 unfolding Refused-unchanged

@@ -5,6 +5,7 @@
 use mathlib.Core.Path.{_≡_, refl, sym, ap, ap₂, _∙_}
 use mathlib.Core.Bool.{true}
 use mathlib.Core.List.{List}
+use mathlib.Core.Option.{some}
 use Prim.Native.Nat.{ℕ, _≤_}
 use native.Mathlib.Omega.{arith}
 use lib.ListN.{length}
@@ -20,12 +21,10 @@ use Rattle.scheme.proofs.Modular.{sixteen-laws}
 use Rattle.scheme.proofs.Refusals.{written-taken}
 use Rattle.plan.specs.declared.Plan.{Plan}
 use Rattle.plan.specs.Plan.{plan-of}
-use Rattle.client.specs.declared.Stage.the-variants.{Fresh, Sent, Answered}
+use Rattle.client.specs.declared.Stage.the-variants.{Fresh, Sent}
 use Rattle.client.specs.declared.Client.{Client}
 use Rattle.client.specs.declared.Answer.{Answer}
-use Rattle.client.specs.declared.Start.{Start}
-use Rattle.client.specs.declared.Start.the-variants.{Started}
-use Rattle.client.specs.Client.{stage-of, started, start-answer, has-answered, reply-answer, part-of}
+use Rattle.client.specs.Client.{Begun, stage-of, begun-with, part-of}
 use Rattle.client.specs.Shown.{Given, client-calls, calls, Shown-is-sent}
 use Rattle.client.proofs.Laws.{Answers, reply-taken, moved-taken, part-given}
 
@@ -71,10 +70,10 @@ module _ (p : Plan) (xs : List ℕ) (v k : ℕ) (fs ko o : List ℕ) (r : Ready 
   sends : message-refusal sixteen (plan-of p) k scheme.fresh ks fs (length o) ≡ 0
   sends = message-taken sixteen (plan-of p) k ks fs (length o) begun long clean (r .figures) (r .room .1)
 
-  taken : calls p xs fs v k ko o ≡ client-calls (Started (record { plan = p; user = k; stage = Fresh })) ks fs v o
-  unfolding calls started start-answer
+  taken : calls p xs fs v k ko o ≡ client-calls (some (record { plan = p; user = k; stage = Fresh })) ks fs v o
+  unfolding calls begun-with
   taken =
-      ap₂ (λ (s : Start) (l : List ℕ). client-calls s l fs v o) (ap (λ (n : ℕ). start-answer n p k) begun) (written-taken makes ks ko)
+      ap₂ (λ (s : Begun) (l : List ℕ). client-calls (s .client) l fs v o) (ap (λ (n : ℕ). begun-with n p k) begun) (written-taken makes ks ko)
 
   key-is-given : calls p xs fs v k ko o .key-given ≡ ks
   unfolding client-calls
@@ -85,16 +84,13 @@ module _ (p : Plan) (xs : List ℕ) (v k : ℕ) (fs ko o : List ℕ) (r : Ready 
   message-is-sent = ap (λ (g : Given). g .message) taken ∙ written-taken sends _ o
 
   pub part-is-sent : usable (plan-of p) v ≡ true → in-set v k ≡ true → calls p xs fs v k ko o .part ≡ reply (plan-of p) ks k v
-  unfolding client-calls stage-of is-fresh open-to has-answered
+  unfolding client-calls stage-of is-fresh open-to
   part-is-sent u h =
       let a : Answers sixteen (plan-of p) k ks v = record { begun = begun; long = long; clean = clean; whole = u; member = h } in
-      let c0 : Client = record { plan = p; user = k; stage = Fresh } in
-      let c1 : Client = record { plan = p; user = k; stage = Sent } in
-      let c2 : Client = record { plan = p; user = k; stage = Answered v } in
-      let answers = reply-taken a scheme.sent refl refl in
-      ap (λ (g : Given). g .part) taken ∙ ap (λ (r : Answer). part-of (reply-answer (r .client) ks v .client) ks v) (moved-taken sends c0 Sent)
-      ∙ ap (λ (r : Answer). part-of (r .client) ks v) (moved-taken answers c1 (Answered v))
-      ∙ part-given c2 ks v (eq-eqb v v refl) (reply-taken a (scheme.answered v) refl (eq-eqb v v refl))
+      let fresh : Client = record { plan = p; user = k; stage = Fresh } in
+      let sent : Client = record { plan = p; user = k; stage = Sent } in
+      ap (λ (g : Given). g .part) taken ∙ ap (λ (r : Answer). part-of (r .client) ks v) (moved-taken sends fresh Sent)
+      ∙ part-given sent ks v (reply-taken a scheme.sent refl refl) .0
 
 pub shown-is-sent : Shown-is-sent
 unfolding Shown-is-sent shown admissible users-in

@@ -1,14 +1,16 @@
 -- What the calls of an airfield end answer and leave, by the refusals of scheme/specs/Scheme.antt.
 --   stage-of                 document 01's stage of the enum
 --   stage-of-number, stage-number    the stage that a number stands for, where an end is kept as numbers; and the number of a stage
---   started                  of Client::start: Refused by 1 or 4, or Started with a fresh client
+--   Begun, begun-by, begun   number and value of each case of Start: 0 and the end, or the refusal's number and none; of Client::start: a fresh end, or 1 or 4
 --   first-refusal, answer-refusal    0, or why a first message or a reply is refused
 --   moved                    number and client handed back: the next stage, or the client as it was
---   first-answer, message-left, reply-answer    what a first message hands back and leaves in its buffer; what a reply hands back
---   gives, part-of, part-start       the part of the key that goes with a reply, and where it starts
+--   first-answer, message-left       what a first message hands back, and leaves in its buffer
+--   answer-of, reply-answer  what a reply hands back beside the part
+--   part-of, part-start      the part that goes with a reply, and where in the key it starts
 -- Assumes nothing: these are definitions.
-use mathlib.Core.Bool.{Bool, false, _&&_, cond}
+use mathlib.Core.Bool.{cond}
 use mathlib.Core.List.{List, []}
+use mathlib.Core.Option.{Option, none, some}
 use Prim.Native.Nat.{ℕ, zero, suc, _+_}
 use lib.Dec.{eqb}
 use lib.ListN.{length}
@@ -22,6 +24,7 @@ use Rattle.client.specs.declared.Client.{Client}
 use Rattle.client.specs.declared.Start.{Start}
 use Rattle.client.specs.declared.Start.the-variants.{Refused, Started}
 use Rattle.client.specs.declared.Answer.{Answer}
+use Rattle.client.specs.declared.Replied.{Replied}
 
 unfoldable pub stage-of : Stage → scheme.Stage
 stage-of Fresh = scheme.fresh
@@ -39,12 +42,21 @@ stage-number scheme.fresh = 0
 stage-number scheme.sent = 1
 stage-number (scheme.answered v) = v + 2
 
-unfoldable pub start-answer : (refusal : ℕ) → Plan → (user : ℕ) → Start
-start-answer zero p k = Started (record { plan = p; user = k; stage = Fresh })
-start-answer (suc n) p k = Refused (suc n)
+-- what the enum Start says in document 01's words: a number, and the end if there is one
+pub record Begun : Type 0 where
+  pub number : ℕ
+  pub client : Option Client
 
-unfoldable pub started : Plan → (user : ℕ) → Start
-started p k = start-answer (start-refusal (plan-of p) k) p k
+unfoldable pub begun-by : Start → Begun
+begun-by (Refused n) = record { number = n; client = none }
+begun-by (Started c) = record { number = 0; client = some c }
+
+unfoldable pub begun-with : (refusal : ℕ) → Plan → (user : ℕ) → Begun
+begun-with zero p k = record { number = 0; client = some (record { plan = p; user = k; stage = Fresh }) }
+begun-with (suc n) p k = record { number = suc n; client = none }
+
+abbrev pub begun : Plan → (user : ℕ) → Begun
+begun p k = begun-with (start-refusal (plan-of p) k) p k
 
 abbrev pub first-refusal : Client → (key figures : List ℕ) → (out : ℕ) → ℕ
 first-refusal c ks fs out = message-refusal sixteen (plan-of (c .plan)) (c .user) (stage-of (c .stage)) ks fs out
@@ -62,21 +74,16 @@ first-answer c ks fs out = moved (first-refusal c ks fs out) c Sent
 abbrev pub message-left : Client → (key figures : List ℕ) → (buffer : List ℕ) → List ℕ
 message-left c ks fs o = written (first-refusal c ks fs (length o)) (first-message sixteen (plan-of (c .plan)) ks fs) o
 
+abbrev pub answer-of : Replied → Answer
+answer-of r = record { number = r .number; client = r .client }
+
 abbrev pub reply-answer : Client → (key : List ℕ) → (set : ℕ) → Answer
 reply-answer c ks v = moved (answer-refusal c ks v) c (Answered v)
 
--- the set that the client has answered is this one
-unfoldable pub has-answered : (set : ℕ) → Stage → Bool
-has-answered v Fresh = false
-has-answered v Sent = false
-has-answered v (Answered w) = eqb w v
-
--- no share leaves before the stage has moved: the part goes only to a client that has answered the set and passes every test of the reply
-unfoldable pub gives : Client → (key : List ℕ) → (set : ℕ) → Bool
-gives c ks v = has-answered v (c .stage) && eqb (answer-refusal c ks v) 0
-
+-- of the end before the call: "the part that goes with a refused reply is empty"
 unfoldable pub part-of : Client → (key : List ℕ) → (set : ℕ) → List ℕ
-part-of c ks v = cond (gives c ks v) (reply (plan-of (c .plan)) ks (c .user) v) []
+part-of c ks v = cond (eqb (answer-refusal c ks v) 0) (reply (plan-of (c .plan)) ks (c .user) v) []
 
+-- an empty part lies at the start of the key
 unfoldable pub part-start : Client → (key : List ℕ) → (set : ℕ) → ℕ
-part-start c ks v = cond (gives c ks v) (reply-start (plan-of (c .plan)) (c .user) v) 0
+part-start c ks v = cond (eqb (answer-refusal c ks v) 0) (reply-start (plan-of (c .plan)) (c .user) v) 0

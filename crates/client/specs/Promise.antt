@@ -10,14 +10,15 @@ use lib.ListN.{length}
 use Rattle.scheme.specs.Scheme.{reply}
 use Rattle.plan.specs.Plan.{plan-of}
 use Rattle.client.specs.declared.Client.{Client}
-use Rattle.client.specs.Client.{first-answer, message-left, reply-answer, part-of}
+use Rattle.client.specs.Client.{first-answer, message-left, reply-answer, part-of, part-start}
 
--- a client that a taken reply has handed back: asked again, it is handed back as it is, and its part is the set's shares each time
+-- a taken reply gives the set's shares; the client that it hands back, asked again, is handed back as it is, with the same part at the same place
 unfoldable pub Same-part : Type 0
 Same-part =
     (c : Client) (ks : List ℕ) (v : ℕ) → reply-answer c ks v .number ≡ 0 →
     let answered = reply-answer c ks v .client in
-    (reply-answer answered ks v ≡ record { number = 0; client = answered }) × (part-of answered ks v ≡ reply (plan-of (c .plan)) ks (c .user) v)
+    (part-of c ks v ≡ reply (plan-of (c .plan)) ks (c .user) v) × (reply-answer answered ks v ≡ record { number = 0; client = answered })
+    × (part-of answered ks v ≡ part-of c ks v) × (part-start answered ks v ≡ part-start c ks v)
 
 unfoldable pub First-unchanged : Type 0
 First-unchanged =

@@ -1,16 +1,18 @@
 // The airfield end of document 01: it is fresh, or has sent, or has answered one named set, and holds its plan and number.
 //   Stage, Client      the end
 //   Start              what start answers: Refused by 1 or 4, or Started with a fresh end
-//   Answer             what the other calls hand back: 0 or the refusal's number, and the end
+//   Answer             what a first message hands back: 0 or the refusal's number, and the end
+//   Replied            what a reply hands back: the same, and the part of the lent key, which is empty after a refusal
 //   stage_of_number    the stage that a number stands for, where an end is kept as numbers
-//   Client::start, first_message, reply_refusal, reply, part
+//   Client::start, first_message, reply_refusal, reply; Client::Q and the limits
 // A refused call hands back its number alone: the end and every lent buffer are as before.
 ghost use mathlib.Core.Path.{_≡_};
 ghost use mathlib.Core.Bool.{true};
 ghost use Prim.Native.Nat.{_+_, _*_, _≤_};
 ghost use lib.ListN.{length};
 ghost use Rattle.scheme.specs.Scheme.{each, sixteen, elements, is-fresh, open-to};
-ghost use Rattle.client.specs.Client.{stage-of, stage-of-number, started, first-refusal, first-answer, message-left, answer-refusal, reply-answer, has-answered, part-of, part-start};
+ghost use Rattle.client.specs.declared.Stage.the-variants.{Answered};
+ghost use Rattle.client.specs.Client.{stage-of, stage-of-number, begun-by, begun, first-refusal, moved, first-answer, message-left, answer-refusal, answer-of, reply-answer, part-of, part-start};
 use plan::Plan;
 
 pub enum Stage {
@@ -33,6 +35,12 @@ pub enum Start {
 pub struct Answer {
     pub number: u32,
     pub client: Client,
+}
+
+pub struct Replied<'a> {
+    pub number: u32,
+    pub client: Client,
+    pub part: &'a [u16],
 }
 
 // 0 is fresh, 1 is sent, 2 + v has answered the set v.
@@ -68,16 +76,6 @@ fn open_to(set: u32, stage: Stage) -> bool
     }
 }
 
-fn has_answered(set: u32, stage: Stage) -> bool
-    ensures { λ r. ⌜ r ≡ has-answered set stage ⌝ }
-{
-    match stage {
-        Stage::Fresh => false,
-        Stage::Sent => false,
-        Stage::Answered(other) => other == set,
-    }
-}
-
 // Figures plus masks, place by place: the first elements of a key are its masks.
 fn add_masks(figures: &[u16], key: &[u16], out: &mut [u16])
     requires { ⌜ (length (now out) ≤ length (now figures)) × (length (now out) ≤ length (now key)) ⌝ }
@@ -92,12 +90,16 @@ fn add_masks(figures: &[u16], key: &[u16], out: &mut [u16])
 }
 
 impl Client {
-    // The modulus and the limits of document 01.
+    // The modulus and the limits of document 01. U has none of its own: it lies above T and below K.
     pub const Q: u32 = element::Q;
 
     pub const LEAST_USERS: u32 = plan::LEAST_USERS;
 
     pub const MOST_USERS: u32 = plan::MOST_USERS;
+
+    pub const LEAST_COLLUSION: u32 = plan::LEAST_COLLUSION;
+
+    pub const LEAST_BLOCKS: u32 = plan::LEAST_BLOCKS;
 
     pub const MOST_BLOCKS: u32 = plan::MOST_BLOCKS;
 
@@ -105,7 +107,7 @@ impl Client {
 
     // A fresh end for a plan and a number: 1, 4.
     pub fn start(plan: Plan, user: u32) -> Start
-        ensures { λ r. ⌜ r ≡ started plan user ⌝ }
+        ensures { λ r. ⌜ begun-by r ≡ begun plan user ⌝ }
     {
         let number = plan::start_refusal(plan, user);
         if number != 0 {
@@ -207,43 +209,51 @@ impl Client {
         0
     }
 
-    // The reply to an announced set: the end has answered it, and `part` gives the shares.
-    pub fn reply(mut self, key: &[u16], set: u32) -> Answer
-        ensures { λ r. ⌜ r ≡ reply-answer self (now (key .entry)) set ⌝ }
-    {
-        let number = self.reply_refusal(key, set);
-        if number != 0 {
-            return Answer {
-                number,
-                client: self,
-            };
-        }
-        let plan = self.plan;
-        let user = self.user;
-        let client = Client {
-            plan,
-            user,
-            stage: Stage::Answered(set),
-        };
-        Answer { number: 0, client }
-    }
-
-    // "Handed back as the very part of the lent key where they lie": the M shares for the set that the end has answered, else nothing.
-    pub fn part(self, key: &[u16], set: u32) -> &[u16]
+    // The shares for a set where they lie in the key; with a refusal goes nothing.
+    fn part(self, number: u32, key: &[u16], set: u32) -> &[u16]
+        requires { ⌜ number ≡ answer-refusal self (now key) set ⌝ }
         ensures shares { λ r. ⌜ now r ≡ part-of self (now (key .entry)) set ⌝ }
         ensures place { λ r. ⌜ r .ptr ≡ (key .entry .ptr .0, key .entry .ptr .1 + part-start self (now (key .entry)) set * 2) ⌝ }
     {
+        if number != 0 {
+            return &key[0..0];
+        }
         let plan = self.plan;
         let user = self.user;
-        let stage = self.stage;
-        if !has_answered(set, stage) {
-            return &key[0..0];
-        }
-        if self.reply_refusal(key, set) != 0 {
-            return &key[0..0];
-        }
         let start = plan::reply_start(plan, user, set);
         let end = start + plan.blocks as usize;
         &key[start..end]
+    }
+
+    // The end behind a reply: it has answered the set, or is as it was after a refusal.
+    fn after_reply(self, number: u32, set: u32) -> Client
+        ensures { λ r. ⌜ r ≡ moved number self (Answered set) .client ⌝ }
+    {
+        if number != 0 {
+            return self;
+        }
+        let plan = self.plan;
+        let user = self.user;
+        Client {
+            plan,
+            user,
+            stage: Stage::Answered(set),
+        }
+    }
+
+    // "Reply to set V: the M shares for V, handed back as the very part of the lent key where they lie."
+    pub fn reply<'a>(mut self, key: &'a [u16], set: u32) -> Replied<'a>
+        ensures answer { λ r. ⌜ answer-of r ≡ reply-answer self (now (key .entry)) set ⌝ }
+        ensures shares { λ r. ⌜ now (r .part) ≡ part-of self (now (key .entry)) set ⌝ }
+        ensures place { λ r. ⌜ r .part .ptr ≡ (key .entry .ptr .0, key .entry .ptr .1 + part-start self (now (key .entry)) set * 2) ⌝ }
+    {
+        let number = self.reply_refusal(key, set);
+        let part = self.part(number, key, set);
+        self = self.after_reply(number, set);
+        Replied {
+            number,
+            client: self,
+            part,
+        }
     }
 }

@@ -1,4 +1,4 @@
--- Demand 2 from end to end: what key maker, start, first message, reply and part give, held by the service, finishes as the survivors' total.
+-- Demand 2 from end to end: what key maker, start, first message and reply give, held by the service, finishes as the survivors' total.
 --   Sent-in        the elements that the service holds are what the survivors' calls gave
 --   Round-right    the statement; late first messages, unfinished rows and partial replies may be held too
 -- Assumes nothing: these are definitions.
