@@ -210,12 +210,12 @@ impl Client {
     }
 
     // The shares for a set where they lie in the key; with a refusal goes nothing.
-    fn part(self, number: u32, key: &[u16], set: u32) -> &[u16]
-        requires { ⌜ number ≡ answer-refusal self (now key) set ⌝ }
+    fn part(self, refused: u32, key: &[u16], set: u32) -> &[u16]
+        requires { ⌜ refused ≡ answer-refusal self (now key) set ⌝ }
         ensures shares { λ r. ⌜ now r ≡ part-of self (now (key .entry)) set ⌝ }
         ensures place { λ r. ⌜ r .ptr ≡ (key .entry .ptr .0, key .entry .ptr .1 + part-start self (now (key .entry)) set * 2) ⌝ }
     {
-        if number != 0 {
+        if refused != 0 {
             return &key[0..0];
         }
         let plan = self.plan;
@@ -225,20 +225,20 @@ impl Client {
         &key[start..end]
     }
 
-    // The end behind a reply: it has answered the set, or is as it was after a refusal.
-    fn after_reply(self, number: u32, set: u32) -> Client
-        ensures { λ r. ⌜ r ≡ moved number self (Answered set) .client ⌝ }
+    // The end behind a reply: it has answered the set, or after a refusal is as it was.
+    fn after_reply(self, refused: u32, set: u32) -> Client
+        ensures { λ r. ⌜ r ≡ moved refused self (Answered set) .client ⌝ }
     {
-        if number != 0 {
-            return self;
+        if refused == 0 {
+            let plan = self.plan;
+            let user = self.user;
+            return Client {
+                plan,
+                user,
+                stage: Stage::Answered(set),
+            };
         }
-        let plan = self.plan;
-        let user = self.user;
-        Client {
-            plan,
-            user,
-            stage: Stage::Answered(set),
-        }
+        self
     }
 
     // "Reply to set V: the M shares for V, handed back as the very part of the lent key where they lie."

@@ -7,10 +7,10 @@ use Rattle.client.proofs.Client.after_reply.Statement.{statement}
 use Rattle.client.proofs.Client.after_reply.Tie as tie
 
 returns : tie.Need-returns
-returns c = ap (λ (a : Answer). a .client) (sym (moved-refused (c .if1 .taken) _ _))
+returns c = ap (λ (a : Answer). a .client) (sym (moved-taken (c .before .if1 .taken) _ _))
 
 returns-2 : tie.Need-returns-2
-returns-2 c = ap (λ (a : Answer). a .client) (sym (moved-taken (c .before .if1 .left) _ _))
+returns-2 c = ap (λ (a : Answer). a .client) (sym (moved-refused (c .if1 .left) _ _))
 
 pub after-reply-spec : {M : Type 1} → statement M
 after-reply-spec = tie.close (tie.spec returns returns-2)
