@@ -2,9 +2,8 @@
 --   same-part           the same set asked again gets the same part
 --   refused-unchanged   a refused call leaves client and buffer as they were, and no part
 -- Assumes nothing.
-use mathlib.Core.Path.{_≡_, refl, sym, ap, _∙_}
+use mathlib.Core.Path.{refl, sym, ap, _∙_}
 use mathlib.Core.Logic.{_≢_}
-use Prim.Native.Nat.{ℕ}
 use lib.ListN.{length}
 use borrow.Author.Tests.{eq-eqb}
 use Rattle.scheme.specs.Scheme as scheme

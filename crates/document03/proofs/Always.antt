@@ -1,7 +1,7 @@
 -- Every record has an answer in document 03, in every state whose plan, if there is one, is good, and leads to such a state.
 --   decided                       some choice explains at least U replies, or none does, whatever numbers they are
---   new-sound, steps-sound        a new state is sound, and so is every state that records lead to
---   Answered, always-answers      the answer
+--   stays-sound                   a new state is sound, and so is every state that records lead to
+--   always-answers                the answer
 -- Assumes nothing.
 use mathlib.Core.Path.{_≡_, refl, sym, ap, _∙_, subst}
 use mathlib.Core.Logic.{_⊎_, inl, inr, ⊎-elim}
@@ -25,11 +25,12 @@ use Rattle.scheme.proofs.Choices as Choices
 use Rattle.scheme.proofs.Modular.{sixteen-laws}
 use Rattle.document03.specs.Ours.{our-plan, our-held, our-state, our-record}
 use Rattle.document03.specs.Service as S
+use Rattle.document03.specs.Conform.{Sound, Stays-sound, Answered, Always-answers}
 use Rattle.document03.proofs.Sets.{plan-good-same}
 use Rattle.document03.proofs.State.{planned-same, refusal-same}
 use Rattle.document03.proofs.Explains.{explained-same}
 use Rattle.document03.proofs.Answers.{finish-same}
-use Rattle.document03.proofs.Steps.{Sound, finish-good}
+use Rattle.document03.proofs.Steps.{finish-good}
 
 abbrev Decided : Plan → (set : ℕ) → (replies : (k block : ℕ) → ℕ) → Type 0
 Decided p r y = Choice sixteen p r y ⊎ ((f : (block : ℕ) → List ℕ) → explains-all sixteen p r y f ≡ true → ⊥)
@@ -66,7 +67,7 @@ module _ (p : Plan) (L : Laws sixteen (p .users) (p .threshold)) (y : (k block :
               (one-choice sixteen p L r reduced f (c .choice) many (reduced-explained f h) (c .right) b i) (explained sixteen p r y f h b i))))
 
 -- ---- states stay sound
-pub new-sound : Sound S.new-state
+new-sound : Sound S.new-state
 unfolding S.new-state
 new-sound h = absurd (h refl)
 
@@ -83,19 +84,18 @@ changed-sound S.close-round s h e = λ z. h (has-plan-here s (test-held _ 10 _ (
 changed-sound (S.reply-element k b x) s h e = h
 changed-sound S.finish-round s h e = λ z. h (has-plan-here s (test-held _ 10 _ (sym (refusal-same S.finish-round s) ∙ e) .0))
 
-pub steps-sound : (r : S.Record) (s t : S.State) (l : S.Line) → Sound s → S.Steps r s l t → Sound t
+steps-sound : (r : S.Record) (s t : S.State) (l : S.Line) → Sound s → S.Steps r s l t → Sound t
 unfolding S.record-refusal S.changed
 steps-sound _ _ _ _ h (S.turned-away r s n e) = h
 steps-sound _ _ _ _ h (S.taken r s quick e) = changed-sound r s h e
 steps-sound _ _ _ _ h (S.summed s f e d) = changed-sound S.finish-round s h e
 steps-sound _ _ _ _ h (S.unexplained s e d) = h
 
--- ---- the answer
-pub record Answered (r : S.Record) (s : S.State) : Type 0 where
-  pub line : S.Line
-  pub state : S.State
-  pub step : S.Steps r s line state
+pub stays-sound : Stays-sound
+unfolding Stays-sound
+stays-sound = (new-sound, steps-sound)
 
+-- ---- the answer
 finished : (s : S.State) → Sound s → S.finish-refusal s ≡ 0 → Answered S.finish-round s
 unfolding explained-by
 finished s h e =
@@ -106,8 +106,8 @@ finished s h e =
     (λ none. record { line = S.refused 16; state = s; step = S.unexplained s e (λ f d. none f (sym (explained-same s g f) ∙ d)) })
     (decided p (sixteen-laws p (good-back p g)) (values (our-held (s .replies))) (replied (our-state s)) (finishing sixteen (our-state s) (finish-same s e) .many))
 
-pub always-answers : (r : S.Record) (s : S.State) → Sound s → Answered r s
-unfolding S.record-refusal S.quick
+pub always-answers : Always-answers
+unfolding Always-answers S.record-refusal S.quick
 always-answers r s h = go (S.record-refusal r s) refl
   where
     quick : (r : S.Record) → S.quick r ≡ true → S.record-refusal r s ≡ 0 → Answered r s

@@ -1,8 +1,7 @@
 -- Document 03's steps are ours, and ours are document 03's.
---   Sound                    if there is a plan, it is good
 --   line-same, changed-same  the answer to an accepted record, and the state that it leads to
 --   steps-same               a step of document 03 is a step of ours
---   Stepped, steps-ours      a step of ours, from a state that stands for one of document 03's, is a step there
+--   steps-ours               a step of ours, from a state that stands for one of document 03's, is a step there
 -- Assumes nothing.
 use mathlib.Core.Path.{_≡_, refl, sym, ap, ap₂, _∙_, subst}
 use mathlib.Core.Bool.{Bool, true, false, not}
@@ -17,15 +16,12 @@ use Rattle.scheme.proofs.Tests.{holds}
 use Rattle.scheme.proofs.Good.{good}
 use Rattle.scheme.proofs.Well.{finishing}
 use Rattle.document03.specs.Ours.{our-plan, our-phase, our-held, our-state, our-record, our-answer}
-use Rattle.document03.specs.Scheme as D
 use Rattle.document03.specs.Service as S
+use Rattle.document03.specs.Conform.{Sound, Steps-same, Stepped, Steps-ours}
 use Rattle.document03.proofs.Sets.{plan-good-same}
 use Rattle.document03.proofs.State.{gathered-same, replying-same, refusal-same}
 use Rattle.document03.proofs.Explains.{explained-same, totals-same}
 use Rattle.document03.proofs.Answers.{finish-same}
-
-abbrev pub Sound : S.State → Type 0
-Sound s = (s .phase ≡ 0 → ⊥) → D.plan-good (s .plan-of) ≡ true
 
 -- ---- accepted records
 pub line-same : (r : S.Record) (s : S.State) → our-answer (S.line-of r s) ≡ answer-of (our-record r) (our-state s)
@@ -76,8 +72,8 @@ unfolding S.record-refusal our-record
 finish-back s e = refusal-same S.finish-round s ∙ e
 
 -- ---- document 03's steps are ours
-pub steps-same : (r : S.Record) (s t : S.State) (l : S.Line) → Sound s → S.Steps r s l t → Steps sixteen (our-record r) (our-state s) (our-answer l) (our-state t)
-unfolding our-record our-answer our-phase our-held S.idle-again idle-state
+pub steps-same : Steps-same
+unfolding Steps-same our-record our-answer our-phase our-held S.idle-again idle-state
 steps-same _ _ _ _ h (S.turned-away r s n e) = refuses (our-record r) (our-state s) n (sym (refusal-same r s) ∙ e)
 steps-same _ _ _ _ h (S.taken r s quick e) =
     rw (line-same r s, changed-same r s) (accepts (our-record r) (our-state s) (not-true (sym (quick-same r) ∙ quick)) (sym (refusal-same r s) ∙ e))
@@ -87,13 +83,6 @@ steps-same _ _ _ _ h (S.summed s f e d) =
 steps-same _ _ _ _ h (S.unexplained s e d) = disagrees (our-state s) (finish-same s e) (λ f a. d f (explained s h e f ∙ a))
 
 -- ---- our steps are document 03's
-pub record Stepped (r : S.Record) (s : S.State) (a : Answer) (t : State) : Type 0 where
-  pub line : S.Line
-  pub state : S.State
-  pub step : S.Steps r s line state
-  pub says : our-answer line ≡ a
-  pub leads : our-state state ≡ t
-
 finish-only : (r : S.Record) → our-record r ≡ finish-record → r ≡ S.finish-round
 unfolding our-record
 finish-only (S.a-plan p) e = cc
@@ -103,8 +92,8 @@ finish-only S.close-round e = cc
 finish-only (S.reply-element k b x) e = cc
 finish-only S.finish-round e = refl
 
-pub steps-ours : (r : S.Record) (s : S.State) (a : Answer) (t : State) → Sound s → Steps sixteen (our-record r) (our-state s) a t → Stepped r s a t
-unfolding our-answer our-phase our-held S.idle-again idle-state
+pub steps-ours : Steps-ours
+unfolding Steps-ours our-answer our-phase our-held S.idle-again idle-state
 steps-ours r s a t h st = go (our-record r) (our-state s) a t refl refl st
   where
     go : (o : Record) (u : State) (a : Answer) (t : State) → our-record r ≡ o → our-state s ≡ u → Steps sixteen o u a t → Stepped r s a t

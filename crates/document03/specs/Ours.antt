@@ -1,6 +1,5 @@
 -- Our words for document 03's.
 --   our-plan, plan-of-numbers      our plan of a plan of document 03, and of K, U, T and M
---   left                           what a call leaves: the new value, or after a refusal the old one
 --   our-phase                      our phase of a number: 0 no plan, 2 gathering, 3 replying, all others idle
 --   our-held, our-state            the elements held as a function; our state of the service
 --   our-record, our-answer         our records, and our answers of document 03's lines
@@ -18,10 +17,6 @@ plan-of-numbers k u t m = record { users = k; threshold = u; collusion = t; bloc
 
 abbrev pub our-plan : D.Plan → Plan
 our-plan p = plan-of-numbers (p .k) (p .u) (p .t) (p .m)
-
-unfoldable pub left : {A : Type 0} → (refusal : ℕ) → (new old : A) → A
-left zero new old = new
-left (suc n) new old = old
 
 -- ---- the service
 unfoldable pub our-phase : ℕ → Phase

@@ -1,5 +1,10 @@
-// Document 03 beside our own definitions: its text in specs/, its statements from ours in proofs/. Nothing depends on this crate.
-// The two structs are those that its contracts name.
+// Document 03 beside our own definitions: its text in specs/, its statements from ours in proofs/, and its three functions with its
+// contracts, word for word, over our own calls. No crate depends on this one.
+//   Part, Sent                              what its contracts name
+//   make_key, first_message, reply_part     its functions: an end's plan, number and stage are arguments
+ghost use Rattle.document03.specs.Entry.{Key-says, First-says, Reply-says};
+use client::Client;
+use plan::Plan;
 
 pub struct Part {
     pub number: u32,
@@ -11,4 +16,96 @@ pub struct Part {
 pub struct Sent {
     pub number: u32,
     pub stage: u32,
+}
+
+pub fn make_key(
+    airfields: u32,
+    least: u32,
+    colluders: u32,
+    blocks: u32,
+    airfield: u32,
+    random: &[u16],
+    output: &mut [u16],
+) -> u32
+    ensures { λ r. ⌜ Key-says airfields least colluders blocks airfield (now (random .entry)) r (now (output .entry)) (now (output .exit)) ⌝ }
+{
+    let plan = Plan {
+        users: airfields,
+        threshold: least,
+        collusion: colluders,
+        blocks,
+    };
+    keys::make_key(plan, airfield, random, output)
+}
+
+pub fn first_message(
+    airfields: u32,
+    least: u32,
+    colluders: u32,
+    blocks: u32,
+    airfield: u32,
+    stage: u32,
+    key: &[u16],
+    figures: &[u16],
+    output: &mut [u16],
+) -> Sent
+    ensures { λ r. ⌜ First-says airfields least colluders blocks airfield stage (now (key .entry)) (now (figures .entry)) r (now (output .entry)) (now (output .exit)) ⌝ }
+{
+    let plan = Plan {
+        users: airfields,
+        threshold: least,
+        collusion: colluders,
+        blocks,
+    };
+    let client = Client {
+        plan,
+        user: airfield,
+        stage: client::stage_of_number(stage),
+    };
+    let answer = client.first_message(key, figures, output);
+    let number = answer.number;
+    if number != 0 {
+        return Sent { number, stage };
+    }
+    Sent { number, stage: 1 }
+}
+
+pub fn reply_part(
+    airfields: u32,
+    least: u32,
+    colluders: u32,
+    blocks: u32,
+    airfield: u32,
+    stage: u32,
+    key: &[u16],
+    set: u32,
+) -> Part
+    ensures { λ r. ⌜ Reply-says airfields least colluders blocks airfield stage (now (key .entry)) set r ⌝ }
+{
+    let plan = Plan {
+        users: airfields,
+        threshold: least,
+        collusion: colluders,
+        blocks,
+    };
+    let client = Client {
+        plan,
+        user: airfield,
+        stage: client::stage_of_number(stage),
+    };
+    let number = client.reply_refusal(key, set);
+    if number != 0 {
+        return Part {
+            number,
+            start: 0,
+            count: 0,
+            stage,
+        };
+    }
+    Part {
+        number,
+        start: plan::reply_start(plan, airfield, set) as u32,
+        count: blocks,
+        stage: 2 + set,
+    }
 }
