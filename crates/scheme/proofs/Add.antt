@@ -18,6 +18,7 @@ use Rattle.algebra.specs.Cauchy.{coefficient, value}
 use Rattle.algebra.proofs.Field.{mul-zero}
 use Rattle.algebra.proofs.Sums.{sum-same, sum-add, sum-zero}
 use Rattle.scheme.specs.Scheme.{span, rows, each, Arithmetic, Plan, items, places, usable, usable-with, users-in, sets-with, list-length, mask, noise, noise-start, column, row-value, share, shares, key, key-length}
+use Rattle.scheme.specs.Promise.{Key-add}
 use Rattle.scheme.specs.Laws.{Laws}
 use Rattle.scheme.proofs.Tests.{both}
 use Rattle.scheme.proofs.Lists.{map-same, map-span-length, map-span-at, members-in, rows-same, span-in}
@@ -105,9 +106,9 @@ module _ (A : Arithmetic) (p : Plan) (L : Laws A (p .users) (p .threshold)) (xs 
       let l : i < n = omega (arith, s .1) in
       sym (ap₂ (A .add) (map-span-at g n 0 i l ∙ ap g (zero-add i)) (map-span-at h n 0 i l ∙ ap h (zero-add i))))
 
-  pub key-add : (k : ℕ) → 1 ≤ k → k ≤ p .users → key A p plus k ≡ each (A .add) (key-length p k) (key A p xs k) (key A p ys k)
+  key-plus : (k : ℕ) → 1 ≤ k → k ≤ p .users → key A p plus k ≡ each (A .add) (key-length p k) (key A p xs k) (key A p ys k)
   unfolding key key-length sets-with usable-with shares
-  key-add k lo hi =
+  key-plus k lo hi =
       ap₂ _++_
       (map-same _ _ (span (places p) 0) (λ i m. mask-add k i lo hi (omega (arith, span-in (places p) 0 i m .1))) ∙ map-each (mask p xs k) (mask p ys k) (places p))
       (rows-same (shares A p plus k) (λ v. each (A .add) (p .blocks) (shares A p xs k v) (shares A p ys k v)) (sets-with p k) (λ v m.
@@ -118,3 +119,7 @@ module _ (A : Arithmetic) (p : Plan) (L : Laws A (p .users) (p .threshold)) (xs 
       ∙ sym (each-append (A .add) (length (sets-with p k) * p .blocks) (map (mask p xs k) (span (places p) 0)) (map (mask p ys k) (span (places p) 0)) (rows (shares A p xs k) (sets-with p k)) (rows (shares A p ys k) (sets-with p k))
       (map-span-length (mask p xs k) (places p) 0 ∙ sym (map-span-length (mask p ys k) (places p) 0)))
       ∙ ap (λ (n : ℕ). each (A .add) (n + length (sets-with p k) * p .blocks) (key A p xs k) (key A p ys k)) (map-span-length (mask p xs k) (places p) 0)
+
+pub key-add : (A : Arithmetic) (p : Plan) → Laws A (p .users) (p .threshold) → Key-add A p
+unfolding Key-add
+key-add = key-plus

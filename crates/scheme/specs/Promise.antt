@@ -5,6 +5,7 @@
 --   Alike                          tables that agree for each colluder and have the same survivors' total
 --   Matching                       one matching of all random lists, under which partners show the same
 --   Nothing-told                   demand 3 for one plan; Demand-3: for every plan, modulo 65521
+--   Key-add                        behind it: the key of a sum of two lists is the sum of their keys
 -- Assumes nothing: these are definitions.
 use mathlib.Core.Path.{_≡_}
 use mathlib.Core.Bool.{Bool, true, _&&_}
@@ -12,7 +13,7 @@ use mathlib.Core.List.{List, map}
 use Prim.Native.Nat.{ℕ, _^_, _≤_, _<_}
 use lib.Dec.{eqb}
 use lib.ListN.{length}
-use Rattle.scheme.specs.Scheme.{span, Arithmetic, sixteen, elements, Plan, plan-good, places, in-set, ones, usable, users-in, list-length, key, first-message, reply, total-at}
+use Rattle.scheme.specs.Scheme.{span, each, Arithmetic, sixteen, elements, Plan, plan-good, places, in-set, ones, usable, users-in, list-length, key, key-length, first-message, reply, total-at}
 
 -- a row of figures for each user
 abbrev pub Table : Type 0
@@ -58,3 +59,9 @@ Nothing-told A p =
 -- THE THIRD DEMAND
 unfoldable pub Demand-3 : Type 0
 Demand-3 = (p : Plan) → plan-good p ≡ true → Nothing-told sixteen p
+
+-- place by place, whatever numbers the lists hold
+unfoldable pub Key-add : Arithmetic → Plan → Type 0
+Key-add A p =
+    (xs ys : List ℕ) (k : ℕ) → 1 ≤ k → k ≤ p .users →
+    key A p (each (A .add) (list-length p) xs ys) k ≡ each (A .add) (key-length p k) (key A p xs k) (key A p ys k)
