@@ -1,7 +1,8 @@
 -- What the calls of an airfield end answer and leave, by the refusals of scheme/specs/Scheme.antt.
 --   stage-of                 document 01's stage of the enum
 --   stage-of-number, stage-number    the stage that a number stands for, where an end is kept as numbers; and the number of a stage
---   Begun, begun-by, begun   number and value of each case of Start: 0 and the end, or the refusal's number and none; of Client::start: a fresh end, or 1 or 4
+--   Begun, begun-by          document 01's number and value of each case of Start: 0 and the end, or the refusal's number and none
+--   begun-with, begun        what Client::start answers: 0 and a fresh end, or 1 or 4 alone
 --   first-refusal, answer-refusal    0, or why a first message or a reply is refused
 --   moved                    number and client handed back: the next stage, or the client as it was
 --   first-answer, message-left       what a first message hands back, and leaves in its buffer
