@@ -5,7 +5,7 @@
 //   inverse_of, coefficient   the inverses of the numbers below 16
 //   excess, all_elements      test 3 of document 01
 ghost use mathlib.Core.Path.{_≡_};
-ghost use Prim.Native.Nat.{_+_, _-_, _*_, _%_, _≤_, _<_};
+ghost use Prim.Native.Nat.{_+_, _-_, _*_, _/_, _%_, _≤_, _<_};
 ghost use Rattle.algebra.specs.Residue.{inverse};
 ghost use Rattle.scheme.specs.Scheme.{q, sixteen, elements};
 
@@ -43,7 +43,7 @@ pub fn reduce(n: u32) -> u16
 
 // A product not reduced, but below 2 ^ 20, so that many are added in 32 bits.
 pub fn folded(a: u16, b: u16) -> u32
-    ensures { λ r. ⌜ (r % q ≡ a * b % q) × (r ≤ 1048560) ⌝ }
+    ensures { λ r. ⌜ (r % q ≡ a * b % q) × (r ≤ 1048560) × (r ≡ a * b % 65536 + a * b / 65536 * 15) ⌝ }
 {
     let n = a as u32 * b as u32;
     n % 65536 + n / 65536 * 15
@@ -51,7 +51,7 @@ pub fn folded(a: u16, b: u16) -> u32
 
 // The inverses of 1 to 15 modulo Q, and at 0, which has none, the 1 that the definition gives. The compiler makes a table of the arms;
 // one written as an array would be built anew at each call.
-pub fn inverse_of(n: u32) -> u16
+fn inverse_of(n: u32) -> u16
     requires { ⌜ n < 16 ⌝ }
     ensures { λ r. ⌜ r ≡ inverse q n ⌝ }
 {

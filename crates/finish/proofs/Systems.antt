@@ -18,8 +18,9 @@ use Rattle.scheme.proofs.Keys.{whole-list, elements-at, elements-map}
 use Rattle.scheme.proofs.Tests.{is-false, holds}
 use Rattle.scheme.proofs.Totals.{all-of-in, at-all-of, in-at}
 use Rattle.plan.specs.Plan.{plan-of}
-use Rattle.solve.specs.Solve.{Points, Ready, unknown-at, solution-of, dot-of, fits-of, cell, block, Solved, row-fits}
+use Rattle.solve.specs.Solve.{Points, Ready, unknown-at, solution-of, dot-of, fits-of, cell, block, unknowns-of, row-fits}
 use Rattle.solve.proofs.Filled.{padded-at, filled-at}
+use Rattle.solve.proofs.Grids.{unknowns-at}
 use Rattle.solve.proofs.Solution.{block-at, dot-same, unknown-same}
 use Rattle.finish.specs.Finish.{rows-of, values-of, columns, choice-of}
 use Rattle.finish.specs.Parts.{held-in, Prepared, Gathered}
@@ -65,7 +66,7 @@ module _ (s : System) (h : Prepared (s .plan) (s .users .set) s) where
 
   -- the replies as a grid, and its unknowns
   module _ (ys cs g ws : List ℕ) (c : cs ≡ columns) (v : Gathered ys (s .users .list) (s .users .count) (s .plan .blocks) g)
-      (x : Solved (s .users .list) cs g (s .plan .threshold) ws) where
+      (x : ws ≡ unknowns-of (s .users .list) cs g (s .plan .threshold)) where
     abbrev y : (k block : ℕ) → ℕ
     y = held-in 16 ys
 
@@ -83,7 +84,7 @@ module _ (s : System) (h : Prepared (s .plan) (s .users .set) s) where
 
     unknown-cell : (i b : ℕ) → i < n → b < s .plan .blocks → cell ws i b ≡ unknown-at (rows-of p r) columns (values-of p r y b) n i
     unknown-cell i b l k =
-        x .each i b l (omega (arith, h .good .blocks-high))
+        ap (λ (u : List ℕ). cell u i b) x ∙ unknowns-at _ cs g n i b l (omega (arith, h .good .blocks-high))
         ∙ ap₂ (λ (rs cs : List ℕ). unknown-at rs cs (block g b) n i) (h .listed .list-right) c
         ∙ unknown-same _ _ _ _ n i (λ a m.
         let few : a < length (users-in p r) = omega (arith, enough-rows p r (h .good) (h .enough)) in

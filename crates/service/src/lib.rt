@@ -259,13 +259,13 @@ pub fn complete_set(held: &[u16], stride: usize, p: Plan, each: usize) -> u32
 }
 
 // No first element is held, and no reply.
-pub fn nothing_first() -> [u16; FIRSTS]
+fn nothing_first() -> [u16; FIRSTS]
     ensures { λ r. ⌜ r ≡ nothing-first ⌝ }
 {
     [0; FIRSTS]
 }
 
-pub fn nothing_reply() -> [u16; REPLIES]
+fn nothing_reply() -> [u16; REPLIES]
     ensures { λ r. ⌜ r ≡ nothing-reply ⌝ }
 {
     [0; REPLIES]

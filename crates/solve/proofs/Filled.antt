@@ -1,20 +1,18 @@
 -- Lists of a fixed length: a list and 0 behind it, and eight entries, the first n by a rule.
---   padded-at, padded-take, padded-next                  an entry; the list again; one entry more
+--   padded-at, padded-take, padded-length, padded-next   an entry; the list again; its length; one entry more
 --   span-more                                            one entry more of a rule
 --   Filling, filling-start, filling-more, filling-end    a loop that writes eight entries in order
---   filled-at, filled-behind, filled-small               the entry at a position; 0 behind n; entries below q
---   zeros-at                                             a list of zeros
+--   filled-at, filled-behind                             the entry at a position; 0 behind n
+--   zeros-at, padded-behind                              a list of zeros; behind the list
 -- Assumes nothing.
 use mathlib.Core.Path.{_≡_, refl, sym, ap, ap₂, _∙_}
 use mathlib.Core.List.{List, [], _∷_, _++_, map, map-append, append-assoc}
 use Prim.Native.Nat.{ℕ, zero, suc, _+_, _-_, _≤_, _<_}
 use native.Mathlib.Nat.{zero-add}
-use native.Mathlib.Decide.{decLt}
 use native.Mathlib.Omega.{arith}
-use lib.Dec.{lit<}
-use lib.ListN.{length, getD, take, set, replicate, length-append, List·getD-append}
+use lib.ListN.{length, getD, take, set, replicate, length-append, length-replicate, List·getD-append}
 use lib.Seq.{getD-append-add, set-append-seam, take-append-seam}
-use Rattle.scheme.specs.Scheme.{span, q}
+use Rattle.scheme.specs.Scheme.{span}
 use Rattle.scheme.proofs.Lists.{span-append, map-span-length, map-span-at}
 use Rattle.solve.specs.Solve.{padded, filled}
 
@@ -26,6 +24,10 @@ module _ (n : ℕ) (l : List ℕ) where
   pub padded-take : take (length l) (padded n l) ≡ l
   unfolding padded
   padded-take = take-append-seam l _
+
+  pub padded-length : length l ≤ n → length (padded n l) ≡ n
+  unfolding padded
+  padded-length h = omega (arith, length-append l (replicate (n - length l) 0), length-replicate {A = ℕ} (n - length l) 0)
 
   pub padded-next : (x i : ℕ) → length l ≡ i → i < n → set (padded n l) i x ≡ padded n (l ++ (x ∷ []))
   unfolding padded
@@ -68,20 +70,13 @@ zeros-at zero i = refl
 zeros-at (suc m) zero = refl
 zeros-at (suc m) (suc i) = zeros-at m i
 
-behind : (n : ℕ) (l : List ℕ) (i : ℕ) → length l ≤ i → getD (padded n l) i 0 ≡ 0
+pub padded-behind : (n : ℕ) (l : List ℕ) (i : ℕ) → length l ≤ i → getD (padded n l) i 0 ≡ 0
 unfolding padded
-behind n l i h =
+padded-behind n l i h =
     let e : i ≡ length l + (i - length l) = omega arith in
     ap (λ (k : ℕ). getD (l ++ replicate (n - length l) 0) k 0) e ∙ getD-append-add l (replicate (n - length l) 0) (i - length l) 0
     ∙ zeros-at (n - length l) (i - length l)
 
 pub filled-behind : (f : ℕ → ℕ) (n i : ℕ) → n ≤ i → getD (filled n f) i 0 ≡ 0
 unfolding filled
-filled-behind f n i l = behind 8 (map f (span n 0)) i (omega (arith, map-span-length f n 0))
-
-pub filled-small : (f : ℕ → ℕ) (n i : ℕ) → ((k : ℕ) → f k < q) → getD (filled n f) i 0 < q
-filled-small f n i h = go (decLt i n)
-  where
-    go : Dec (i < n) → getD (filled n f) i 0 < q
-    go (yes l) = rw (filled-at f n i l) (h i)
-    go (no l) = rw (filled-behind f n i (omega arith)) (lit< tt)
+filled-behind f n i l = padded-behind 8 (map f (span n 0)) i (omega (arith, map-span-length f n 0))

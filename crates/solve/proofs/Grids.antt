@@ -1,18 +1,21 @@
 -- Grids that are written in order.
 --   Putting, putting-start, putting-more, putting-end    a loop that writes numbers from a place on
---   Rows, rows-start, rows-more                          a loop that writes row after row
+--   Rows, rows-start, rows-more, rows-end                a loop that writes row after row
+--   unknowns-at                                          an unknown of a block, in the grid of all
 -- Assumes nothing.
-use mathlib.Core.Path.{_≡_, refl, _∙_}
+use mathlib.Core.Path.{_≡_, refl, sym, ap, _∙_}
 use mathlib.Core.Logic.{⊎-elim}
-use mathlib.Core.List.{List}
-use Prim.Native.Nat.{ℕ, _+_, _*_, _-_, _≤_, _<_}
-use native.Mathlib.Nat.{eq-or-lt-of-le}
+use mathlib.Core.List.{List, map}
+use Prim.Native.Nat.{ℕ, _+_, _*_, _-_, _/_, _%_, _≤_, _<_}
+use native.Mathlib.Nat.{zero-add, eq-or-lt-of-le}
 use native.Mathlib.Decide.{decLt}
 use native.Mathlib.Omega.{arith}
 use lib.ListN.{length, getD, set, replicate, length-set, length-replicate}
-use lib.Seq.{getD-set-same, getD-set-other}
-use Rattle.solve.specs.Solve.{cell, Put}
-use Rattle.solve.proofs.Filled.{zeros-at}
+use lib.Seq.{getD-set-same, getD-set-other, ext-getD}
+use Rattle.scheme.specs.Scheme.{span}
+use Rattle.scheme.proofs.Lists.{map-span-length, map-span-at}
+use Rattle.solve.specs.Solve.{unknown-at, cell, grid, block, Put, unknowns-of}
+use Rattle.solve.proofs.Filled.{padded-at, padded-length, padded-behind, zeros-at}
 
 -- ---- b of n numbers are written from `at` on
 pub record Putting (f : ℕ → ℕ) (n at : ℕ) (old : List ℕ) (b : ℕ) (new : List ℕ) : Type 0 where
@@ -61,11 +64,12 @@ pub record Rows (f : (a b : ℕ) → ℕ) (m i at : ℕ) (g : List ℕ) : Type 0
   pub place : at ≡ i * 16
   pub long : length g ≡ 128
   pub each : (a b : ℕ) → a < i → b < m → cell g a b ≡ f a b
+  pub behind : (k : ℕ) → i * 16 ≤ k → getD g k 0 ≡ 0
   pub small : (s : ℕ) → 0 < s → ((a b : ℕ) → a < i → b < m → f a b < s) → (k : ℕ) → getD g k 0 < s
 
 module _ (f : (a b : ℕ) → ℕ) (m : ℕ) where
   pub rows-start : Rows f m 0 0 (replicate 128 0)
-  rows-start = record { place = refl; long = length-replicate {A = ℕ} 128 0; each = λ a b h. absurd (none a h); small = λ s h l k. rw (zeros-at 128 k) h }
+  rows-start = record { place = refl; long = length-replicate {A = ℕ} 128 0; each = λ a b h. absurd (none a h); behind = λ k h. zeros-at 128 k; small = λ s h l k. rw (zeros-at 128 k) h }
     where
       none : (a : ℕ) → a < 0 → ⊥
       none a h = omega arith
@@ -76,6 +80,7 @@ module _ (f : (a b : ℕ) → ℕ) (m : ℕ) where
     place = omega (arith, r .place);
     long = p .long ∙ r .long;
     each = λ a b l k. ⊎-elim (λ (d : a ≡ i). here a b d k) (λ (d : a < i). p .kept (a * 16 + b) (omega (arith, r .place)) ∙ r .each a b d k) (eq-or-lt-of-le (omega arith));
+    behind = λ k l. p .rest k (omega (arith, r .place)) ∙ r .behind k (omega arith);
     small = λ s z low. put-small p s (λ b k. rw (same b k) (low i b (omega arith) k)) (r .small s z (λ a b l. low a b (omega arith)));
   }
     where
@@ -83,3 +88,36 @@ module _ (f : (a b : ℕ) → ℕ) (m : ℕ) where
       here a b d k =
           let e : a * 16 + b ≡ at + b = omega (arith, r .place) in
           rw (e, d) (p .each b k ∙ same b k)
+
+-- ---- a grid by its rule
+module _ (f : (a b : ℕ) → ℕ) (n : ℕ) where
+  abbrev entry : ℕ → ℕ
+  entry k = f (k / 16) (k % 16)
+
+  entry-at : (k : ℕ) → k < n * 16 → getD (grid n f) k 0 ≡ entry k
+  unfolding grid
+  entry-at k h = padded-at 128 _ k (omega (arith, map-span-length entry (n * 16) 0)) ∙ map-span-at entry (n * 16) 0 k h ∙ ap entry (zero-add k)
+
+  grid-at : (a b : ℕ) → a < n → b < 16 → cell (grid n f) a b ≡ f a b
+  grid-at a b h l =
+      let d : (a * 16 + b) / 16 ≡ a = omega arith in
+      let m : (a * 16 + b) % 16 ≡ b = omega arith in
+      entry-at (a * 16 + b) (omega arith) ∙ rw (d, m)
+
+  pub rows-end : (at : ℕ) (g : List ℕ) → n ≤ 8 → Rows f 16 n at g → g ≡ grid n f
+  unfolding grid
+  rows-end at g few r = ext-getD 0 g (grid n f) (r .long ∙ sym (padded-length 128 (map entry (span (n * 16) 0)) (omega (arith, all)))) (λ k h. go k (decLt k (n * 16)))
+    where
+      all : length (map entry (span (n * 16) 0)) ≡ n * 16
+      all = map-span-length entry (n * 16) 0
+
+      go : (k : ℕ) → Dec (k < n * 16) → getD g k 0 ≡ getD (grid n f) k 0
+      go k (yes h) =
+          let e : k / 16 * 16 + k % 16 ≡ k = omega arith in
+          let s = r .each (k / 16) (k % 16) (omega arith) (omega arith) in
+          (rw e at s) ∙ sym (entry-at k h)
+      go k (no h) = r .behind k (omega arith) ∙ sym (padded-behind 128 (map entry (span (n * 16) 0)) k (omega (arith, all)))
+
+pub unknowns-at : (rs cs vs : List ℕ) (n i b : ℕ) → i < n → b < 16 → cell (unknowns-of rs cs vs n) i b ≡ unknown-at rs cs (block vs b) n i
+unfolding unknowns-of
+unknowns-at rs cs vs n i b h l = grid-at (λ a b. unknown-at rs cs (block vs b) n a) n i b h l

@@ -1,4 +1,4 @@
--- The laws of the solver, in reading order, and in Right what a caller cites.
+-- The laws of the solver, in reading order; a caller cites Explains.
 pub mod Numbers
 pub mod Filled
 pub mod Grids

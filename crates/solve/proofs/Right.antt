@@ -1,8 +1,6 @@
--- What a caller cites of the solver.
---   system              good points are a Cauchy system
---   solution-small      every unknown is an element
---   solve-mod, solve-right    the value of each row that was solved for is the value given, modulo 65521; where that is an element, itself
---   dot-row, solve-row  where the columns are 1 to n: the same in the words of the scheme
+-- The unknowns solve the system.
+--   solve-right   the value of each row that was solved for is the value given, where that is an element
+--   dot-row       the value of a row in the words of the scheme, where the columns are 1 to n
 -- Assumes nothing.
 use mathlib.Core.Path.{_≡_, refl, sym, ap, ap₂, _∙_}
 use mathlib.Core.Logic.{_≢_}
@@ -23,7 +21,7 @@ use Rattle.scheme.proofs.Lists.{in-span, span-once}
 use Rattle.scheme.proofs.Sums.{sum-same, el-same}
 use Rattle.solve.specs.Solve.{laws16, point, Points, Square, unknown-at, solution-of, dot-of}
 use Rattle.solve.proofs.Numbers.{el-plus, el-rest}
-use Rattle.solve.proofs.Filled.{filled-at, filled-small}
+use Rattle.solve.proofs.Filled.{filled-at}
 use Rattle.solve.proofs.Solution.{near, below, dot-small, dot-el}
 open Laws laws16 using (K, el, val)
 open Field K using (𝟘, add as _⊕_, mul as _⊗_, inv)
@@ -38,7 +36,8 @@ apart most n xs h p i k a b ne e =
     (el-same sixteen 8 7 laws16 (omega (arith, p .inside i (below n i a))) (omega (arith, p .inside k (below n k b))) e)
 
 module _ (rs cs : List ℕ) (n : ℕ) (square : Square rs cs n) where
-  pub system : System K (point rs) (point cs) (span n 0) (span n 0)
+  -- good points are a Cauchy system
+  system : System K (point rs) (point cs) (span n 0) (span n 0)
   unfolding point
   system = record {
     square = refl;
@@ -55,16 +54,12 @@ module _ (rs cs : List ℕ) (n : ℕ) (square : Square rs cs n) where
   }
 
 module _ (rs cs vs : List ℕ) (n : ℕ) where
-  pub solution-small : (i : ℕ) → getD (solution-of rs cs vs n) i 0 < q
-  unfolding solution-of unknown-at
-  solution-small i = filled-small (unknown-at rs cs vs n) n i (λ k. laws16 .val-small _)
-
   solution-el : (i : ℕ) → i < n → point (solution-of rs cs vs n) i ≡ solution K (point rs) (point cs) (span n 0) (span n 0) (point vs) i
   unfolding solution-of unknown-at point
   solution-el i h = ap el (filled-at (unknown-at rs cs vs n) n i h) ∙ laws16 .el-val _
 
-  -- THE SOLVER IS RIGHT
-  pub solve-mod : Square rs cs n → (a : ℕ) → a < n → dot-of (getD rs a 0) cs (solution-of rs cs vs n) n ≡ getD vs a 0 % q
+  -- the same modulo 65521, of any values
+  solve-mod : Square rs cs n → (a : ℕ) → a < n → dot-of (getD rs a 0) cs (solution-of rs cs vs n) n ≡ getD vs a 0 % q
   unfolding point
   solve-mod square a h =
       el-same sixteen 8 7 laws16 (dot-small (getD rs a 0) cs (solution-of rs cs vs n) n) (mod-lt _ (lit< tt))
@@ -90,8 +85,3 @@ dot-row x cs vs n columns =
     let f : i ≡ suc i - 1 = omega arith in
     ap₂ (λ (c k : ℕ). sixteen .multiply (sixteen .coefficient x c) (getD vs k 0)) e f)
     ∙ sym (shift sixteen n 0 (λ j. sixteen .multiply (sixteen .coefficient x j) (getD vs (j - 1) 0)))
-
-pub solve-row : (rs cs vs : List ℕ) (n : ℕ) → Square rs cs n → ((i : ℕ) → i < n → getD cs i 0 ≡ i + 1)
-    → (a : ℕ) → a < n → getD vs a 0 < q → row-value sixteen n (getD rs a 0) (λ j. getD (solution-of rs cs vs n) (j - 1) 0) ≡ getD vs a 0
-solve-row rs cs vs n square columns a h small =
-    sym (dot-row (getD rs a 0) cs (solution-of rs cs vs n) n columns) ∙ solve-right rs cs vs n square a h small

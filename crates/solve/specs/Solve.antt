@@ -8,17 +8,17 @@
 --   Ready                      a system with its weights
 --   unknown-at, solution-of    algebra's closed solution
 --   dot-of, fits-of            the value of a row; the rows from n to m - 1 have the values that follow from the unknowns
---   cell, block                a grid: the number of a row and a block; the numbers of a block
+--   cell, grid, block          a grid: the number of a row and a block; n rows by a rule; the numbers of a block
 --   Factors, product, combined n factors; the product of one with a number of a block; the sum of these
 --   inverse-at                 what the value of a row counts for an unknown
 --   Put                        numbers written from a place on
---   Solved, row-fits           the unknowns of every block; whether a row of several blocks has the values that follow
+--   unknowns-of, row-fits      the unknowns of every block; whether a row of several blocks has the values that follow
 -- Assumes nothing: these are definitions.
 use mathlib.Core.Path.{_≡_}
 use mathlib.Core.Logic.{_≢_}
 use mathlib.Core.Bool.{Bool, cond}
 use mathlib.Core.List.{List, _++_, map}
-use Prim.Native.Nat.{ℕ, _+_, _*_, _-_, _%_, _≤_, _<_}
+use Prim.Native.Nat.{ℕ, _+_, _*_, _-_, _/_, _%_, _≤_, _<_}
 use lib.Dec.{eqb, lit<}
 use lib.ListN.{length, getD, replicate}
 use Rattle.algebra.specs.Residue.{inverse}
@@ -93,6 +93,10 @@ fits-of rs cs vs ws n m = all-of (λ a. eqb (dot-of (getD rs a 0) cs ws n) (getD
 abbrev pub cell : (grid : List ℕ) → (a b : ℕ) → ℕ
 cell g a b = getD g (a * 16 + b) 0
 
+-- n rows by a rule, and 0 behind them
+unfoldable pub grid : (n : ℕ) → (rule : (a b : ℕ) → ℕ) → List ℕ
+grid n f = padded 128 (map (λ k. f (k / 16) (k % 16)) (span (n * 16) 0))
+
 unfoldable pub block : (grid : List ℕ) → (b : ℕ) → List ℕ
 block g b = map (λ a. cell g a b) (span 8 0)
 
@@ -118,8 +122,8 @@ pub record Put (f : ℕ → ℕ) (n at : ℕ) (old new : List ℕ) : Type 0 wher
   pub kept : (i : ℕ) → i < at → getD new i 0 ≡ getD old i 0
   pub rest : (i : ℕ) → at + n ≤ i → getD new i 0 ≡ getD old i 0
 
-pub record Solved (rows columns values : List ℕ) (n : ℕ) (out : List ℕ) : Type 0 where
-  pub each : (i b : ℕ) → i < n → b < 16 → cell out i b ≡ unknown-at rows columns (block values b) n i
+unfoldable pub unknowns-of : (rows columns values : List ℕ) → (n : ℕ) → List ℕ
+unknowns-of rs cs vs n = grid n (λ i b. unknown-at rs cs (block vs b) n i)
 
 unfoldable pub row-fits : (rows columns values unknowns : List ℕ) → (n blocks a : ℕ) → Bool
 row-fits rs cs vs ws n m a = all-of (λ b. eqb (dot-of (getD rs a 0) cs (block ws b) n) (cell vs a b)) (span m 0)

@@ -13,14 +13,14 @@ ghost use lib.Dec.{eqb};
 ghost use lib.ListN.{length, getD, replicate};
 ghost use Rattle.scheme.specs.Scheme.{span, q, sixteen, sum};
 ghost use Rattle.scheme.specs.Totals.{all-of};
-ghost use Rattle.solve.specs.Solve.{Points, Near, Ready, gap-of, gap-at, weight-at, weights-of, filled, product, Factors, combined, inverse-at, Put, Solved, row-fits};
+ghost use Rattle.solve.specs.Solve.{Points, Near, Ready, gap-of, gap-at, weight-at, weights-of, filled, product, Factors, combined, inverse-at, Put, unknowns-of, row-fits};
 
 // A plan has at most 16 blocks; with eight rows that makes 128 cells.
 pub const BLOCKS: usize = 16;
 
 pub const CELLS: usize = 128;
 
-pub fn gap_of(x: u32, y: u32) -> u16
+fn gap_of(x: u32, y: u32) -> u16
     requires { ⌜ (1 ≤ x) × (x ≤ 8) × (1 ≤ y) × (y ≤ 8) ⌝ }
     ensures { λ r. ⌜ r ≡ gap-of x y ⌝ }
 {
@@ -161,7 +161,7 @@ pub fn no_cells() -> [u16; CELLS]
     [0; CELLS]
 }
 
-// Unknown i of a block is beta[i] Σ alpha[a] values[a] / (rows[a] + columns[i]).
+// Unknown i of a block is beta[i] Σ alpha[a] values[a] / (rows[a] + columns[i]); the rows behind the n that count are 0.
 pub fn solve(
     rows: &[u32; 8],
     columns: &[u32; 8],
@@ -171,7 +171,7 @@ pub fn solve(
     n: usize,
 ) -> [u16; CELLS]
     requires { ⌜ Ready (now rows) (now columns) (now alpha) (now beta) n ⌝ }
-    ensures { λ r. ⌜ Solved (now (rows .entry)) (now (columns .entry)) (now (values .entry)) n r ⌝ }
+    ensures { λ r. ⌜ r ≡ unknowns-of (now (rows .entry)) (now (columns .entry)) (now (values .entry)) n ⌝ }
 {
     let mut out = no_cells();
     let mut at = 0;

@@ -1,5 +1,5 @@
 -- `element::folded` meets its contract: with n = 65536 h + l, what is left out is 65521 h. Assumes nothing.
-use mathlib.Core.Path.{_≡_, sym, ap, _∙_}
+use mathlib.Core.Path.{_≡_, refl, sym, ap, _∙_}
 use Prim.Native.Nat.{ℕ, _+_, _*_, _/_, _%_, _≤_}
 use native.Mathlib.Nat.{mul-le-mul, add-mul-mod-self-right}
 use native.Mathlib.Omega.{arith}
@@ -25,7 +25,7 @@ add-result : tie.Need-add-result
 add-result c = omega (arith, small c)
 
 returns : tie.Need-returns
-returns c = (same _, omega (arith, small c))
+returns c = (same _, omega (arith, small c), refl)
 
 pub folded-spec : {M : Type 1} → statement M
 folded-spec = tie.close (tie.spec mul-n mul-result add-result returns)

@@ -1,10 +1,11 @@
 -- `solve::solve` meets its contract. The loop's invariant: i rows of unknowns are written; `unknown-right` is one turn.
 -- The measure is how many are left. Assumes nothing.
+use mathlib.Core.Path.{_≡_}
 use Prim.Native.Nat.{_-_, _≤_}
 use native.Mathlib.Omega.{arith}
 use borrow.Author.Needs.{needs}
-use Rattle.solve.specs.Solve.{block, unknown-at}
-use Rattle.solve.proofs.Grids.{Rows, rows-start, rows-more}
+use Rattle.solve.specs.Solve.{block, unknown-at, unknowns-of}
+use Rattle.solve.proofs.Grids.{Rows, rows-start, rows-more, rows-end}
 use Rattle.solve.proofs.Solution.{near, filled-factors, unknown-right}
 use Rattle.solve.proofs.solve.Statement.{statement}
 use Rattle.solve.proofs.solve.Tie as tie
@@ -62,7 +63,11 @@ loop-again c =
     (omega arith, rows-more _ _ _ (l .i) _ _ _ (omega arith) (l .inv .1) (λ b k. unknown-right _ _ _ _ (l .i) h _ _ _ b (s .pre) (c .before .before .before .inverse-row .ensures)) (c .put-row .ensures))
 
 returns : tie.Need-returns Inv-loop μ-loop
-returns c = record { each = λ i b h. c .before .loop .inv .1 .each i b (omega arith) }
+unfolding unknowns-of
+returns c =
+    let l = c .before .loop in
+    let e : l .i ≡ c .before .before .before .args .n = omega arith in
+    rows-end _ _ _ _ (c .before .before .before .pre .square .few) (rw e at (l .inv .1))
 
 pub solve-spec : {M : Type 1} → statement M
 solve-spec =
