@@ -1,9 +1,10 @@
 -- Finish is the step of document 01's service, and keeps states well-formed.
 --   finish-same       on a well-formed state the guard never acts
 --   choice-explains   where anything explains the replies, the closed solution does
---   finish-steps, finish-right     the statements of specs/Promise.antt
+--   finish-steps, finish-right, refused-unchanged     the statements of specs/Promise.antt
 -- Assumes nothing.
 use mathlib.Core.Path.{_≡_, refl, sym, ap, _∙_, subst}
+use mathlib.Core.Logic.{_≢_}
 use mathlib.Core.Bool.{Bool, true, false}
 use mathlib.Core.List.{List}
 use Prim.Native.Nat.{ℕ, zero, suc}
@@ -29,8 +30,8 @@ use Rattle.service.specs.View.{phase-of, view, Formed}
 use Rattle.service.specs.Calls.{nothing-first, nothing-reply}
 use Rattle.service.specs.Promise.{told, Is-step}
 use Rattle.service.proofs.View.{look-nothing}
-use Rattle.finish.specs.Finish.{choice, finish-refusal, finished, finish-answer, finish-step}
-use Rattle.finish.specs.Promise.{Finish-steps, Finish-right}
+use Rattle.finish.specs.Finish.{choice, finish-refusal, finished, finish-refused, finish-answer, finish-step}
+use Rattle.finish.specs.Promise.{Finish-steps, Finish-right, Refused-unchanged}
 use Rattle.finish.proofs.Blocks.{values-small, choice-first}
 use Rattle.finish.proofs.Answers.{Ripe}
 
@@ -134,3 +135,11 @@ finish-right s xs x w e ok ax rules =
     let h = finish-steps s w in
     let t = told-totalled _ _ _ _ (demand-2 .finish-right (view s) _ _ xs x (w .well) e ok ax rules (h .step)) in
     (t .0, whole-answer s w (finish-refusal s) (t .0) ∙ ap (padded 96) (t .1))
+
+pub refused-unchanged : Refused-unchanged
+unfolding Refused-unchanged finish-step finish-answer
+refused-unchanged s h = by-number (finish-refusal s) h
+  where
+    by-number : (n : ℕ) → finish-answer n s .number ≢ 0 → finish-answer n s ≡ finish-refused (finish-answer n s .number) s
+    by-number zero h = absurd (h refl)
+    by-number (suc n) h = refl

@@ -1,8 +1,10 @@
--- That finish is the step of document 01's service.
+-- That finish is the step of document 01's service, and that a refused one leaves the state as it was.
 --   Finish-steps      on a well-formed state: the step that names what explains the replies, never the solver
 --   Finish-right      complete replies that follow the rules give the survivors' total
+--   Refused-unchanged "a refusal hands back its number alone": no totals, and the state as it was, whatever it was
 -- Assumes nothing: these are definitions.
 use mathlib.Core.Path.{_≡_}
+use mathlib.Core.Logic.{_≢_}
 use mathlib.Core.Bool.{true}
 use mathlib.Core.List.{List, map}
 use Prim.Native.Nat.{ℕ}
@@ -16,7 +18,7 @@ use Rattle.solve.specs.Solve.{padded}
 use Rattle.service.specs.declared.Service.{Service}
 use Rattle.service.specs.View.{view, Formed}
 use Rattle.service.specs.Promise.{told, Is-step}
-use Rattle.finish.specs.Finish.{finish-step}
+use Rattle.finish.specs.Finish.{finish-refused, finish-step}
 
 unfoldable pub Finish-steps : Type 0
 Finish-steps =
@@ -30,3 +32,6 @@ Finish-right =
     admissible sixteen (plan-of (s .head .plan)) x →
     Follows sixteen (plan-of (s .head .plan)) xs x (s .head .survivors) (replied (view s)) (values (view s .firsts)) (values (view s .replies)) →
     (finish-step s .number ≡ 0) × (finish-step s .totals ≡ padded 96 (map (total-at sixteen (plan-of (s .head .plan)) x (s .head .survivors)) (span (places (plan-of (s .head .plan))) 0)))
+
+unfoldable pub Refused-unchanged : Type 0
+Refused-unchanged = (s : Service) → finish-step s .number ≢ 0 → finish-step s ≡ finish-refused (finish-step s .number) s

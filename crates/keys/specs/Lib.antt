@@ -1,2 +1,3 @@
--- Read the contract of make_key and scheme's specs/Scheme.antt: Parts serves the functions behind it.
+-- Promise: what the key maker leaves, beside scheme's specs/Scheme.antt. Parts serves the functions behind it.
+pub mod Promise
 pub mod Parts

@@ -18,8 +18,9 @@ ghost use mathlib.Core.List.{map};
 ghost use Prim.Native.Nat.{ℕ, _+_, _*_, _%_, _≤_, _<_};
 ghost use lib.ListN.{length, getD, replicate};
 ghost use lib.Seq.{sets};
-ghost use Rattle.scheme.specs.Scheme.{span, rows, q, sixteen, places, usable, sets-with, mask, noise-start, shares, key, key-length, key-refusal, written};
+ghost use Rattle.scheme.specs.Scheme.{span, rows, q, sixteen, places, usable, sets-with, mask, noise-start, shares, key-length, key-refusal};
 ghost use Rattle.plan.specs.Plan.{plan-of};
+ghost use Rattle.keys.specs.Promise.{key-left};
 ghost use Rattle.keys.specs.Parts.{Ready, most-product, Raised, Coefficients, weighed, Dotted, part-at, block-value, Products, set-sum, Summed};
 use element::Q;
 use element::all_elements;
@@ -45,7 +46,7 @@ const COLUMNS: usize = 8;
 // Answers 0, or the number of the refusal, and then `out` stays as it was.
 pub fn make_key(plan: Plan, user: u32, random: &[u16], out: &mut [u16]) -> u32
     ensures number { λ r. ⌜ r ≡ key-refusal sixteen (plan-of plan) user (now (random .entry)) (length (now (out .entry))) ⌝ }
-    ensures left { λ r. ⌜ now (out .exit) ≡ written (key-refusal sixteen (plan-of plan) user (now (random .entry)) (length (now (out .entry)))) (key sixteen (plan-of plan) (now (random .entry)) user) (now (out .entry)) ⌝ }
+    ensures left { λ r. ⌜ now (out .exit) ≡ key-left (plan-of plan) user (now (random .entry)) (now (out .entry)) ⌝ }
 {
     let number = refusal(plan, user, random, out.len());
     if number != 0 {

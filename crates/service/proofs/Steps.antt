@@ -1,9 +1,9 @@
 -- That the calls are the steps of document 01's service, and keep states well-formed.
---   new-formed, plan-steps, open-steps, first-steps, reply-steps, close-steps, opens-as-new     the statements of specs/Promise.antt
+--   new-formed, plan-steps, open-steps, first-steps, reply-steps, close-steps, refused-unchanged, opens-as-new     the statements of specs/Promise.antt
 --   refuse, Left, taken        a step that is refused, and one that is taken
 --   first-long, reply-long     the lengths of empty arrays
 -- Assumes nothing.
-use mathlib.Core.Path.{_≡_, refl, sym, _∙_}
+use mathlib.Core.Path.{_≡_, refl, sym, ap, _∙_}
 use mathlib.Core.Bool.{true, false}
 use mathlib.Core.List.{List}
 use Prim.Native.Nat.{ℕ, zero, suc, _<_}
@@ -20,9 +20,11 @@ use Rattle.scheme.proofs.Well.{test-held, new-well, steps-well}
 use Rattle.plan.specs.Plan.{plan-of}
 use Rattle.service.specs.declared.Phase.the-variants.{Gathering}
 use Rattle.service.specs.declared.Service.{Service}
+use Rattle.service.specs.declared.Closed.{Closed}
 use Rattle.service.specs.View.{phase-of, view, Formed}
-use Rattle.service.specs.Calls.{after, nothing-first, nothing-reply, new-service, planned, plan-step, open-refusal, opened, open-step, first-left, first-step, reply-left, reply-step, closed, close-answer, close-step}
-use Rattle.service.specs.Promise.{told, Is-step, New-formed, Plan-steps, Open-steps, First-steps, Reply-steps, Close-steps, Opens-as-new}
+use Rattle.service.specs.Calls.{after, nothing-first, nothing-reply, new-service, planned, plan-step, open-refusal, opened, open-step, first-left, first-step, reply-left, reply-step, close-refusal, closed, close-answer, close-step}
+use Rattle.service.specs.Promise.{told, Is-step, New-formed, Plan-steps, Open-steps, First-steps, Reply-steps, Close-steps, Refused-unchanged, Opens-as-new}
+use Rattle.service.proofs.Refused.{after-refused, close-refused}
 use Rattle.service.proofs.Same.{plan-same, open-same, first-same, reply-same, close-same, new-view, planned-view, opened-view, closed-view, put-first, put-reply, first-view, reply-view}
 
 -- ---- a step from its parts
@@ -171,3 +173,22 @@ opens-as-new s r w e =
             reply = nothing-reply;
           };
     })
+
+-- ---- refusals
+close-number : (s : Service) (n : ℕ) → close-answer n s .number ≡ n
+unfolding close-answer
+close-number s zero = refl
+close-number s (suc n) = refl
+
+pub refused-unchanged : (s : Service) → Refused-unchanged s
+unfolding plan-step open-step first-step first-left reply-step reply-left close-step
+refused-unchanged s =
+    record {
+      plan = λ p h. after-refused h (planned p) s;
+      «open» = λ r h. after-refused h (opened (s .head) r) s;
+      first = λ k i x h. first-after s _ _ ∙ after-refused h (put-first s k i x) s;
+      close = λ h.
+          let e = sym (close-refused s (λ z. h (close-number s (close-refusal s) ∙ z)) refl) in
+          (ap (λ (r : Closed). r .set) e, ap (λ (r : Closed). r .service) e);
+      reply = λ k b x h. reply-after s _ _ ∙ after-refused h (put-reply s k b x) s;
+    }

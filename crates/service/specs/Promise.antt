@@ -3,9 +3,11 @@
 --   Is-step                  a call on a well-formed state is a step of scheme/specs/Service.antt, and its state is well-formed
 --   Plan-steps, Open-steps, First-steps, Reply-steps, Close-steps     one for each kind of record
 --   New-formed               a new service is well-formed
+--   Refused-unchanged        "the state and every lent buffer stay as before the call", of any state; a refused close names no set
 --   Opens-as-new             after an accepted open the whole state is that of a new service with the same plan, opened at that round
 -- Assumes nothing: these are definitions.
 use mathlib.Core.Path.{_≡_}
+use mathlib.Core.Logic.{_≢_}
 use Prim.Native.Nat.{ℕ, zero, suc}
 use Rattle.scheme.specs.Scheme.{sixteen}
 use Rattle.scheme.specs.Service.{Answer, silent, refused, Record, plan-record, open-record, first-record, close-record, reply-record, Steps}
@@ -48,6 +50,13 @@ unfoldable pub Close-steps : Type 0
 Close-steps =
     (s : Service) → Formed s →
     Is-step close-record s (told (close-step s .number) (scheme.closed (s .head .round) (close-step s .set))) (close-step s .service)
+
+pub record Refused-unchanged (s : Service) : Type 0 where
+  pub plan : (p : Plan) → plan-step s p .number ≢ 0 → plan-step s p .service ≡ s
+  pub «open» : (r : ℕ) → open-step s r .number ≢ 0 → open-step s r .service ≡ s
+  pub first : (k i x : ℕ) → first-step s k i x .number ≢ 0 → first-step s k i x .service ≡ s
+  pub close : close-step s .number ≢ 0 → (close-step s .set ≡ 0) × (close-step s .service ≡ s)
+  pub reply : (k b x : ℕ) → reply-step s k b x .number ≢ 0 → reply-step s k b x .service ≡ s
 
 unfoldable pub Opens-as-new : Type 0
 Opens-as-new =
