@@ -17,6 +17,7 @@ use std::process::ExitCode;
 
 const USAGE: &str = "usage: airfield list K U T M | key LIST K U T M AIRFIELD END | first END FIGURE.. | reply END SET";
 const LARGEST: u16 = 65520;
+const STAGE: usize = 5; // where an end's numbers have it
 
 fn main() -> ExitCode {
     let arguments: Vec<String> = std::env::args().skip(1).collect();
@@ -71,14 +72,14 @@ fn first(file: &str, figures: &[&str]) -> Result<String, String> {
     let figures: Vec<u16> = numbers(figures.iter().copied())?;
     let mut message = vec![0; figures.len()];
     end.first_message(&key, &figures, &mut message).map_err(refused)?;
-    keep(file, &kept(plan, user, end.stage(), &key))?;
+    keep(file, &kept(plan, user, end.numbers()[STAGE], &key))?;
     Ok(records("first", user, &message))
 }
 
 fn reply(file: &str, set: &str) -> Result<String, String> {
     let (plan, user, mut end, key) = read(file)?;
     let shares = end.reply(&key, number(set)?).map_err(refused)?;
-    keep(file, &kept(plan, user, end.stage(), &key))?;
+    keep(file, &kept(plan, user, end.numbers()[STAGE], &key))?;
     Ok(records("reply", user, shares))
 }
 
@@ -89,7 +90,9 @@ fn read(file: &str) -> Result<(Plan, u32, End, Vec<u16>), String> {
     match lines.iter().map(Vec::as_slice).collect::<Vec<_>>()[..] {
         [["plan", k, u, t, m], ["airfield", airfield], ["stage", stage], ["key", ref key @ ..]] => {
             let (plan, user) = (plan([k, u, t, m])?, number(airfield)?);
-            Ok((plan, user, End::resume(plan, user, number(stage)?), numbers(key.iter().copied())?))
+            let Plan { users, threshold, collusion, blocks } = plan;
+            let end = End::resume([users, threshold, collusion, blocks, user, number(stage)?, 0, 0]);
+            Ok((plan, user, end, numbers(key.iter().copied())?))
         }
         _ => Err(format!("{file}: not an end's file")),
     }

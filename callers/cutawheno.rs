@@ -32,16 +32,19 @@ pub enum Refusal {
     OtherSet = 19,
 }
 
-/// An airfield end: its plan, its user and its stage. It cannot be copied; resume no stage but the last.
-#[derive(Debug)]
+/// The length of an end's array.
+pub const END: usize = 8;
+
+/// An airfield end: the array that the header describes. It cannot be copied; resume no numbers but the last.
+#[derive(Debug, PartialEq, Eq)]
 pub struct End {
-    plan: Plan,
-    user: u32,
-    stage: u32,
+    numbers: [u32; END],
 }
 
-/// The length of a buffer for totals.
+/// The length of a buffer for totals, and of the longest row of figures; of the longest random list, and of the longest key.
 pub const MOST_PLACES: usize = 96;
+pub const LONGEST_LIST: usize = 7952;
+pub const LONGEST_KEY: usize = 2048;
 
 // Lengths of a service's arrays, and where its head has the number of places in a row.
 const HEAD: usize = 8;
@@ -58,17 +61,10 @@ pub struct Service {
 }
 
 #[repr(C)]
-struct Sent {
-    number: u32,
-    stage: u32,
-}
-
-#[repr(C)]
 struct Part {
     number: u32,
     start: u32,
     count: u32,
-    stage: u32,
 }
 
 #[repr(C)]
@@ -79,20 +75,19 @@ struct Closed {
 
 #[link(name = "capi", kind = "static")]
 extern "C" {
+    fn cutawheno_row_len(users: u32, threshold: u32, collusion: u32, blocks: u32) -> u32;
     fn cutawheno_list_len(users: u32, threshold: u32, collusion: u32, blocks: u32) -> u32;
     fn cutawheno_key_len(users: u32, threshold: u32, collusion: u32, blocks: u32) -> u32;
     fn cutawheno_make_key(
         list: *const u16, list_len: usize, key: *mut u16, key_len: usize,
         users: u32, threshold: u32, collusion: u32, blocks: u32, user: u32,
     ) -> u32;
-    fn cutawheno_first_message(
+    fn cutawheno_end_start(end: &mut [u32; END], users: u32, threshold: u32, collusion: u32, blocks: u32, user: u32) -> u32;
+    fn cutawheno_end_first_message(
         key: *const u16, key_len: usize, figures: *const u16, figures_len: usize, message: *mut u16, message_len: usize,
-        users: u32, threshold: u32, collusion: u32, blocks: u32, user: u32, stage: u32,
-    ) -> Sent;
-    fn cutawheno_reply(
-        key: *const u16, key_len: usize,
-        users: u32, threshold: u32, collusion: u32, blocks: u32, user: u32, stage: u32, set: u32,
-    ) -> Part;
+        end: &mut [u32; END],
+    ) -> u32;
+    fn cutawheno_end_reply(key: *const u16, key_len: usize, end: &mut [u32; END], set: u32) -> Part;
     fn cutawheno_service_plan(
         head: &mut [u32; HEAD], first: &mut [u16; FIRSTS], reply: &mut [u16; REPLIES],
         users: u32, threshold: u32, collusion: u32, blocks: u32,
@@ -137,6 +132,12 @@ fn refusal(number: u32) -> Refusal {
 }
 
 impl Plan {
+    /// The length of a row of figures, and of a first message; 0 for a plan outside its ranges.
+    pub fn row_len(self) -> usize {
+        // SAFETY: numbers alone.
+        unsafe { cutawheno_row_len(self.users, self.threshold, self.collusion, self.blocks) as usize }
+    }
+
     /// The length of the random list; 0 for a plan outside its ranges.
     pub fn list_len(self) -> usize {
         // SAFETY: numbers alone.
@@ -162,43 +163,38 @@ impl Plan {
 }
 
 impl End {
-    /// A fresh end; a plan or user that does not serve is refused by the first call.
-    pub fn new(plan: Plan, user: u32) -> End {
-        End { plan, user, stage: 0 }
+    /// A fresh end.
+    pub fn start(plan: Plan, user: u32) -> Result<End, Refusal> {
+        let mut numbers = [0; END];
+        // SAFETY: a reference to an array leads to its length, and is borrowed alone.
+        outcome(unsafe { cutawheno_end_start(&mut numbers, plan.users, plan.threshold, plan.collusion, plan.blocks, user) })?;
+        Ok(End { numbers })
     }
 
-    /// An end as it stood at a stage that was kept, by the header's numbers.
-    pub fn resume(plan: Plan, user: u32, stage: u32) -> End {
-        End { plan, user, stage }
+    /// An end as it stood when its numbers were kept.
+    pub fn resume(numbers: [u32; END]) -> End {
+        End { numbers }
     }
 
-    /// The stage to keep, before anything of a call's answer is sent.
-    pub fn stage(&self) -> u32 {
-        self.stage
+    /// The numbers to keep, before anything of a call's answer is sent.
+    pub fn numbers(&self) -> [u32; END] {
+        self.numbers
     }
 
     /// Writes the first message: figures plus masks, place by place.
     pub fn first_message(&mut self, key: &[u16], figures: &[u16], message: &mut [u16]) -> Result<(), Refusal> {
-        let p = self.plan;
-        // SAFETY: pointers and lengths are those of slices, of which the written one is borrowed alone.
-        let sent = unsafe {
-            cutawheno_first_message(
-                key.as_ptr(), key.len(), figures.as_ptr(), figures.len(), message.as_mut_ptr(), message.len(),
-                p.users, p.threshold, p.collusion, p.blocks, self.user, self.stage,
+        // SAFETY: pointers and lengths are those of slices, of which the written one is borrowed alone, as the array is.
+        outcome(unsafe {
+            cutawheno_end_first_message(
+                key.as_ptr(), key.len(), figures.as_ptr(), figures.len(), message.as_mut_ptr(), message.len(), &mut self.numbers,
             )
-        };
-        self.stage = sent.stage;
-        outcome(sent.number)
+        })
     }
 
     /// The shares for the announced set: the part of the key where they lie.
     pub fn reply<'a>(&mut self, key: &'a [u16], set: u32) -> Result<&'a [u16], Refusal> {
-        let p = self.plan;
-        // SAFETY: pointer and length are those of a slice.
-        let part = unsafe {
-            cutawheno_reply(key.as_ptr(), key.len(), p.users, p.threshold, p.collusion, p.blocks, self.user, self.stage, set)
-        };
-        self.stage = part.stage;
+        // SAFETY: pointer and length are those of a slice, and the array is borrowed alone.
+        let part = unsafe { cutawheno_end_reply(key.as_ptr(), key.len(), &mut self.numbers, set) };
         outcome(part.number)?;
         Ok(&key[part.start as usize..][..part.count as usize])
     }

@@ -17,11 +17,11 @@ static const uint16_t expected_messages[USERS][PLACES] = {{110}, {220}, {330}};
 static const uint32_t expected_starts[USERS] = {2, 0, 1};
 static const uint16_t expected_replies[USERS] = {220, 0, 112};
 
-/* An airfield: its key, its first message and the stage of its end. */
+/* An airfield: its key, its first message and its end. */
 typedef struct {
     uint16_t key[KEY_LEN];
     uint16_t message[PLACES];
-    uint32_t stage;
+    uint32_t end[CUTAWHENO_END];
 } Airfield;
 
 /* A service's state. */
@@ -61,13 +61,13 @@ static void expect_part(const char *what, CutawhenoPart got, CutawhenoPart wante
     expect(what, got.number, wanted.number);
     expect(what, got.start, wanted.start);
     expect(what, got.count, wanted.count);
-    expect(what, got.stage, wanted.stage);
 }
 
-static void expect_head(const char *what, const Service *got, const uint32_t wanted[CUTAWHENO_HEAD])
+/* Of an end, and of a service's head: both are eight numbers. */
+static void expect_numbers(const char *what, const uint32_t got[CUTAWHENO_END], const uint32_t wanted[CUTAWHENO_END])
 {
-    for (size_t i = 0; i < CUTAWHENO_HEAD; i++)
-        expect(what, got->head[i], wanted[i]);
+    for (size_t i = 0; i < CUTAWHENO_END; i++)
+        expect(what, got[i], wanted[i]);
 }
 
 static void expect_same(const char *what, const Service *got, const Service *wanted)
@@ -75,38 +75,38 @@ static void expect_same(const char *what, const Service *got, const Service *wan
     expect(what, memcmp(got, wanted, sizeof *got) == 0, 1);
 }
 
-/* Fresh, sent. */
+/* Started where anything stood; sent. */
 static Airfield report(uint32_t user)
 {
     const size_t row = user - 1;
-    Airfield a = {{0}, {0}, CUTAWHENO_FRESH};
+    Airfield a = {{0}, {0}, {7, 7, 7, 7, 7, 7, 7, 7}};
 
     expect("make_key", cutawheno_make_key(list, LIST_LEN, a.key, KEY_LEN, PLAN, user), CUTAWHENO_TAKEN);
     expect_row("key", a.key, expected_keys[row], KEY_LEN);
-
-    CutawhenoSent sent = cutawheno_first_message(a.key, KEY_LEN, figures[row], PLACES, a.message, PLACES, PLAN, user, a.stage);
-    expect("first_message", sent.number, CUTAWHENO_TAKEN);
-    expect("stage", sent.stage, CUTAWHENO_SENT);
+    expect("end_start", cutawheno_end_start(a.end, PLAN, user), CUTAWHENO_TAKEN);
+    expect_numbers("fresh", a.end, (uint32_t[]){PLAN, user, CUTAWHENO_FRESH, 0, 0});
+    expect("first_message", cutawheno_end_first_message(a.key, KEY_LEN, figures[row], PLACES, a.message, PLACES, a.end), CUTAWHENO_TAKEN);
+    expect_numbers("sent", a.end, (uint32_t[]){PLAN, user, CUTAWHENO_SENT, 0, 0});
     expect_row("first message", a.message, expected_messages[row], PLACES);
-    a.stage = sent.stage;
     return a;
 }
 
-/* Answered: user 2 is not in set 5, and its stage stays. Hands back the share. */
+/* Answered: user 2 is not in set 5, and its end stays. Hands back the share. */
 static uint16_t answer(Airfield *a, uint32_t user, uint32_t set)
 {
     const size_t row = user - 1;
 
-    CutawhenoPart part = cutawheno_reply(a->key, KEY_LEN, PLAN, user, a->stage, set);
+    CutawhenoPart part = cutawheno_end_reply(a->key, KEY_LEN, a->end, set);
     if (user == 2) {
-        expect_part("reply of user 2", part, (CutawhenoPart){CUTAWHENO_NOT_IN_SET, 0, 0, CUTAWHENO_SENT});
+        expect_part("reply of user 2", part, (CutawhenoPart){CUTAWHENO_NOT_IN_SET, 0, 0});
+        expect_numbers("end of user 2", a->end, (uint32_t[]){PLAN, user, CUTAWHENO_SENT, 0, 0});
         return 0;
     }
-    expect_part("reply", part, (CutawhenoPart){CUTAWHENO_TAKEN, expected_starts[row], BLOCKS, CUTAWHENO_ANSWERED + set});
+    expect_part("reply", part, (CutawhenoPart){CUTAWHENO_TAKEN, expected_starts[row], BLOCKS});
     expect_row("reply", a->key + part.start, &expected_replies[row], BLOCKS);
-    expect_part("reply again", cutawheno_reply(a->key, KEY_LEN, PLAN, user, part.stage, set), part);
-    expect_part("other set", cutawheno_reply(a->key, KEY_LEN, PLAN, user, part.stage, 7), (CutawhenoPart){CUTAWHENO_OTHER_SET, 0, 0, part.stage});
-    a->stage = part.stage;
+    expect_part("reply again", cutawheno_end_reply(a->key, KEY_LEN, a->end, set), part);
+    expect_part("other set", cutawheno_end_reply(a->key, KEY_LEN, a->end, 7), (CutawhenoPart){CUTAWHENO_OTHER_SET, 0, 0});
+    expect_numbers("answered", a->end, (uint32_t[]){PLAN, user, CUTAWHENO_ANSWERED + set, 0, 0});
     return a->key[part.start];
 }
 
@@ -118,16 +118,16 @@ static void run_round(void)
     Service s = {{0}, {0}, {0}};
 
     expect("plan", cutawheno_service_plan(LEND(s), PLAN), CUTAWHENO_TAKEN);
-    expect_head("planned", &s, (uint32_t[]){CUTAWHENO_IDLE, PLAN, PLACES, 0, 0});
+    expect_numbers("planned", s.head, (uint32_t[]){CUTAWHENO_IDLE, PLAN, PLACES, 0, 0});
     expect("open", cutawheno_service_open(LEND(s), ROUND), CUTAWHENO_TAKEN);
-    expect_head("opened", &s, (uint32_t[]){CUTAWHENO_GATHERING, PLAN, PLACES, ROUND, 0});
+    expect_numbers("opened", s.head, (uint32_t[]){CUTAWHENO_GATHERING, PLAN, PLACES, ROUND, 0});
     expect("first of 1", cutawheno_service_first_element(s.head, s.first, 1, 0, airfields[0].message[0]), CUTAWHENO_TAKEN);
     expect("first of 3", cutawheno_service_first_element(s.head, s.first, 3, 0, airfields[2].message[0]), CUTAWHENO_TAKEN);
 
     CutawhenoClosed closed = cutawheno_service_close(LEND(s));
     expect("close", closed.number, CUTAWHENO_TAKEN);
     expect("set", closed.set, SET);
-    expect_head("closed", &s, (uint32_t[]){CUTAWHENO_REPLYING, PLAN, PLACES, ROUND, SET});
+    expect_numbers("closed", s.head, (uint32_t[]){CUTAWHENO_REPLYING, PLAN, PLACES, ROUND, SET});
     expect("late first of 2", cutawheno_service_first_element(s.head, s.first, 2, 0, airfields[1].message[0]), CUTAWHENO_OTHER_PHASE);
     expect("held of 1", s.first[0], 111);
     expect("held of 2", s.first[CUTAWHENO_MOST_PLACES], 0);
@@ -142,11 +142,10 @@ static void run_round(void)
     expect_same("finished", &s, &(Service){{CUTAWHENO_IDLE, PLAN, PLACES, ROUND, 0}, {0}, {0}});
 }
 
-/* What is refused leaves buffer and stage as they came. */
-static void run_end_refusals(void)
+/* What the key maker refuses leaves its buffer as it came. */
+static void run_key_refusals(void)
 {
-    const uint16_t *key = expected_keys[0];
-    uint16_t bad_list[LIST_LEN], made[KEY_LEN] = {7, 7, 7, 7}, message[PLACES] = {7};
+    uint16_t bad_list[LIST_LEN], made[KEY_LEN] = {7, 7, 7, 7};
     const uint16_t untouched[KEY_LEN] = {7, 7, 7, 7};
 
     memcpy(bad_list, list, sizeof list);
@@ -156,23 +155,56 @@ static void run_end_refusals(void)
     expect("user 4", cutawheno_make_key(list, LIST_LEN, made, KEY_LEN, PLAN, 4), CUTAWHENO_BAD_USER);
     expect("short list", cutawheno_make_key(list, LIST_LEN - 1, made, KEY_LEN, PLAN, 1), CUTAWHENO_BAD_LENGTH);
     expect("short key", cutawheno_make_key(list, LIST_LEN, made, KEY_LEN - 1, PLAN, 1), CUTAWHENO_BAD_LENGTH);
+    expect("no list", cutawheno_make_key(NULL, 0, made, KEY_LEN, PLAN, 1), CUTAWHENO_BAD_LENGTH);
+    expect("no key", cutawheno_make_key(list, LIST_LEN, NULL, 0, PLAN, 1), CUTAWHENO_BAD_LENGTH);
     expect("element", cutawheno_make_key(bad_list, LIST_LEN, made, KEY_LEN, PLAN, 1), CUTAWHENO_BAD_ELEMENT);
     expect_row("key buffer", made, untouched, KEY_LEN);
+}
 
-    CutawhenoSent sent = cutawheno_first_message(key, KEY_LEN, figures[0], PLACES, message, PLACES, PLAN, 1, CUTAWHENO_SENT);
-    expect("sent twice", sent.number, CUTAWHENO_OUT_OF_TURN);
-    expect("sent twice, stage", sent.stage, CUTAWHENO_SENT);
-    sent = cutawheno_first_message(key, KEY_LEN, figures[0], PLACES, message, 0, PLAN, 1, CUTAWHENO_FRESH);
-    expect("no room", sent.number, CUTAWHENO_BAD_LENGTH);
-    expect("no room, stage", sent.stage, CUTAWHENO_FRESH);
-    sent = cutawheno_first_message(key, KEY_LEN, figures[0], PLACES, message, PLACES, PLAN, 1, UINT32_MAX);
-    expect("last stage", sent.number, CUTAWHENO_OUT_OF_TURN);
-    expect("last stage, stage", sent.stage, UINT32_MAX);
+/* An end of user 1 at a stage, with two numbers that no call reads. */
+#define END_AT(stage) {PLAN, 1, stage, 8, 9}
+
+/* What an end refuses leaves buffer and array as they came, whatever stands there. */
+static void run_end_refusals(void)
+{
+    const uint16_t *key = expected_keys[0], bad[KEY_LEN] = {CUTAWHENO_Q}, untouched[PLACES] = {7};
+    const uint32_t was_fresh[CUTAWHENO_END] = END_AT(CUTAWHENO_FRESH), was_sent[CUTAWHENO_END] = END_AT(CUTAWHENO_SENT);
+    const uint32_t was_last[CUTAWHENO_END] = END_AT(UINT32_MAX), was_bad[CUTAWHENO_END] = {3, 3, 1, 1, 1, CUTAWHENO_SENT, 0, 0};
+    uint32_t fresh[CUTAWHENO_END] = END_AT(CUTAWHENO_FRESH), sent[CUTAWHENO_END] = END_AT(CUTAWHENO_SENT);
+    uint32_t last[CUTAWHENO_END] = END_AT(UINT32_MAX), no_plan[CUTAWHENO_END] = {3, 3, 1, 1, 1, CUTAWHENO_SENT, 0, 0};
+    uint16_t message[PLACES] = {7};
+
+    expect("start, plan", cutawheno_end_start(last, 3, 2, 1, 17, 1), CUTAWHENO_BAD_PLAN);
+    expect("start, user 0", cutawheno_end_start(last, PLAN, 0), CUTAWHENO_BAD_USER);
+    expect("start, user 4", cutawheno_end_start(last, PLAN, 4), CUTAWHENO_BAD_USER);
+    expect("sent twice", cutawheno_end_first_message(key, KEY_LEN, figures[0], PLACES, message, PLACES, sent), CUTAWHENO_OUT_OF_TURN);
+    expect("any stage", cutawheno_end_first_message(key, KEY_LEN, figures[0], PLACES, message, PLACES, last), CUTAWHENO_OUT_OF_TURN);
+    expect("any plan", cutawheno_end_first_message(key, KEY_LEN, figures[0], PLACES, message, PLACES, no_plan), CUTAWHENO_BAD_PLAN);
+    expect("no key", cutawheno_end_first_message(NULL, 0, figures[0], PLACES, message, PLACES, fresh), CUTAWHENO_BAD_LENGTH);
+    expect("no figures", cutawheno_end_first_message(key, KEY_LEN, NULL, 0, message, PLACES, fresh), CUTAWHENO_BAD_LENGTH);
+    expect("no room", cutawheno_end_first_message(key, KEY_LEN, figures[0], PLACES, NULL, 0, fresh), CUTAWHENO_BAD_LENGTH);
+    expect("nothing", cutawheno_end_first_message(NULL, 0, NULL, 0, NULL, 0, fresh), CUTAWHENO_BAD_LENGTH);
+    expect("bad key", cutawheno_end_first_message(bad, KEY_LEN, figures[0], PLACES, message, PLACES, fresh), CUTAWHENO_BAD_ELEMENT);
+    expect("bad figures", cutawheno_end_first_message(key, KEY_LEN, bad, PLACES, message, PLACES, fresh), CUTAWHENO_BAD_ELEMENT);
     expect_row("message buffer", message, untouched, PLACES);
 
-    expect_part("fresh", cutawheno_reply(key, KEY_LEN, PLAN, 1, CUTAWHENO_FRESH, SET), (CutawhenoPart){CUTAWHENO_OUT_OF_TURN, 0, 0, CUTAWHENO_FRESH});
-    expect_part("too few", cutawheno_reply(key, KEY_LEN, PLAN, 1, CUTAWHENO_SENT, 1), (CutawhenoPart){CUTAWHENO_SET_UNUSABLE, 0, 0, CUTAWHENO_SENT});
-    expect_part("last set", cutawheno_reply(key, KEY_LEN, PLAN, 1, CUTAWHENO_SENT, UINT32_MAX), (CutawhenoPart){CUTAWHENO_SET_UNUSABLE, 0, 0, CUTAWHENO_SENT});
+    expect_part("fresh", cutawheno_end_reply(key, KEY_LEN, fresh, SET), (CutawhenoPart){CUTAWHENO_OUT_OF_TURN, 0, 0});
+    expect_part("reply, no key", cutawheno_end_reply(NULL, 0, sent, SET), (CutawhenoPart){CUTAWHENO_BAD_LENGTH, 0, 0});
+    expect_part("reply, bad key", cutawheno_end_reply(bad, KEY_LEN, sent, SET), (CutawhenoPart){CUTAWHENO_BAD_ELEMENT, 0, 0});
+    expect_part("too few", cutawheno_end_reply(key, KEY_LEN, sent, 1), (CutawhenoPart){CUTAWHENO_SET_UNUSABLE, 0, 0});
+    expect_part("last set", cutawheno_end_reply(key, KEY_LEN, sent, UINT32_MAX), (CutawhenoPart){CUTAWHENO_SET_UNUSABLE, 0, 0});
+    expect_part("set of others", cutawheno_end_reply(key, KEY_LEN, sent, 6), (CutawhenoPart){CUTAWHENO_NOT_IN_SET, 0, 0});
+    expect_part("any stage", cutawheno_end_reply(key, KEY_LEN, last, SET), (CutawhenoPart){CUTAWHENO_OTHER_SET, 0, 0});
+    expect_part("any plan", cutawheno_end_reply(key, KEY_LEN, no_plan, SET), (CutawhenoPart){CUTAWHENO_BAD_PLAN, 0, 0});
+    expect_numbers("fresh end", fresh, was_fresh);
+    expect_numbers("sent end", sent, was_sent);
+    expect_numbers("end at any stage", last, was_last);
+    expect_numbers("end under any plan", no_plan, was_bad);
+
+    expect("first_message", cutawheno_end_first_message(key, KEY_LEN, figures[0], PLACES, message, PLACES, fresh), CUTAWHENO_TAKEN);
+    expect_numbers("the last two stay", fresh, was_sent);
+    expect_part("reply", cutawheno_end_reply(key, KEY_LEN, fresh, SET), (CutawhenoPart){CUTAWHENO_TAKEN, expected_starts[0], BLOCKS});
+    expect_numbers("the last two stay", fresh, (uint32_t[])END_AT(CUTAWHENO_ANSWERED + SET));
 }
 
 /* The three report; then what is refused leaves every array as it came. */
@@ -234,13 +266,19 @@ static void run_service_refusals(void)
 
 int main(void)
 {
+    expect("row_len", cutawheno_row_len(PLAN), PLACES);
     expect("list_len", cutawheno_list_len(PLAN), LIST_LEN);
     expect("key_len", cutawheno_key_len(PLAN), KEY_LEN);
     expect("list_len of 8 2 1 16", cutawheno_list_len(8, 2, 1, 16), 4080);
-    expect("key_len of 8 2 1 16", cutawheno_key_len(8, 2, 1, 16), 2048);
+    expect("longest row", cutawheno_row_len(8, 7, 1, 16), CUTAWHENO_MOST_PLACES);
+    expect("longest list", cutawheno_list_len(8, 4, 3, 16), CUTAWHENO_LONGEST_LIST);
+    expect("longest key", cutawheno_key_len(8, 2, 1, 16), CUTAWHENO_LONGEST_KEY);
+    expect("row_len of 3 2 2 1", cutawheno_row_len(3, 2, 2, 1), 0);
     expect("list_len of 3 3 1 1", cutawheno_list_len(3, 3, 1, 1), 0);
     expect("key_len of 3 2 1 17", cutawheno_key_len(3, 2, 1, 17), 0);
+    expect("version", CUTAWHENO_VERSION, 900);
     run_round();
+    run_key_refusals();
     run_end_refusals();
     run_service_refusals();
     printf("C: %s\n", failures == 0 ? "the example round, as expected" : "NOT as expected");

@@ -2,7 +2,7 @@
 //! and some refusals. Exit status 101 where anything is not as expected.
 mod cutawheno;
 
-use cutawheno::{End, Plan, Refusal, Service, MOST_PLACES};
+use cutawheno::{End, Plan, Refusal, Service, LONGEST_KEY, LONGEST_LIST, MOST_PLACES};
 
 const PLAN: Plan = Plan { users: 3, threshold: 2, collusion: 1, blocks: 1 };
 const BAD: Plan = Plan { threshold: 3, ..PLAN };
@@ -24,15 +24,16 @@ fn airfield(user: u32) -> Airfield {
     let row = user as usize - 1;
     let mut key = vec![0; PLAN.key_len()];
     let mut message = [0];
-    let mut end = End::new(PLAN, user);
+    let mut end = End::start(PLAN, user).unwrap();
     assert_eq!(PLAN.make_key(user, &LIST, &mut key), Ok(()));
     assert_eq!(key, KEYS[row]);
     assert_eq!(end.reply(&key, 5), Err(Refusal::OutOfTurn));
     assert_eq!(end.first_message(&key, &FIGURES[row], &mut []), Err(Refusal::BadLength));
+    assert_eq!(end.numbers(), [3, 2, 1, 1, user, 0, 0, 0]);
     assert_eq!(end.first_message(&key, &FIGURES[row], &mut message), Ok(()));
     assert_eq!(message, MESSAGES[row]);
     assert_eq!(end.first_message(&key, &FIGURES[row], &mut message), Err(Refusal::OutOfTurn));
-    Airfield { user, end, key, message }
+    Airfield { user, end: End::resume(end.numbers()), key, message }
 }
 
 /// Airfields 1 and 3 report, 2 comes too late, and the survivors' figures add up to 40.
@@ -52,6 +53,7 @@ fn run_round(service: &mut Service) {
         let reply = a.end.reply(&a.key, 5);
         assert_eq!(reply, expected);
         assert_eq!(a.end.reply(&a.key, 5), reply);
+        assert_eq!(a.end.numbers(), [3, 2, 1, 1, a.user, if reply.is_ok() { 2 + 5 } else { 1 }, 0, 0]);
         eprintln!("key {:?}, first message {:?}, reply {reply:?}", a.key, a.message);
         if let Ok(shares) = reply {
             assert_eq!(a.end.reply(&a.key, 7), Err(Refusal::OtherSet));
@@ -72,6 +74,11 @@ fn run_refusals() {
     assert_eq!(PLAN.make_key(4, &LIST, &mut key), Err(Refusal::BadUser));
     assert_eq!(PLAN.make_key(1, &[65521; 7], &mut key), Err(Refusal::BadElement));
     assert_eq!(key, [7; 4]);
+    assert_eq!(End::start(BAD, 1), Err(Refusal::BadPlan));
+    assert_eq!(End::start(PLAN, 4), Err(Refusal::BadUser));
+    let mut any = End::resume([u32::MAX; 8]);
+    assert_eq!(any.reply(&KEYS[0], 5), Err(Refusal::BadPlan));
+    assert_eq!(any.numbers(), [u32::MAX; 8]);
 
     let mut service = Service::new();
     assert_eq!(service.open(1), Err(Refusal::PlanOrder));
@@ -98,10 +105,11 @@ fn run_refusals() {
 }
 
 fn main() {
-    assert_eq!((PLAN.list_len(), PLAN.key_len()), (7, 4));
-    let large = Plan { users: 8, blocks: 16, ..PLAN };
-    assert_eq!((large.list_len(), large.key_len()), (4080, 2048));
-    assert_eq!((BAD.list_len(), BAD.key_len()), (0, 0));
+    assert_eq!((PLAN.row_len(), PLAN.list_len(), PLAN.key_len()), (1, 7, 4));
+    let large = |threshold, collusion| Plan { users: 8, threshold, collusion, blocks: 16 };
+    assert_eq!((large(2, 1).list_len(), large(2, 1).key_len()), (4080, LONGEST_KEY));
+    assert_eq!((large(4, 3).list_len(), large(7, 1).row_len()), (LONGEST_LIST, MOST_PLACES));
+    assert_eq!((BAD.row_len(), BAD.list_len(), BAD.key_len()), (0, 0, 0));
     let mut service = Service::new();
     assert_eq!(service.plan(PLAN), Ok(()));
     run_round(&mut service);

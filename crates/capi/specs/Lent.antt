@@ -2,7 +2,6 @@
 --   Arrays, arrays                     the lent arrays
 --   phase-at, head-at, state           what they stand for
 --   phase-number, numbers, arrays-of   the arrays of a state
---   code-plan                          the plan of four numbers
 --   left                               the arrays of the new state, or after a refusal as they came
 --   plan-left, open-left, close-left, finish-left     what each call leaves in them; the element calls leave first-left and reply-left
 --   closed-answer, finish-totals       what close hands back, and the buffer that finish writes
@@ -19,6 +18,7 @@ use Rattle.service.specs.declared.Service.{Service}
 use Rattle.service.specs.declared.Closed.{Closed}
 use Rattle.service.specs.Calls.{plan-step, open-step, close-step}
 use Rattle.finish.specs.Finish.{finish-step}
+use Rattle.capi.specs.Plans.{code-plan}
 use Rattle.capi.specs.declared.pooling.CutawhenoClosed.{CutawhenoClosed}
 
 -- head: phase, users, threshold, collusion, blocks, places, round, survivors; first and reply: as the service keeps them
@@ -42,9 +42,6 @@ phase-number Unplanned = 0
 phase-number Idle = 1
 phase-number Gathering = 2
 phase-number Replying = 3
-
-abbrev pub code-plan : (users threshold collusion blocks : ℕ) → Plan
-code-plan n u t m = record { users = n; threshold = u; collusion = t; blocks = m }
 
 unfoldable pub head-at : List ℕ → Head
 head-at h =

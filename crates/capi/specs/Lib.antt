@@ -1,6 +1,7 @@
--- Calls: what the exported calls hand back, by the refusals and messages of scheme's specs/Scheme.antt.
+-- Plans: the plan where it comes as four numbers. Ends: the airfield end where it stands in a lent array.
 -- Lent: the service where its state stands in lent arrays.
 -- Promise: what callers in C and Rust lean on.
-pub mod Calls
+pub mod Plans
+pub mod Ends
 pub mod Lent
 pub mod Promise

@@ -1,9 +1,10 @@
 -- What callers in C and Rust lean on.
 --   Same-length       one length serves every user's key
---   Part-is-reply     the part that a taken reply names is document 01's reply
---   Same-part         "the same set asked again gets the same part"
---   One-set           the stage that a taken reply hands back lets no other set be answered
---   Stages-numbered   a stage and its number say the same
+--   Ends-stand        what the calls leave in an end's array stands for the end that the client's own calls hand back, so that what
+--                     client/specs/Promise.antt says of those holds of the array
+--   Part-is-reply     the part that a reply names is the one that the client's own reply hands back
+--   Same-part         "the same set asked again gets the same part", and the array stays
+--   One-set           the array that a taken reply leaves lets no other set be answered
 --   New-stands        arrays of zeros stand for a new service
 --   Calls-stand       what the calls leave in lent arrays stands for the state that the service's own calls hand back, so that what
 --                     service/specs/Promise.antt and finish/specs/Promise.antt say of those holds of the arrays
@@ -12,34 +13,48 @@ use mathlib.Core.Path.{_≡_}
 use mathlib.Core.Logic.{_≢_}
 use mathlib.Core.Bool.{true}
 use mathlib.Core.List.{List}
+use mathlib.Core.Option.{some}
 use Prim.Native.Nat.{ℕ}
-use lib.ListN.{take, drop, replicate}
-use Rattle.scheme.specs.Scheme.{Plan, Stage, sixteen, plan-good, is-user, key-length, reply, reply-refusal}
+use lib.ListN.{length, take, drop, replicate}
+use Rattle.scheme.specs.Scheme.{Plan, plan-good, is-user, key-length, reply}
 use Rattle.plan.specs.declared.Plan as code
+use Rattle.plan.specs.Plan.{plan-of}
 use Rattle.plan.specs.Lengths.{key-len}
+use Rattle.client.specs.declared.Client.{Client}
+use Rattle.client.specs.Client.{begun, first-answer, reply-answer, part-of}
 use Rattle.service.specs.Calls.{new-service, plan-step, open-step, first-left, first-step, close-step, reply-left, reply-step}
 use Rattle.finish.specs.Finish.{finish-step}
-use Rattle.capi.specs.Calls.{stage-of-number, stage-number, part-answer}
+use Rattle.capi.specs.Ends.{end-at, start-left, kept, part-answer}
 use Rattle.capi.specs.Lent.{Arrays, arrays, head-at, state, plan-left, open-left, close-left, finish-left}
 
 unfoldable pub Same-length : Type 0
 Same-length = (p : Plan) (k : ℕ) → plan-good p ≡ true → is-user p k ≡ true → key-length p k ≡ key-len p 1
 
+-- an end that stands in an array: start from any content, and the stage moved by the calls
+pub record End-stands (e : List ℕ) : Type 0 where
+  pub start-stands : (p : code.Plan) (k : ℕ) → begun p k .number ≡ 0 → begun p k .client ≡ some (end-at (start-left (begun p k .client) e))
+  pub first-stands : (ks fs : List ℕ) (n : ℕ) → let a = first-answer (end-at e) ks fs n in end-at (kept a e) ≡ a .client
+  pub reply-stands : (ks : List ℕ) (v : ℕ) → let a = reply-answer (end-at e) ks v in end-at (kept a e) ≡ a .client
+
+unfoldable pub Ends-stand : Type 0
+Ends-stand = (e : List ℕ) → length e ≡ 8 → End-stands e
+
+pub record Part-given (c : Client) (ks : List ℕ) (v : ℕ) : Type 0 where
+  pub number : part-answer c ks v .number ≡ reply-answer c ks v .number
+  pub shares : let p = part-answer c ks v in take (p .count) (drop (p .start) ks) ≡ part-of c ks v
+
 unfoldable pub Part-is-reply : Type 0
-Part-is-reply =
-    (p : Plan) (ks : List ℕ) (k s v : ℕ) → let part = part-answer 0 p k s v in
-    take (part .count) (drop (part .start) ks) ≡ reply p ks k v
+Part-is-reply = (c : Client) (ks : List ℕ) (v : ℕ) → Part-given c ks v
 
 unfoldable pub Same-part : Type 0
 Same-part =
-    (p : Plan) (ks : List ℕ) (k s v : ℕ) → reply-refusal sixteen p k (stage-of-number s) ks v ≡ 0 → let part = part-answer 0 p k s v in
-    part-answer (reply-refusal sixteen p k (stage-of-number (part .stage)) ks v) p k (part .stage) v ≡ part
+    (e ks : List ℕ) (v : ℕ) → length e ≡ 8 → part-answer (end-at e) ks v .number ≡ 0 → let asked = kept (reply-answer (end-at e) ks v) e in
+    (part-answer (end-at asked) ks v ≡ part-answer (end-at e) ks v) × (kept (reply-answer (end-at asked) ks v) asked ≡ asked)
 
 unfoldable pub One-set : Type 0
-One-set = (p : Plan) (ks : List ℕ) (k s v w : ℕ) → v ≢ w → reply-refusal sixteen p k (stage-of-number (part-answer 0 p k s v .stage)) ks w ≢ 0
-
-unfoldable pub Stages-numbered : Type 0
-Stages-numbered = ((s : ℕ) → stage-number (stage-of-number s) ≡ s) × ((g : Stage) → stage-of-number (stage-number g) ≡ g)
+One-set =
+    (e ks : List ℕ) (v w : ℕ) → length e ≡ 8 → part-answer (end-at e) ks v .number ≡ 0 → v ≢ w →
+    part-answer (end-at (kept (reply-answer (end-at e) ks v) e)) ks w .number ≢ 0
 
 unfoldable pub New-stands : Type 0
 New-stands = state (arrays (replicate 8 0) (replicate 768 0) (replicate 128 0)) ≡ new-service

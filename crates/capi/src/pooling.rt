@@ -9,7 +9,8 @@
 ghost use mathlib.Core.Path.{_≡_};
 ghost use Rattle.service.specs.Calls.{plan-step, open-step, first-refusal, first-left, close-step, reply-refusal, reply-left};
 ghost use Rattle.finish.specs.Finish.{finish-step};
-ghost use Rattle.capi.specs.Lent.{arrays, state, code-plan, phase-at, phase-number, head-at, numbers, plan-left, open-left, closed-answer, close-left, finish-left, finish-totals};
+ghost use Rattle.capi.specs.Plans.{code-plan};
+ghost use Rattle.capi.specs.Lent.{arrays, state, phase-at, phase-number, head-at, numbers, plan-left, open-left, closed-answer, close-left, finish-left, finish-totals};
 use plan::MOST_PLACES;
 use plan::Plan;
 use service::FIRSTS;

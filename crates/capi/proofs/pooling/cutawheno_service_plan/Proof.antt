@@ -6,7 +6,8 @@ use Rattle.service.specs.declared.Head.{Head}
 use Rattle.service.specs.declared.Stepped.{Stepped}
 use Rattle.service.specs.Calls.{lent, plan-step}
 use Rattle.service.proofs.Refused.{after-refused}
-use Rattle.capi.specs.Lent.{code-plan, plan-left}
+use Rattle.capi.specs.Plans.{code-plan}
+use Rattle.capi.specs.Lent.{plan-left}
 use Rattle.capi.proofs.Lent.{same-head, taken-right, kept-right}
 use Rattle.capi.proofs.pooling.cutawheno_service_plan.Statement.{statement}
 use Rattle.capi.proofs.pooling.cutawheno_service_plan.Tie as tie
