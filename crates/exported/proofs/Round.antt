@@ -1,0 +1,143 @@
+-- Demand 2 from end to end on lent memory.
+--   Finishes, finishes   what holds where finish is not refused by 11, 12 or 15
+--   totals-padded        the buffer behind a taken finish
+--   round-right          the statement of specs/Round.antt
+-- Assumes nothing.
+use mathlib.Core.Path.{_≡_, refl, sym, ap, _∙_, subst}
+use mathlib.Core.Logic.{_≢_}
+use mathlib.Core.Bool.{Bool, true, false}
+use mathlib.Core.List.{List, [], _∷_, map}
+use Prim.Native.Nat.{ℕ, zero, suc, _≤_, _<_}
+use native.Mathlib.Omega.{arith}
+use lib.Dec.{leb}
+use lib.ListN.{getD, take}
+use Rattle.scheme.specs.Scheme.{span, sixteen, plan-good, places, in-set, ones, unless, _then_}
+use Rattle.scheme.specs.Totals.{total-of, totals}
+use Rattle.scheme.specs.Service.{has-plan, is-replying, State, gathered, replied, values, totals-by, Record, open-record, finish-record, Answer, refusal, opened-state, next-state, Steps}
+use Rattle.scheme.proofs.Tests.{holds}
+use Rattle.scheme.proofs.Refusals.{written-taken}
+use Rattle.scheme.proofs.Held.{complete-held}
+use Rattle.scheme.proofs.Lists.{map-span-length}
+use Rattle.plan.specs.Plan.{plan-of}
+use Rattle.solve.specs.Solve.{padded}
+use Rattle.solve.proofs.Filled.{padded-take}
+use Rattle.client.specs.Shown as client
+use Rattle.client.specs.Shown.{Given}
+use Rattle.service.specs.declared.Service.{Service}
+use Rattle.service.specs.View.{phase-of, view, Formed}
+use Rattle.service.specs.Calls.{after, opened, open-step}
+use Rattle.service.proofs.Same.{opened-view}
+use Rattle.finish.specs.Finish.{choice, finish-refusal, finish-answer, finish-step}
+use Rattle.capi.specs.Lent.{Arrays, state, finish-totals}
+use Rattle.capi.proofs.Stands.{calls-stand}
+use Rattle.round.specs.Round as round
+use Rattle.round.proofs.Round as round-proved
+use Rattle.exported.specs.Runs.{Call, open-call, finish-call, record-of, zeros, plan-in, number-of, leaves, run}
+use Rattle.exported.specs.Shown.{Lent, calls, Same-given}
+use Rattle.exported.specs.Round.{Each, First-of, Reply-of, Sent-in, Round-right}
+use Rattle.exported.proofs.Runs.{step-right, run-formed, zeros-formed}
+use Rattle.exported.proofs.Shown.{same-given}
+use Rattle.exported.proofs.Carried.{Carried, nothing-carried, steps-first, steps-reply, Survived, steps-survived, run-keeps}
+
+-- ---- the tests of finish
+passes : (b : Bool) (n m : ℕ) → (unless b (suc n) then m) ≢ suc n → (b ≡ true) × ((unless b (suc n) then m) ≡ m)
+unfolding unless _then_
+passes true n m h = (refl, refl)
+passes false n m h = absurd (h refl)
+
+answer-number : (n : ℕ) (s : Service) → finish-answer n s .number ≡ n
+unfolding finish-answer
+answer-number zero s = refl
+answer-number (suc n) s = refl
+
+record Finishes (s : Service) : Type 0 where
+  replying : is-replying (view s .phase) ≡ true
+  untested : refusal sixteen finish-record (view s) ≡ 0
+
+finishes : (s : Service) → finish-step s .number ≢ 11 → finish-step s .number ≢ 12 → finish-step s .number ≢ 15 → Finishes s
+unfolding finish-step finish-refusal refusal view unless _then_
+finishes s n11 n12 n15 =
+    let e = answer-number (finish-refusal s) s in
+    let a = passes (has-plan (phase-of (s .head .phase))) 10 _ (λ z. n11 (e ∙ z)) in
+    let b = passes (is-replying (phase-of (s .head .phase))) 11 _ (λ z. n12 (e ∙ a .1 ∙ z)) in
+    let c = passes (plan-good (plan-of (s .head .plan))) 14 _ (λ z. n15 (e ∙ a .1 ∙ b .1 ∙ z)) in
+    let d = passes (leb (s .head .plan .threshold) (ones (s .head .plan .users) (replied (view s)))) 14 _ (λ z. n15 (e ∙ a .1 ∙ b .1 ∙ c .1 ∙ z)) in
+    record { replying = b .0; untested = simp (a .0, b .0, d .0) }
+
+-- the totals that a taken finish gives are its first L places, and 0 behind them
+totals-padded : (s : Service) (n : ℕ) → finish-answer n s .number ≡ 0 → let ts = finish-answer n s .totals in ts ≡ padded 96 (take (places (plan-of (s .head .plan))) ts)
+unfolding finish-answer totals-by totals view
+totals-padded s zero z =
+    let t = total-of sixteen (plan-of (s .head .plan)) (s .head .survivors) (values (view s .firsts)) (choice s) in
+    let p = places (plan-of (s .head .plan)) in
+    sym (ap (padded 96) (ap (λ (n : ℕ). take n (padded 96 (map t (span p 0)))) (sym (map-span-length t p 0)) ∙ padded-take 96 (map t (span p 0))))
+totals-padded s (suc n) z = absurd (omega arith)
+
+-- ---- the arrays behind an accepted open, and behind the calls of the round
+every : (rs : List Record) → Each (λ r. Unit {0}) rs
+every [] = tt
+every (r ∷ rs) = (tt, every rs)
+
+module _ (a : Arrays) (w : Formed (state a)) (r : ℕ) (e : number-of (open-call r) a ≡ 0) (cs : List Call) where
+  opens : view (state (leaves (open-call r) a)) ≡ next-state (open-record r) (view (state a))
+  unfolding number-of leaves open-step after
+  opens = ap view (calls-stand a .open-stands r ∙ ap (λ (n : ℕ). after n (opened (state a .head) r) (state a)) e) ∙ opened-view (state a) r
+
+  end-formed : Formed (state (run cs (leaves (open-call r) a)))
+  end-formed = run-formed cs (leaves (open-call r) a) (step-right a w (open-call r) .formed)
+
+  keeps : (P : State → Type 0) (Q : Record → Type 0) → ((r : Record) (s t : State) (a : Answer) → Steps sixteen r s a t → Q r → P s → P t)
+      → Each Q (map record-of cs) → P (next-state (open-record r) (view (state a))) → P (view (state (run cs (leaves (open-call r) a))))
+  keeps P Q k h p = run-keeps P Q k cs (leaves (open-call r) a) (step-right a w (open-call r) .formed) h (subst P (sym opens) p)
+
+  first-carried : (k : ℕ) (m : List ℕ) → Each (First-of k m) (map record-of cs) → Carried k m (view (state (run cs (leaves (open-call r) a))) .firsts)
+  unfolding next-state opened-state
+  first-carried k m h = keeps (λ s. Carried k m (s .firsts)) (First-of k m) (steps-first sixteen k m) h (nothing-carried k m)
+
+  reply-carried : (k : ℕ) (m : List ℕ) → Each (Reply-of k m) (map record-of cs) → Carried k m (view (state (run cs (leaves (open-call r) a))) .replies)
+  unfolding next-state opened-state
+  reply-carried k m h = keeps (λ s. Carried k m (s .replies)) (Reply-of k m) (steps-reply sixteen k m) h (nothing-carried k m)
+
+  survived : Survived (view (state (run cs (leaves (open-call r) a))))
+  unfolding next-state opened-state Survived is-replying
+  survived = keeps Survived (λ r. Unit {0}) (λ r s t b h u. steps-survived sixteen r s t b h) (every (map record-of cs)) (λ h. absurd (holds h))
+
+pub round-right : Round-right
+unfolding Round-right run number-of finish-step finish-totals Survived Same-given gathered replied view round.Round-right
+round-right before cs r xs x lent o e n11 n12 n15 ok rows room sent =
+    let done = round-proved.round-right s xs x (λ k. lent k .key-buffer) (λ k. lent k .buffer) formed (f .untested) ok rows room held in
+    (done .0, written-taken (done .0) _ o ∙ totals-padded s _ (done .0) ∙ ap (padded 96) (done .1))
+  where
+    start : Arrays
+    start = run before zeros
+
+    begun : Formed (state start)
+    begun = run-formed before zeros zeros-formed
+
+    a : Arrays
+    a = run cs (leaves (open-call r) start)
+
+    s : Service
+    s = state a
+
+    formed : Formed s
+    formed = end-formed start begun r e cs
+
+    f : Finishes s
+    f = finishes s n11 n12 n15
+
+    same : (k : ℕ) → calls (plan-in a) xs (x k) (s .head .survivors) k (lent k) ≡ client.calls (plan-in a) xs (x k) (s .head .survivors) k (lent k .key-buffer) (lent k .buffer)
+    same k = same-given (plan-in a) xs (x k) (s .head .survivors) k (lent k)
+
+    held : round.Sent-in s xs x (λ k. lent k .key-buffer) (λ k. lent k .buffer)
+    held =
+        record {
+          first = λ k i lo hi m h.
+              first-carried start begun r e cs k _ (sent .first k lo hi m) .right i
+              (complete-held (plan-of (plan-in a)) (view s .firsts) (places (plan-of (plan-in a))) k lo hi (ap (λ (v : ℕ). in-set v k) (sym (survived start begun r e cs (f .replying))) ∙ m) i h)
+              ∙ ap (λ (g : Given). getD (g .message) i 0) (same k);
+          answer = λ k b lo hi m h.
+              reply-carried start begun r e cs k _ (sent .answer k lo hi m) .right b
+              (complete-held (plan-of (plan-in a)) (view s .replies) (plan-in a .blocks) k lo hi m b h)
+              ∙ ap (λ (g : Given). getD (g .part) b 0) (same k);
+        }

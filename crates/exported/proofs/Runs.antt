@@ -1,0 +1,98 @@
+-- Calls on lent arrays are runs of document 01's service.
+--   step-right      one call, on arrays that stand for a well-formed state
+--   run-formed      a list of calls keeps them so
+--   runs-right, opens-as-new    the statements of specs/Runs.antt
+-- Assumes nothing.
+use mathlib.Core.Path.{_≡_, refl, sym, ap, _∙_, subst}
+use mathlib.Core.Bool.{true}
+use mathlib.Core.List.{List, [], _∷_, map}
+use Prim.Native.Nat.{ℕ, zero, suc}
+use lib.ListN.{take}
+use Rattle.scheme.specs.Scheme.{sixteen, plan-good, places, written, unless, _then_}
+use Rattle.scheme.specs.Service.{State, has-plan, Answer, totalled, Record, finish-record, Runs, done, more}
+use Rattle.scheme.proofs.Well.{test-held}
+use Rattle.plan.specs.declared.Plan.{Plan}
+use Rattle.plan.specs.Plan.{plan-of}
+use Rattle.service.specs.declared.Service.{Service}
+use Rattle.service.specs.View.{phase-of, view, Formed}
+use Rattle.service.specs.declared.Stepped.{Stepped}
+use Rattle.service.specs.Calls.{after, new-service, plan-refusal, planned, plan-step, open-refusal, open-step, first-step, reply-step}
+use Rattle.service.specs.Promise.{told, Is-step, New-formed, Plan-steps, Open-steps, First-steps, Reply-steps, Close-steps}
+use Rattle.service.specs.Promise as calls
+use Rattle.service.proofs.Steps.{new-formed, plan-steps, open-steps, first-steps, reply-steps, close-steps}
+use Rattle.service.proofs.Steps as proved
+use Rattle.finish.specs.Promise.{Finish-steps}
+use Rattle.finish.specs.Finish.{finish-step}
+use Rattle.finish.proofs.Steps.{finish-steps}
+use Rattle.capi.specs.Lent.{Arrays, arrays-of, state, left, plan-left, open-left, finish-totals}
+use Rattle.capi.specs.Promise.{New-stands}
+use Rattle.capi.proofs.Stands.{new-stands, calls-stand}
+use Rattle.exported.specs.Runs.{Call, plan-call, open-call, first-call, close-call, reply-call, finish-call, record-of, zeros, plan-in, number-of, leaves, given, answer-of, run, answers, Run-right, Runs-right, Opens-as-new}
+
+-- the state that the service's own call hands back is the one that the arrays stand for
+module _ (a : Arrays) (w : Formed (state a)) where
+  stands : {r : Record} {b : Answer} {s t : Service} → t ≡ s → Is-step r (state a) b s → Is-step r (state a) b t
+  stands {r} {b} e h = subst (Is-step r (state a) b) (sym e) h
+
+  -- the lent buffer has the totals where finish is taken
+  totals-told : (n : ℕ) (ts o : List ℕ) → let say : List ℕ → Answer = λ l. told n (totalled (state a .head .round) (take (places (plan-of (plan-in a))) l)) in
+      say ts ≡ say (written n ts o)
+  unfolding told written
+  totals-told zero ts o = refl
+  totals-told (suc n) ts o = refl
+
+  pub step-right : (c : Call) → Is-step (record-of c) (state a) (answer-of c a) (state (leaves c a))
+  unfolding record-of number-of leaves given first-step reply-step finish-totals Plan-steps Open-steps First-steps Reply-steps Close-steps Finish-steps
+  step-right (plan-call p) = stands (calls-stand a .plan-stands p) (plan-steps (state a) p w)
+  step-right (open-call r) = stands (calls-stand a .open-stands r) (open-steps (state a) r w)
+  step-right (first-call k i x) = stands (calls-stand a .first-stands k i x) (first-steps (state a) k i x w)
+  step-right close-call = stands (calls-stand a .close-stands) (close-steps (state a) w)
+  step-right (reply-call k b x) = stands (calls-stand a .reply-stands k b x) (reply-steps (state a) k b x w)
+  step-right (finish-call o) =
+      let t = finish-step (state a) in
+      stands (calls-stand a .finish-stands)
+      (subst (λ (b : Answer). Is-step finish-record (state a) b (t .service)) (totals-told (t .number) (t .totals) o) (finish-steps (state a) w))
+
+pub run-formed : (cs : List Call) (a : Arrays) → Formed (state a) → Formed (state (run cs a))
+unfolding run
+run-formed [] a w = w
+run-formed (c ∷ cs) a w = run-formed cs (leaves c a) (step-right a w c .formed)
+
+run-steps : (cs : List Call) (a : Arrays) → Formed (state a) → Runs sixteen (map record-of cs) (view (state a)) (answers cs a) (view (state (run cs a)))
+unfolding run answers
+run-steps [] a w = done _
+run-steps (c ∷ cs) a w = let h = step-right a w c in more _ _ _ _ _ _ _ (h .step) (run-steps cs (leaves c a) (h .formed))
+
+-- ---- from zeros
+pub zeros-formed : Formed (state zeros)
+unfolding New-formed New-stands
+zeros-formed = subst Formed (sym new-stands) (new-formed .1)
+
+pub runs-right : Runs-right
+unfolding Runs-right New-formed New-stands
+runs-right cs =
+    record {
+      runs = subst (λ (s : State). Runs sixteen (map record-of cs) s (answers cs zeros) (view (state (run cs zeros)))) (ap view new-stands ∙ new-formed .0)
+          (run-steps cs zeros zeros-formed);
+      formed = run-formed cs zeros zeros-formed;
+    }
+
+left-taken : {n : ℕ} → n ≡ 0 → (s : Service) (a : Arrays) → left n s a ≡ arrays-of s
+unfolding left
+left-taken e s a = ap (λ (n : ℕ). left n s a) e
+
+-- zeros take every good plan
+plan-taken : (p : Plan) → plan-good (plan-of p) ≡ true → state (plan-left zeros p) ≡ planned p
+unfolding New-stands plan-step plan-refusal new-service phase-of has-plan after unless _then_
+plan-taken p g = calls-stand zeros .plan-stands p ∙ ap (λ (s : Service). plan-step s p .service) new-stands ∙ rw g
+
+pub opens-as-new : Opens-as-new
+unfolding Opens-as-new run leaves number-of open-left calls.Opens-as-new open-step open-refusal view phase-of
+opens-as-new cs r e =
+    let a = run cs zeros in
+    let p = plan-in a in
+    let w = run-formed cs zeros zeros-formed in
+    let same = proved.opens-as-new (state a) r w e in
+    let new : open-step (state (plan-left zeros p)) r ≡ open-step (planned p) r = ap (λ (s : Service). open-step s r) (plan-taken p (w .well .good (test-held _ 10 _ e .0))) in
+    left-taken e _ a ∙ ap (λ (t : Stepped). arrays-of (t .service)) (same ∙ sym new)
+    ∙ sym (left-taken (ap (λ (t : Stepped). t .number) (new ∙ sym same) ∙ e) _ _)

@@ -1,0 +1,52 @@
+-- Demand 3 speaks of what the exported calls give.
+--   same-given, shown-is-sent   the statements of specs/Shown.antt
+-- Assumes nothing.
+use mathlib.Core.Path.{_≡_, refl, sym, ap, _∙_}
+use mathlib.Core.List.{List, map}
+use Prim.Native.Nat.{ℕ, zero, suc}
+use lib.ListN.{length}
+use Rattle.scheme.specs.Scheme.{span, users-in}
+use Rattle.plan.specs.declared.Plan.{Plan}
+use Rattle.plan.specs.Plan.{plan-of}
+use Rattle.client.specs.declared.Stage.the-variants.{Fresh}
+use Rattle.client.specs.declared.Client.{Client}
+use Rattle.client.specs.Client.{stage-of, stage-of-number, stage-number, begun-with, first-answer, message-left, part-of}
+use Rattle.client.specs.Shown as client
+use Rattle.client.specs.Shown.{Given, client-calls}
+use Rattle.client.proofs.Shown as proved
+use Rattle.capi.specs.Ends.{code-stage, end-at, end-numbers, start-left}
+use Rattle.capi.specs.Promise.{Ends-stand, Part-is-reply}
+use Rattle.capi.proofs.Promise.{ends-stand, part-is-reply}
+use Rattle.exported.specs.Shown.{Lent, end-calls, calls, Same-given, Shown-is-sent}
+
+-- from the array that start leaves
+end-given : (n : ℕ) (p : Plan) (k : ℕ) (e ks fs : List ℕ) (v : ℕ) (o : List ℕ) → let b = begun-with n p k in
+    end-calls (b .number) (start-left (b .client) e) ks fs v o ≡ client-calls (b .client) ks fs v o
+unfolding begun-with start-left end-calls client-calls end-numbers end-at code-stage stage-of stage-number stage-of-number Ends-stand Part-is-reply
+end-given zero p k e ks fs v o =
+    let c : Client = record { plan = p; user = k; stage = Fresh } in
+    let same = ends-stand (end-numbers c) refl .first-stands ks fs (length o) in
+    λ i.
+    record {
+      key-given = ks;
+      message = message-left c ks fs o;
+      part = (part-is-reply _ ks v .shares ∙ ap (λ (d : Client). part-of d ks v) same) i;
+    }
+end-given (suc n) p k e ks fs v o = refl
+
+pub same-given : Same-given
+unfolding Same-given calls client.calls
+same-given p xs fs v k l = end-given _ p k (l .end) _ fs v (l .buffer)
+
+pub shown-is-sent : Shown-is-sent
+unfolding Shown-is-sent client.Shown-is-sent Same-given
+shown-is-sent p v c xs x lent good u ok rows room =
+    let same : (k : ℕ) → client.calls p xs (x k) v k (lent k .key-buffer) (lent k .buffer) ≡ calls p xs (x k) v k (lent k) = λ k.
+    sym (same-given p xs (x k) v k (lent k)) in
+    proved.shown-is-sent p v c xs x (λ k. lent k .key-buffer) (λ k. lent k .buffer) good u ok rows room
+    ∙ (λ i.
+    record {
+      firsts = map (λ k. same k i .message) (span (p .users) 1);
+      replies = map (λ k. same k i .part) (users-in (plan-of p) v);
+      keys = map (λ k. same k i .key-given) (users-in (plan-of p) c);
+    })

@@ -1,0 +1,45 @@
+-- Document 01's example round through the exported calls, on lent memory, computed.
+--   example-plan, example-list, example-figures     3 2 1 1, the random list, a row for each user
+--   example-given      what a user's calls give, for set 5
+--   example-calls      the service's calls: user 2 comes too late, and users 1 and 3 reply with what their calls gave
+--   Example-right      keys, first messages and parts; what the service's calls answer, from zeros
+-- Assumes nothing: these are definitions.
+use mathlib.Core.Path.{_≡_}
+use mathlib.Core.List.{List, [], _∷_}
+use Prim.Native.Nat.{ℕ, _*_}
+use lib.ListN.{getD, replicate}
+use Rattle.scheme.specs.Service.{silent, planned, opened, closed, totalled, refused}
+use Rattle.plan.specs.declared.Plan.{Plan}
+use Rattle.plan.specs.Plan.{plan-of}
+use Rattle.client.specs.Shown.{Given}
+use Rattle.exported.specs.Runs.{Call, plan-call, open-call, first-call, close-call, reply-call, finish-call, zeros, answers}
+use Rattle.exported.specs.Shown.{calls}
+
+abbrev pub example-plan : Plan
+example-plan = record { users = 3; threshold = 2; collusion = 1; blocks = 1 }
+
+abbrev pub example-list : List ℕ
+example-list = 100 ∷ 200 ∷ 300 ∷ 12 ∷ 60 ∷ 40 ∷ 120 ∷ []
+
+-- whatever the buffers and the array held before
+unfoldable pub example-given : (k : ℕ) → Given
+example-given k =
+    calls example-plan example-list (k * 10 ∷ []) 5 k (record { key-buffer = replicate 4 7; buffer = 7 ∷ []; end = replicate 8 7 })
+
+abbrev pub message-of : (k : ℕ) → ℕ
+message-of k = getD (example-given k .message) 0 0
+
+abbrev pub share-of : (k : ℕ) → ℕ
+share-of k = getD (example-given k .part) 0 0
+
+unfoldable pub example-calls : List Call
+example-calls =
+    plan-call example-plan ∷ open-call 7 ∷ first-call 1 0 (message-of 1) ∷ first-call 3 0 (message-of 3) ∷ close-call
+    ∷ first-call 2 0 (message-of 2) ∷ reply-call 1 0 (share-of 1) ∷ reply-call 3 0 (share-of 3) ∷ finish-call (replicate 96 7) ∷ []
+
+pub record Example-right : Type 0 where
+  pub user-1 : example-given 1 ≡ record { key-given = 100 ∷ 154 ∷ 220 ∷ 340 ∷ []; message = 110 ∷ []; part = 220 ∷ [] }
+  pub user-2 : example-given 2 ≡ record { key-given = 200 ∷ 103 ∷ 22017 ∷ 230 ∷ []; message = 220 ∷ []; part = [] }
+  pub user-3 : example-given 3 ≡ record { key-given = 300 ∷ 112 ∷ 133 ∷ 174 ∷ []; message = 330 ∷ []; part = 112 ∷ [] }
+  pub answered : answers example-calls zeros
+      ≡ planned (plan-of example-plan) ∷ opened 7 ∷ silent ∷ silent ∷ closed 7 5 ∷ refused 12 ∷ silent ∷ silent ∷ totalled 7 (40 ∷ []) ∷ []

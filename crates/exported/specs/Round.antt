@@ -1,0 +1,62 @@
+-- Demand 2 from end to end on lent memory: what the exported calls of the airfields give, put in by the exported calls of the service,
+-- finishes as the survivors' total.
+--   Each               a fact of each record of a list
+--   First-of, Reply-of the records that carry an element of a user carry those of its first message, of its part
+--   Sent-in            the survivors' first messages, and the replies of those that replied whole, are what their calls gave
+--   Round-right        the statement: arrays from zeros, any calls and rounds before, any other calls between
+-- Assumes nothing: these are definitions.
+use mathlib.Core.Path.{_≡_}
+use mathlib.Core.Logic.{_≢_}
+use mathlib.Core.Bool.{true}
+use mathlib.Core.List.{List, [], _∷_, map}
+use Prim.Native.Nat.{ℕ, _≤_}
+use lib.ListN.{getD}
+use Rattle.scheme.specs.Scheme.{span, sixteen, places, in-set, total-at}
+use Rattle.scheme.specs.Promise.{Table, admissible, list-good}
+use Rattle.scheme.specs.Service.{Record, plan-record, open-record, first-record, close-record, reply-record, finish-record, replied}
+use Rattle.plan.specs.Plan.{plan-of}
+use Rattle.client.specs.Shown.{Given}
+use Rattle.solve.specs.Solve.{padded}
+use Rattle.service.specs.View.{view}
+use Rattle.capi.specs.Lent.{Arrays, state, finish-totals}
+use Rattle.exported.specs.Runs.{Call, open-call, finish-call, record-of, zeros, plan-in, number-of, run}
+use Rattle.exported.specs.Shown.{Lent, Room, calls}
+
+abbrev pub Each : (Record → Type 0) → List Record → Type 0
+Each P [] = Unit {0}
+Each P (r ∷ rs) = P r × Each P rs
+
+unfoldable pub First-of : (k : ℕ) → (message : List ℕ) → Record → Type 0
+First-of k m (first-record l i x) = l ≡ k → x ≡ getD m i 0
+First-of k m (plan-record p) = Unit {0}
+First-of k m (open-record r) = Unit {0}
+First-of k m close-record = Unit {0}
+First-of k m (reply-record l b x) = Unit {0}
+First-of k m finish-record = Unit {0}
+
+unfoldable pub Reply-of : (k : ℕ) → (part : List ℕ) → Record → Type 0
+Reply-of k s (reply-record l b x) = l ≡ k → x ≡ getD s b 0
+Reply-of k s (plan-record p) = Unit {0}
+Reply-of k s (open-record r) = Unit {0}
+Reply-of k s (first-record l i x) = Unit {0}
+Reply-of k s close-record = Unit {0}
+Reply-of k s finish-record = Unit {0}
+
+-- of the calls since an open, and the arrays behind them
+pub record Sent-in (round : List Call) (a : Arrays) (given : (k : ℕ) → Given) : Type 0 where
+  pub first : (k : ℕ) → 1 ≤ k → k ≤ plan-in a .users → in-set (state a .head .survivors) k ≡ true → Each (First-of k (given k .message)) (map record-of round)
+  pub answer : (k : ℕ) → 1 ≤ k → k ≤ plan-in a .users → in-set (replied (view (state a))) k ≡ true → Each (Reply-of k (given k .part)) (map record-of round)
+
+-- where finish is not refused by 11, 12 or 15, it answers 0 and leaves in the lent buffer the sums of the survivors' figures, place by
+-- place, and 0 behind them
+unfoldable pub Round-right : Type 0
+Round-right =
+    (before round : List Call) (r : ℕ) (xs : List ℕ) (x : Table) (lent : (k : ℕ) → Lent) (o : List ℕ) →
+    number-of (open-call r) (run before zeros) ≡ 0 →
+    let a = run (open-call r ∷ round) (run before zeros) in
+    let p = plan-in a in
+    let v = state a .head .survivors in
+    let n = number-of (finish-call o) a in
+    n ≢ 11 → n ≢ 12 → n ≢ 15 → list-good sixteen (plan-of p) xs ≡ true → admissible sixteen (plan-of p) x →
+    ((k : ℕ) → 1 ≤ k → k ≤ p .users → Room p k (lent k)) → Sent-in round a (λ k. calls p xs (x k) v k (lent k)) →
+    (n ≡ 0) × (finish-totals a o ≡ padded 96 (map (total-at sixteen (plan-of p) x v) (span (places (plan-of p)) 0)))

@@ -1,0 +1,94 @@
+-- The exported service calls one after the other, over the arrays that the caller lends, as their contracts have them.
+--   Call, record-of        a call with what it is given; the record of document 01 that it stands for
+--   zeros, plan-in         the arrays of a new service; the plan that arrays hold
+--   number-of, leaves      the number that a call hands back, and the arrays that it leaves
+--   given, answer-of       what it hands back beside the number, and with it: document 01's answer
+--   run, answers           the arrays after a list of calls, and what the calls answered
+--   Runs-right             calls on arrays of zeros are a run of document 01's service, whatever they are given
+--   Opens-as-new           an accepted open leaves the arrays that it leaves of zeros with the same plan
+-- Assumes nothing: these are definitions.
+use mathlib.Core.Path.{_≡_}
+use mathlib.Core.List.{List, [], _∷_, map}
+use Prim.Native.Nat.{ℕ}
+use lib.ListN.{getD, take, replicate}
+use Rattle.scheme.specs.Scheme.{sixteen, places}
+use Rattle.scheme.specs.Service.{new-state, Record, plan-record, open-record, first-record, close-record, reply-record, finish-record, Answer, silent, planned, opened, closed, totalled, Runs}
+use Rattle.plan.specs.declared.Plan.{Plan}
+use Rattle.plan.specs.Plan.{plan-of}
+use Rattle.service.specs.View.{view, Formed}
+use Rattle.service.specs.Calls.{plan-step, open-step, first-refusal, first-left, close-step, reply-refusal, reply-left}
+use Rattle.service.specs.Promise.{told}
+use Rattle.finish.specs.Finish.{finish-step}
+use Rattle.capi.specs.Lent.{Arrays, arrays, head-at, state, plan-left, open-left, closed-answer, close-left, finish-left, finish-totals}
+
+-- finish is lent a buffer for the totals
+pub data Call : Type 0 where
+  plan-call : Plan → Call
+  open-call : (round : ℕ) → Call
+  first-call : (k place element : ℕ) → Call
+  close-call : Call
+  reply-call : (k block element : ℕ) → Call
+  finish-call : (totals : List ℕ) → Call
+
+unfoldable pub record-of : Call → Record
+record-of (plan-call p) = plan-record (plan-of p)
+record-of (open-call r) = open-record r
+record-of (first-call k i x) = first-record k i x
+record-of close-call = close-record
+record-of (reply-call k b x) = reply-record k b x
+record-of (finish-call o) = finish-record
+
+abbrev pub zeros : Arrays
+zeros = arrays (replicate 8 0) (replicate 768 0) (replicate 128 0)
+
+abbrev pub plan-in : Arrays → Plan
+plan-in a = state a .head .plan
+
+unfoldable pub number-of : Call → Arrays → ℕ
+number-of (plan-call p) a = plan-step (state a) p .number
+number-of (open-call r) a = open-step (state a) r .number
+number-of (first-call k i x) a = first-refusal (head-at (a .head)) (a .first) k i x
+number-of close-call a = closed-answer (close-step (state a)) .number
+number-of (reply-call k b x) a = reply-refusal (head-at (a .head)) (a .reply) k b x
+number-of (finish-call o) a = finish-step (state a) .number
+
+unfoldable pub leaves : Call → Arrays → Arrays
+leaves (plan-call p) a = plan-left a p
+leaves (open-call r) a = open-left a r
+leaves (first-call k i x) a = arrays (a .head) (first-left (head-at (a .head)) (a .first) k i x) (a .reply)
+leaves close-call a = close-left a
+leaves (reply-call k b x) a = arrays (a .head) (a .first) (reply-left (head-at (a .head)) (a .reply) k b x)
+leaves (finish-call o) a = finish-left a
+
+-- of a taken call: the set that close hands back; the totals are the first L of the lent buffer as finish leaves it
+unfoldable pub given : Call → Arrays → Answer
+given (plan-call p) a = planned (plan-of p)
+given (open-call r) a = opened r
+given (first-call k i x) a = silent
+given close-call a = closed (state a .head .round) (closed-answer (close-step (state a)) .set)
+given (reply-call k b x) a = silent
+given (finish-call o) a = totalled (state a .head .round) (take (places (plan-of (plan-in a))) (finish-totals a o))
+
+abbrev pub answer-of : Call → Arrays → Answer
+answer-of c a = told (number-of c a) (given c a)
+
+unfoldable pub run : List Call → Arrays → Arrays
+run [] a = a
+run (c ∷ cs) a = run cs (leaves c a)
+
+unfoldable pub answers : List Call → Arrays → List Answer
+answers [] a = []
+answers (c ∷ cs) a = answer-of c a ∷ answers cs (leaves c a)
+
+-- what document 01 promises of every run (Demand-2 of scheme/specs/ServicePromise.antt) is so promised of the calls
+pub record Run-right (cs : List Call) : Type 0 where
+  pub runs : Runs sixteen (map record-of cs) new-state (answers cs zeros) (view (state (run cs zeros)))
+  pub formed : Formed (state (run cs zeros))
+
+unfoldable pub Runs-right : Type 0
+Runs-right = (cs : List Call) → Run-right cs
+
+unfoldable pub Opens-as-new : Type 0
+Opens-as-new =
+    (cs : List Call) (r : ℕ) → let a = run cs zeros in
+    number-of (open-call r) a ≡ 0 → leaves (open-call r) a ≡ run (plan-call (plan-in a) ∷ open-call r ∷ []) zeros

@@ -1,0 +1,55 @@
+-- That demand 3 is about the exported calls: what it calls shown is what their contracts give, over the memory that callers lend.
+--   Lent             what one user lends: a buffer for the key, one for the first message, and an array for the end, with any contents
+--   end-calls, calls cutawheno_make_key; then, unless start is refused, cutawheno_end_start, cutawheno_end_first_message and
+--                    cutawheno_end_reply to V, and the part of the key that it names
+--   Same-given       they give what the program's own calls give, also where calls are refused
+--   Shown-is-sent    the statement, for any lent buffers of the plan's lengths
+-- Assumes nothing: these are definitions.
+use mathlib.Core.Path.{_≡_}
+use mathlib.Core.Bool.{true}
+use mathlib.Core.List.{List, [], map}
+use Prim.Native.Nat.{ℕ, zero, suc, _≤_}
+use lib.ListN.{length, take, drop}
+use Rattle.scheme.specs.Scheme.{span, sixteen, plan-good, places, usable, users-in, key, key-length, key-refusal, written}
+use Rattle.scheme.specs.Promise.{Table, shown, admissible, list-good}
+use Rattle.plan.specs.declared.Plan.{Plan}
+use Rattle.plan.specs.Plan.{plan-of}
+use Rattle.client.specs.Client.{begun, first-answer, message-left}
+use Rattle.client.specs.Shown as client
+use Rattle.client.specs.Shown.{Given}
+use Rattle.capi.specs.Ends.{end-at, start-left, kept, part-answer}
+
+pub record Lent : Type 0 where
+  pub key-buffer : List ℕ
+  pub buffer : List ℕ
+  pub end : List ℕ
+
+-- the buffers have the plan's lengths
+abbrev pub Room : Plan → (k : ℕ) → Lent → Type 0
+Room p k l = (length (l .key-buffer) ≡ key-length (plan-of p) k) × (length (l .buffer) ≡ places (plan-of p))
+
+unfoldable pub end-calls : (refusal : ℕ) → (end key figures : List ℕ) → (set : ℕ) → (buffer : List ℕ) → Given
+end-calls zero e ks fs v o =
+    let sent = kept (first-answer (end-at e) ks fs (length o)) e in
+    let part = part-answer (end-at sent) ks v in
+    record { key-given = ks; message = message-left (end-at e) ks fs o; part = take (part .count) (drop (part .start) ks) }
+end-calls (suc n) e ks fs v o = record { key-given = ks; message = o; part = [] }
+
+unfoldable pub calls : Plan → (list : List ℕ) → (figures : List ℕ) → (set user : ℕ) → Lent → Given
+calls p xs fs v k l =
+    end-calls (begun p k .number) (start-left (begun p k .client) (l .end))
+    (written (key-refusal sixteen (plan-of p) k xs (length (l .key-buffer))) (key sixteen (plan-of p) xs k) (l .key-buffer)) fs v (l .buffer)
+
+unfoldable pub Same-given : Type 0
+Same-given = (p : Plan) (xs fs : List ℕ) (v k : ℕ) (l : Lent) → calls p xs fs v k l ≡ client.calls p xs fs v k (l .key-buffer) (l .buffer)
+
+unfoldable pub Shown-is-sent : Type 0
+Shown-is-sent =
+    (p : Plan) (v c : ℕ) (xs : List ℕ) (x : Table) (lent : (k : ℕ) → Lent) → plan-good (plan-of p) ≡ true → usable (plan-of p) v ≡ true →
+    list-good sixteen (plan-of p) xs ≡ true → admissible sixteen (plan-of p) x → ((k : ℕ) → 1 ≤ k → k ≤ p .users → Room p k (lent k)) →
+    shown sixteen (plan-of p) v c xs x ≡
+    record {
+      firsts = map (λ k. calls p xs (x k) v k (lent k) .message) (span (p .users) 1);
+      replies = map (λ k. calls p xs (x k) v k (lent k) .part) (users-in (plan-of p) v);
+      keys = map (λ k. calls p xs (x k) v k (lent k) .key-given) (users-in (plan-of p) c);
+    }
