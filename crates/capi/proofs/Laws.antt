@@ -1,12 +1,10 @@
 -- Laws of the airfield end on a lent array.
---   stage-back, stage-forth          a stage of the code and of the definitions
---   number-back, number-forth        a stage and its number say the same
---   stage-moved                      the array with another stage
---   end-same                         a client whose stage has the array's number is what the array stands for
+--   stage-back                       a stage of the code, from that of the definitions
+--   stage-moved                      the array with another stage stands for the end at that stage
 --   start-taken, start-refused       what start hands back and leaves
 --   kept-taken, kept-refused, part-taken, part-refused      what the calls leave, and the part
 -- Assumes nothing.
-use mathlib.Core.Path.{_≡_, refl, sym, ap, _∙_}
+use mathlib.Core.Path.{_≡_, refl, ap, _∙_}
 use mathlib.Core.List.{List}
 use Prim.Native.Nat.{ℕ, zero, suc, _+_, _<_}
 use native.Mathlib.Omega.{arith}
@@ -31,13 +29,7 @@ stage-back Fresh = refl
 stage-back Sent = refl
 stage-back (Answered v) = refl
 
-pub stage-forth : (g : scheme.Stage) → stage-of (code-stage g) ≡ g
-unfolding code-stage stage-of
-stage-forth scheme.fresh = refl
-stage-forth scheme.sent = refl
-stage-forth (scheme.answered v) = refl
-
-pub number-forth : (g : scheme.Stage) → stage-of-number (stage-number g) ≡ g
+number-forth : (g : scheme.Stage) → stage-of-number (stage-number g) ≡ g
 unfolding stage-of-number stage-number
 number-forth scheme.fresh = refl
 number-forth scheme.sent = refl
@@ -52,7 +44,8 @@ stage-moved e l g =
     let n = stage-number (stage-of g) in
     let same : getD (set e 5 n) 5 0 ≡ n = getD-set-same e 5 n 0 (omega arith) in
     let other : (i : ℕ) → i < 5 → getD (set e 5 n) i 0 ≡ getD e i 0 = λ i h. getD-set-other e 5 i n 0 (omega arith) in
-    let stage : code-stage (stage-of-number (getD (set e 5 n) 5 0)) ≡ g = ap (λ (m : ℕ). code-stage (stage-of-number m)) same ∙ ap code-stage (number-forth (stage-of g)) ∙ stage-back g in
+    let stage : code-stage (stage-of-number (getD (set e 5 n) 5 0)) ≡ g =
+    ap (λ (m : ℕ). code-stage (stage-of-number m)) same ∙ ap code-stage (number-forth (stage-of g)) ∙ stage-back g in
     λ i.
     record {
       plan = code-plan (other 0 (omega arith) i) (other 1 (omega arith) i) (other 2 (omega arith) i) (other 3 (omega arith) i);
@@ -62,7 +55,8 @@ stage-moved e l g =
 
 -- ---- what the calls hand back and leave
 module _ {n : ℕ} (p : Plan) (k : ℕ) (e : List ℕ) where
-  pub start-taken : n ≡ 0 → let s = begun-with n p k in (s .number ≡ 0) × (start-left (s .client) e ≡ end-numbers (record { plan = p; user = k; stage = Fresh }))
+  pub start-taken : n ≡ 0 → let s = begun-with n p k in
+      (s .number ≡ 0) × (start-left (s .client) e ≡ end-numbers (record { plan = p; user = k; stage = Fresh }))
   unfolding begun-with start-left
   start-taken z = rw z (refl, refl)
 

@@ -18,7 +18,6 @@ use Prim.Native.Nat.{ℕ}
 use lib.ListN.{length, take, drop, replicate}
 use Rattle.scheme.specs.Scheme.{Plan, plan-good, is-user, key-length, reply}
 use Rattle.plan.specs.declared.Plan as code
-use Rattle.plan.specs.Plan.{plan-of}
 use Rattle.plan.specs.Lengths.{key-len}
 use Rattle.client.specs.declared.Client.{Client}
 use Rattle.client.specs.Client.{begun, first-answer, reply-answer, part-of}

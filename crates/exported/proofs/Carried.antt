@@ -1,7 +1,7 @@
 -- What the service holds was put in by records since the last open.
---   Carried                       the held elements of a user are those of a function
+--   Carried, nothing-carried      the held elements of a user are those of a list
 --   steps-first, steps-reply      a record that carries none but those keeps it so
---   steps-gathered                while replying, the survivors are the users with all places held
+--   Survived, steps-survived      while replying, the survivors are the users with all places held
 --   run-keeps                     what every record keeps, a list of calls keeps
 -- Assumes nothing.
 use mathlib.Core.Path.{_≡_, refl, sym, ap, _∙_}
@@ -12,7 +12,7 @@ use Prim.Native.Nat.{ℕ}
 use lib.Dec.{eqb}
 use lib.ListN.{getD}
 use borrow.Author.Tests.{eqb-true}
-use Rattle.scheme.specs.Scheme.{Arithmetic, sixteen, places}
+use Rattle.scheme.specs.Scheme.{Arithmetic, sixteen}
 use Rattle.scheme.specs.Service.{Phase, unplanned, idle, gathering, replying, is-gathering, is-replying, State, nothing, is-held, element-of, with-element, gathered, Record, plan-record, open-record, first-record, close-record, reply-record, finish-record, Answer, refusal, planned-state, opened-state, idle-state, next-state, Steps, refuses, accepts, totals-up, disagrees}
 use Rattle.scheme.proofs.Tests.{both, holds}
 use Rattle.scheme.proofs.Well.{test-held}
@@ -22,7 +22,7 @@ use Rattle.exported.specs.Runs.{Call, record-of, leaves, run}
 use Rattle.exported.specs.Round.{Each, First-of, Reply-of}
 use Rattle.exported.proofs.Runs.{step-right}
 
--- wherever user k's element is held, it is f's
+-- wherever an element of user k is held, it is the list's
 pub record Carried (k : ℕ) (f : List ℕ) (held : (k at : ℕ) → Option ℕ) : Type 0 where
   pub right : (i : ℕ) → is-held (held k i) ≡ true → element-of (held k i) ≡ getD f i 0
 

@@ -16,7 +16,7 @@ use Rattle.service.specs.Promise.{told}
 use Rattle.finish.specs.Finish as Finish
 use Rattle.capi.specs.Ends as Ends
 use Rattle.capi.specs.Lent as Lent
-use Rattle.exported.specs.Runs.{number-of, leaves, given, answers}
+use Rattle.exported.specs.Runs.{number-of, leaves, handed, answers}
 use Rattle.exported.specs.Shown.{end-calls, calls}
 use Rattle.exported.specs.Example.{example-given, example-calls, Example-right}
 
@@ -32,9 +32,10 @@ unfolding inverse inverse-from modular-laws laws16 point padded unknown-at
     Client.stage-of Client.stage-of-number Client.stage-number Client.begun-with Client.moved
     View.phase-of View.stored View.look View.view
     Calls.after Calls.nothing-first Calls.nothing-reply Calls.plan-refusal Calls.planned Calls.plan-step Calls.open-refusal Calls.opened
-    Calls.open-step Calls.first-refusal Calls.first-left Calls.reply-refusal Calls.reply-left Calls.close-refusal Calls.closed Calls.close-answer Calls.close-step told
+    Calls.open-step Calls.first-refusal Calls.first-left Calls.reply-refusal Calls.reply-left Calls.close-refusal
+    Calls.closed Calls.close-answer Calls.close-step told
     Finish.rows-of Finish.values-of Finish.choice-of Finish.choice Finish.finish-refusal Finish.finish-answer Finish.finish-step Finish.finished
     Ends.code-stage Ends.end-at Ends.end-numbers Ends.start-left Ends.kept Ends.part-by
     Lent.phase-at Lent.phase-number Lent.head-at Lent.numbers Lent.left Lent.plan-left Lent.open-left Lent.close-left Lent.finish-left Lent.finish-totals
-    number-of leaves given answers end-calls calls example-given example-calls
+    number-of leaves handed answers end-calls calls example-given example-calls
 example-right = record { user-1 = refl; user-2 = refl; user-3 = refl; answered = refl }

@@ -4,7 +4,7 @@
 -- Assumes nothing.
 use mathlib.Core.Path.{_≡_, refl, sym, ap, ap₂, _∙_, subst}
 use mathlib.Core.Bool.{Bool, true, false, _&&_, cond}
-use Prim.Native.Nat.{ℕ, _+_, _*_, _-_, _≤_, _<_}
+use Prim.Native.Nat.{ℕ, _+_, _*_, _-_, _≤_}
 use native.Mathlib.Nat.{mul-comm, mul-assoc, add-mul, mul-le-mul}
 use native.Mathlib.Omega.{arith}
 use lib.Dec.{leb}
@@ -38,7 +38,8 @@ module _ (p : Plan) (g : Good p) where
   few =
       let a = all-of-in _ (span 9 0) computed (p .users) (in-span 9 0 (p .users) (omega arith) (omega arith)) in
       let b = all-of-in _ (span (p .users) 0) a (p .threshold) (in-span (p .users) 0 (p .threshold) (omega arith) (omega arith)) in
-      let c = both _ _ (all-of-in (fits (p .users) (p .threshold)) (span (p .threshold - 1) 1) b (p .collusion) (in-span (p .threshold - 1) 1 (p .collusion) (omega arith) (omega arith))) in
+      let i = in-span (p .threshold - 1) 1 (p .collusion) (omega arith) (omega arith) in
+      let c = both _ _ (all-of-in (fits (p .users) (p .threshold)) (span (p .threshold - 1) 1) b (p .collusion) i) in
       (leb-true _ _ (c .0), leb-true _ _ (c .1))
 
 -- M taken out

@@ -7,7 +7,7 @@ use mathlib.Core.Path.{_≡_, refl, sym, ap, _∙_, subst}
 use mathlib.Core.Logic.{_≢_}
 use mathlib.Core.Bool.{Bool, true, false}
 use mathlib.Core.List.{List, [], _∷_, map}
-use Prim.Native.Nat.{ℕ, zero, suc, _≤_, _<_}
+use Prim.Native.Nat.{ℕ, zero, suc}
 use native.Mathlib.Omega.{arith}
 use lib.Dec.{leb}
 use lib.ListN.{getD, take}
@@ -32,8 +32,8 @@ use Rattle.capi.specs.Lent.{Arrays, state, finish-totals}
 use Rattle.capi.proofs.Stands.{calls-stand}
 use Rattle.round.specs.Round as round
 use Rattle.round.proofs.Round as round-proved
-use Rattle.exported.specs.Runs.{Call, open-call, finish-call, record-of, zeros, plan-in, number-of, leaves, run}
-use Rattle.exported.specs.Shown.{Lent, calls, Same-given}
+use Rattle.exported.specs.Runs.{Call, open-call, record-of, zeros, plan-in, number-of, leaves, run}
+use Rattle.exported.specs.Shown.{calls, Same-given}
 use Rattle.exported.specs.Round.{Each, First-of, Reply-of, Sent-in, Round-right}
 use Rattle.exported.proofs.Runs.{step-right, run-formed, zeros-formed}
 use Rattle.exported.proofs.Shown.{same-given}
@@ -65,7 +65,8 @@ finishes s n11 n12 n15 =
     record { replying = b .0; untested = simp (a .0, b .0, d .0) }
 
 -- the totals that a taken finish gives are its first L places, and 0 behind them
-totals-padded : (s : Service) (n : ℕ) → finish-answer n s .number ≡ 0 → let ts = finish-answer n s .totals in ts ≡ padded 96 (take (places (plan-of (s .head .plan))) ts)
+totals-padded : (s : Service) (n : ℕ) → finish-answer n s .number ≡ 0 → let ts = finish-answer n s .totals in
+    ts ≡ padded 96 (take (places (plan-of (s .head .plan))) ts)
 unfolding finish-answer totals-by totals view
 totals-padded s zero z =
     let t = total-of sixteen (plan-of (s .head .plan)) (s .head .survivors) (values (view s .firsts)) (choice s) in
@@ -126,15 +127,21 @@ round-right before cs r xs x lent o e n11 n12 n15 ok rows room sent =
     f : Finishes s
     f = finishes s n11 n12 n15
 
-    same : (k : ℕ) → calls (plan-in a) xs (x k) (s .head .survivors) k (lent k) ≡ client.calls (plan-in a) xs (x k) (s .head .survivors) k (lent k .key-buffer) (lent k .buffer)
-    same k = same-given (plan-in a) xs (x k) (s .head .survivors) k (lent k)
+    v : ℕ
+    v = s .head .survivors
+
+    same : (k : ℕ) → calls (plan-in a) xs (x k) v k (lent k) ≡ client.calls (plan-in a) xs (x k) v k (lent k .key-buffer) (lent k .buffer)
+    same k = same-given (plan-in a) xs (x k) v k (lent k)
+
+    survivor : (k : ℕ) → in-set v k ≡ true → in-set (gathered (view s)) k ≡ true
+    survivor k m = ap (λ (u : ℕ). in-set u k) (sym (survived start begun r e cs (f .replying))) ∙ m
 
     held : round.Sent-in s xs x (λ k. lent k .key-buffer) (λ k. lent k .buffer)
     held =
         record {
           first = λ k i lo hi m h.
               first-carried start begun r e cs k _ (sent .first k lo hi m) .right i
-              (complete-held (plan-of (plan-in a)) (view s .firsts) (places (plan-of (plan-in a))) k lo hi (ap (λ (v : ℕ). in-set v k) (sym (survived start begun r e cs (f .replying))) ∙ m) i h)
+              (complete-held (plan-of (plan-in a)) (view s .firsts) (places (plan-of (plan-in a))) k lo hi (survivor k m) i h)
               ∙ ap (λ (g : Given). getD (g .message) i 0) (same k);
           answer = λ k b lo hi m h.
               reply-carried start begun r e cs k _ (sent .answer k lo hi m) .right b

@@ -1,6 +1,6 @@
 -- Calls on lent arrays are runs of document 01's service.
 --   step-right      one call, on arrays that stand for a well-formed state
---   run-formed      a list of calls keeps them so
+--   run-formed, zeros-formed    a list of calls keeps them so, and zeros are such
 --   runs-right, opens-as-new    the statements of specs/Runs.antt
 -- Assumes nothing.
 use mathlib.Core.Path.{_≡_, refl, sym, ap, _∙_, subst}
@@ -27,7 +27,7 @@ use Rattle.finish.proofs.Steps.{finish-steps}
 use Rattle.capi.specs.Lent.{Arrays, arrays-of, state, left, plan-left, open-left, finish-totals}
 use Rattle.capi.specs.Promise.{New-stands}
 use Rattle.capi.proofs.Stands.{new-stands, calls-stand}
-use Rattle.exported.specs.Runs.{Call, plan-call, open-call, first-call, close-call, reply-call, finish-call, record-of, zeros, plan-in, number-of, leaves, given, answer-of, run, answers, Run-right, Runs-right, Opens-as-new}
+use Rattle.exported.specs.Runs.{Call, plan-call, open-call, first-call, close-call, reply-call, finish-call, record-of, zeros, plan-in, number-of, leaves, handed, answer-to, run, answers, Runs-right, Opens-as-new}
 
 -- the state that the service's own call hands back is the one that the arrays stand for
 module _ (a : Arrays) (w : Formed (state a)) where
@@ -41,8 +41,8 @@ module _ (a : Arrays) (w : Formed (state a)) where
   totals-told zero ts o = refl
   totals-told (suc n) ts o = refl
 
-  pub step-right : (c : Call) → Is-step (record-of c) (state a) (answer-of c a) (state (leaves c a))
-  unfolding record-of number-of leaves given first-step reply-step finish-totals Plan-steps Open-steps First-steps Reply-steps Close-steps Finish-steps
+  pub step-right : (c : Call) → Is-step (record-of c) (state a) (answer-to c a) (state (leaves c a))
+  unfolding record-of number-of leaves handed first-step reply-step finish-totals Plan-steps Open-steps First-steps Reply-steps Close-steps Finish-steps
   step-right (plan-call p) = stands (calls-stand a .plan-stands p) (plan-steps (state a) p w)
   step-right (open-call r) = stands (calls-stand a .open-stands r) (open-steps (state a) r w)
   step-right (first-call k i x) = stands (calls-stand a .first-stands k i x) (first-steps (state a) k i x w)
@@ -93,6 +93,7 @@ opens-as-new cs r e =
     let p = plan-in a in
     let w = run-formed cs zeros zeros-formed in
     let same = proved.opens-as-new (state a) r w e in
-    let new : open-step (state (plan-left zeros p)) r ≡ open-step (planned p) r = ap (λ (s : Service). open-step s r) (plan-taken p (w .well .good (test-held _ 10 _ e .0))) in
+    let new : open-step (state (plan-left zeros p)) r ≡ open-step (planned p) r =
+    ap (λ (s : Service). open-step s r) (plan-taken p (w .well .good (test-held _ 10 _ e .0))) in
     left-taken e _ a ∙ ap (λ (t : Stepped). arrays-of (t .service)) (same ∙ sym new)
     ∙ sym (left-taken (ap (λ (t : Stepped). t .number) (new ∙ sym same) ∙ e) _ _)

@@ -10,14 +10,14 @@ use Rattle.plan.specs.declared.Plan.{Plan}
 use Rattle.plan.specs.Plan.{plan-of}
 use Rattle.client.specs.declared.Stage.the-variants.{Fresh}
 use Rattle.client.specs.declared.Client.{Client}
-use Rattle.client.specs.Client.{stage-of, stage-of-number, stage-number, begun-with, first-answer, message-left, part-of}
+use Rattle.client.specs.Client.{stage-of, stage-of-number, stage-number, begun-with, message-left, part-of}
 use Rattle.client.specs.Shown as client
-use Rattle.client.specs.Shown.{Given, client-calls}
+use Rattle.client.specs.Shown.{client-calls}
 use Rattle.client.proofs.Shown as proved
 use Rattle.capi.specs.Ends.{code-stage, end-at, end-numbers, start-left}
 use Rattle.capi.specs.Promise.{Ends-stand, Part-is-reply}
 use Rattle.capi.proofs.Promise.{ends-stand, part-is-reply}
-use Rattle.exported.specs.Shown.{Lent, end-calls, calls, Same-given, Shown-is-sent}
+use Rattle.exported.specs.Shown.{end-calls, calls, Same-given, Shown-is-sent}
 
 -- from the array that start leaves
 end-given : (n : ℕ) (p : Plan) (k : ℕ) (e ks fs : List ℕ) (v : ℕ) (o : List ℕ) → let b = begun-with n p k in

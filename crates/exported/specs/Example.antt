@@ -1,6 +1,6 @@
 -- Document 01's example round through the exported calls, on lent memory, computed.
---   example-plan, example-list, example-figures     3 2 1 1, the random list, a row for each user
---   example-given      what a user's calls give, for set 5
+--   example-plan, example-list      3 2 1 1, and the random list
+--   example-given, message-of, share-of      what a user's calls give, for set 5
 --   example-calls      the service's calls: user 2 comes too late, and users 1 and 3 reply with what their calls gave
 --   Example-right      keys, first messages and parts; what the service's calls answer, from zeros
 -- Assumes nothing: these are definitions.

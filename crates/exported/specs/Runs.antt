@@ -2,7 +2,7 @@
 --   Call, record-of        a call with what it is given; the record of document 01 that it stands for
 --   zeros, plan-in         the arrays of a new service; the plan that arrays hold
 --   number-of, leaves      the number that a call hands back, and the arrays that it leaves
---   given, answer-of       what it hands back beside the number, and with it: document 01's answer
+--   handed, answer-to      what it hands back beside the number, and with it: document 01's answer
 --   run, answers           the arrays after a list of calls, and what the calls answered
 --   Runs-right             calls on arrays of zeros are a run of document 01's service, whatever they are given
 --   Opens-as-new           an accepted open leaves the arrays that it leaves of zeros with the same plan
@@ -10,7 +10,7 @@
 use mathlib.Core.Path.{_≡_}
 use mathlib.Core.List.{List, [], _∷_, map}
 use Prim.Native.Nat.{ℕ}
-use lib.ListN.{getD, take, replicate}
+use lib.ListN.{take, replicate}
 use Rattle.scheme.specs.Scheme.{sixteen, places}
 use Rattle.scheme.specs.Service.{new-state, Record, plan-record, open-record, first-record, close-record, reply-record, finish-record, Answer, silent, planned, opened, closed, totalled, Runs}
 use Rattle.plan.specs.declared.Plan.{Plan}
@@ -61,16 +61,16 @@ leaves (reply-call k b x) a = arrays (a .head) (a .first) (reply-left (head-at (
 leaves (finish-call o) a = finish-left a
 
 -- of a taken call: the set that close hands back; the totals are the first L of the lent buffer as finish leaves it
-unfoldable pub given : Call → Arrays → Answer
-given (plan-call p) a = planned (plan-of p)
-given (open-call r) a = opened r
-given (first-call k i x) a = silent
-given close-call a = closed (state a .head .round) (closed-answer (close-step (state a)) .set)
-given (reply-call k b x) a = silent
-given (finish-call o) a = totalled (state a .head .round) (take (places (plan-of (plan-in a))) (finish-totals a o))
+unfoldable pub handed : Call → Arrays → Answer
+handed (plan-call p) a = planned (plan-of p)
+handed (open-call r) a = opened r
+handed (first-call k i x) a = silent
+handed close-call a = closed (state a .head .round) (closed-answer (close-step (state a)) .set)
+handed (reply-call k b x) a = silent
+handed (finish-call o) a = totalled (state a .head .round) (take (places (plan-of (plan-in a))) (finish-totals a o))
 
-abbrev pub answer-of : Call → Arrays → Answer
-answer-of c a = told (number-of c a) (given c a)
+abbrev pub answer-to : Call → Arrays → Answer
+answer-to c a = told (number-of c a) (handed c a)
 
 unfoldable pub run : List Call → Arrays → Arrays
 run [] a = a
@@ -78,7 +78,7 @@ run (c ∷ cs) a = run cs (leaves c a)
 
 unfoldable pub answers : List Call → Arrays → List Answer
 answers [] a = []
-answers (c ∷ cs) a = answer-of c a ∷ answers cs (leaves c a)
+answers (c ∷ cs) a = answer-to c a ∷ answers cs (leaves c a)
 
 -- what document 01 promises of every run (Demand-2 of scheme/specs/ServicePromise.antt) is so promised of the calls
 pub record Run-right (cs : List Call) : Type 0 where

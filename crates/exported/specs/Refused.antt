@@ -1,0 +1,27 @@
+-- "The state and every lent buffer stay as before the call", of the exported calls, whatever the lent memory holds.
+--   Refused-unchanged   of key maker, airfield end and service
+-- Assumes nothing: these are definitions.
+use mathlib.Core.Path.{_≡_}
+use mathlib.Core.Logic.{_≢_}
+use mathlib.Core.List.{List}
+use Prim.Native.Nat.{ℕ}
+use lib.ListN.{length}
+use Rattle.scheme.specs.Scheme.{sixteen, key, key-refusal, written}
+use Rattle.plan.specs.declared.Plan.{Plan}
+use Rattle.plan.specs.Plan.{plan-of}
+use Rattle.client.specs.Client.{begun, first-answer, message-left, reply-answer}
+use Rattle.capi.specs.Ends.{end-at, start-left, kept, part-answer}
+use Rattle.capi.specs.Lent.{Arrays, finish-totals}
+use Rattle.exported.specs.Runs.{Call, finish-call, number-of, leaves}
+
+-- the key's buffer; the end's array; array and buffer; array, and no part; the service's arrays; the buffer for totals
+pub record Refused-unchanged : Type 0 where
+  pub key-kept : (p : Plan) (k : ℕ) (xs o : List ℕ) → let n = key-refusal sixteen (plan-of p) k xs (length o) in n ≢ 0 →
+      written n (key sixteen (plan-of p) xs k) o ≡ o
+  pub start-kept : (p : Plan) (k : ℕ) (e : List ℕ) → begun p k .number ≢ 0 → start-left (begun p k .client) e ≡ e
+  pub first-kept : (e ks fs o : List ℕ) → let a = first-answer (end-at e) ks fs (length o) in a .number ≢ 0 →
+      (kept a e ≡ e) × (message-left (end-at e) ks fs o ≡ o)
+  pub reply-kept : (e ks : List ℕ) (v : ℕ) → let p = part-answer (end-at e) ks v in p .number ≢ 0 →
+      (kept (reply-answer (end-at e) ks v) e ≡ e) × (p .start ≡ 0) × (p .count ≡ 0)
+  pub arrays-kept : (c : Call) (a : Arrays) → number-of c a ≢ 0 → leaves c a ≡ a
+  pub totals-kept : (a : Arrays) (o : List ℕ) → number-of (finish-call o) a ≢ 0 → finish-totals a o ≡ o
