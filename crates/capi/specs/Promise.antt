@@ -1,8 +1,8 @@
 -- What callers in C and Rust lean on.
 --   Same-length       one length serves every user's key
---   Ends-stand        what the calls leave in an end's array stands for the end that the client's own calls hand back, so that what
---                     client/specs/Promise.antt says of those holds of the array
---   Part-is-reply     the part that a reply names is the one that the client's own reply hands back
+--   End-stands, Ends-stand    what the calls leave in an end's array stands for the end that the client's own calls hand back, so that
+--                     what client/specs/Promise.antt says of those holds of the array
+--   Part-given, Part-is-reply the part that a reply names is the one that the client's own reply hands back
 --   Same-part         "the same set asked again gets the same part", and the array stays
 --   One-set           the array that a taken reply leaves lets no other set be answered
 --   New-stands        arrays of zeros stand for a new service
@@ -16,7 +16,7 @@ use mathlib.Core.List.{List}
 use mathlib.Core.Option.{some}
 use Prim.Native.Nat.{ℕ}
 use lib.ListN.{length, take, drop, replicate}
-use Rattle.scheme.specs.Scheme.{Plan, plan-good, is-user, key-length, reply}
+use Rattle.scheme.specs.Scheme.{Plan, plan-good, is-user, key-length}
 use Rattle.plan.specs.declared.Plan as code
 use Rattle.plan.specs.Lengths.{key-len}
 use Rattle.client.specs.declared.Client.{Client}

@@ -34,7 +34,7 @@ use Rattle.round.specs.Round as round
 use Rattle.round.proofs.Round as round-proved
 use Rattle.exported.specs.Runs.{Call, open-call, record-of, zeros, plan-in, number-of, leaves, run}
 use Rattle.exported.specs.Shown.{calls, Same-given}
-use Rattle.exported.specs.Round.{Each, First-of, Reply-of, Sent-in, Round-right}
+use Rattle.exported.specs.Round.{Each, First-of, Reply-of, Round-right}
 use Rattle.exported.proofs.Runs.{step-right, run-formed, zeros-formed}
 use Rattle.exported.proofs.Shown.{same-given}
 use Rattle.exported.proofs.Carried.{Carried, nothing-carried, steps-first, steps-reply, Survived, steps-survived, run-keeps}

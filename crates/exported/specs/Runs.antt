@@ -4,7 +4,7 @@
 --   number-of, leaves      the number that a call hands back, and the arrays that it leaves
 --   handed, answer-to      what it hands back beside the number, and with it: document 01's answer
 --   run, answers           the arrays after a list of calls, and what the calls answered
---   Runs-right             calls on arrays of zeros are a run of document 01's service, whatever they are given
+--   Run-right, Runs-right  calls on arrays of zeros are a run of document 01's service, whatever they are given
 --   Opens-as-new           an accepted open leaves the arrays that it leaves of zeros with the same plan
 -- Assumes nothing: these are definitions.
 use mathlib.Core.Path.{_≡_}

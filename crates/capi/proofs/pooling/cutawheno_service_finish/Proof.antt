@@ -1,6 +1,6 @@
 -- `capi::pooling::cutawheno_service_finish` meets its contract: the leaf's step decides, on the state that the arrays stand for.
 -- Assumes nothing.
-use mathlib.Core.Path.{_≡_, sym, ap, _∙_}
+use mathlib.Core.Path.{sym, ap, _∙_}
 use borrow.Author.Needs.{needs}
 use Rattle.scheme.proofs.Refusals.{written-taken, written-refused}
 use Rattle.service.specs.declared.Head.{Head}
