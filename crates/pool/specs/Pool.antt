@@ -1,57 +1,144 @@
--- What the program keeps between reads.
---   kept-count      how many bytes behind those used wait for the next read
---   waiting, ended  the run goes on; it is over
---   Fills           one read: the bytes that waited stay in front
---   after, Takes    what a feed leaves for the next turn
---   Goes-on         one turn after which the run goes on
+-- What the code leaves in its values and its two buffers.
+--   live-of                 what a turn leaves, as the code's value
+--   quieted, is-over        nothing to write; the run is over
+--   Leaves                  what a step leaves: its value, and both buffers whole
+--   brought, Untouched      what a read brings; no read is made where none is due
+--   read-as, Fills, Ready   one read: the bytes that waited stay in front; there is room for what was read, and for a line
+--   step-of, stepped        one step of the code's value
+--   write-as, Goes-on       one write
+--   Writes, settled         how far a text is written; the value behind that
+--   longest, Sound          there is room for a read where one is due, and for a line
+--   Turned                  one turn: a read, its step, and how far its text was written
+--   Ran                     a run from the start on
 -- Of what is read and written no contract of the C library speaks. Assumes nothing: these are definitions.
 use mathlib.Core.Path.{_≡_}
 use mathlib.Core.Bool.{Bool, true, false, cond}
 use mathlib.Core.List.{List}
-use Prim.Native.Nat.{ℕ, _+_, _-_, _≤_}
-use lib.Dec.{leb}
+use Prim.Native.Nat.{ℕ, _+_, _-_, _^_, _≤_, _<_}
+use lib.Dec.{eqb, leb}
 use lib.ListN.{length, take, drop}
 use lib.Seq.{sets}
-use Rattle.service.specs.declared.Service.{Service}
-use Rattle.stream.specs.declared.Stop.{Stop}
-use Rattle.stream.specs.declared.Stop.the-variants.{Used, Unknown, Partial, Full, Far}
-use Rattle.stream.specs.declared.Fed.{Fed}
-use Rattle.stream.specs.Stream.{fed}
+use Rattle.lines.specs.Put.{room}
 use Rattle.pool.specs.declared.Read.{Read}
-use Rattle.pool.specs.declared.Read.the-variants.{Bytes}
+use Rattle.pool.specs.declared.Read.the-variants.{Bytes, End, Again, Failed}
+use Rattle.pool.specs.declared.Why.{Why}
+use Rattle.pool.specs.declared.Why.the-variants.{WriteFailed}
+use Rattle.pool.specs.declared.Next.{Next}
+use Rattle.pool.specs.declared.Next.the-variants.{Await, Feed, Refuse, Over}
 use Rattle.pool.specs.declared.Live.{Live}
+use Rattle.pool.specs.declared.Wrote.{Wrote}
+use Rattle.pool.specs.Turns.{Came, bytes, ended, again, failed, Turn, step-by, sent, Turns}
 
--- the bytes from the place i to n of a buffer that has as many
-abbrev pub kept-count : (i n length : ℕ) → ℕ
-kept-count i n m = cond (leb n m) (n - i) 0
+abbrev pub live-of : Turn → Live
+live-of t = record { service = t .service; have = length (t .waiting); offset = t .offset; next = t .next; wrote = length (t .text) }
 
-abbrev pub waiting : Service → (have offset : ℕ) → (hungry : Bool) → Live
-waiting s k o h = record { service = s; have = k; offset = o; hungry = h; done = false }
+abbrev pub quieted : Live → Next → Live
+quieted l x = record { service = l .service; have = l .have; offset = l .offset; next = x; wrote = 0 }
 
-abbrev pub ended : Service → (offset : ℕ) → Live
-ended s o = record { service = s; have = 0; offset = o; hungry = false; done = true }
+unfoldable pub is-over : Next → Bool
+is-over Await = false
+is-over Feed = false
+is-over (Refuse y) = false
+is-over (Over y) = true
 
--- a read leaves in front what waited, and counts it; there is room for what it counts
+-- the bytes that wait stand at the front of the input's buffer, the text at the front of the output's, and all behind is as before
+pub record Leaves (t : Turn) (b b-now out out-now : List ℕ) (r : Live) : Type 0 where
+  pub result : r ≡ live-of t
+  pub input : b-now ≡ sets b 0 (t .waiting)
+  pub output : out-now ≡ sets out 0 (t .text)
+  pub inside : length (t .waiting) ≤ length b
+  pub fits : length (t .text) ≤ length out
+
+-- ---- ONE READ
+-- where the buffer had `have` bytes before the read, and has b behind it
+unfoldable pub brought : Read → (have : ℕ) → (b : List ℕ) → Came
+brought (Bytes n) h b = bytes (drop h (take n b))
+brought End h b = ended
+brought Again h b = again
+brought Failed h b = failed
+
+unfoldable pub Untouched : Next → Read → (b b-now : List ℕ) → Type 0
+Untouched Await r b b′ = Unit {0}
+Untouched Feed r b b′ = (r ≡ Again) × (b′ ≡ b)
+Untouched (Refuse y) r b b′ = (r ≡ Again) × (b′ ≡ b)
+Untouched (Over y) r b b′ = (r ≡ Again) × (b′ ≡ b)
+
+-- an answer of read that counts n more bytes: a failure or an interruption, the end, or that many bytes are there
+unfoldable pub read-as : (have n : ℕ) → (fails retry : Bool) → Read
+read-as h n f g = cond f (cond g Again Failed) (cond (eqb n 0) End (Bytes (h + n)))
+
+-- a read leaves in front what waited, and counts no more than there is room for
 pub record Fills (b b-now : List ℕ) (have : ℕ) (r : Read) : Type 0 where
+  pub count : ℕ
+  pub fails : Bool
+  pub retry : Bool
   pub front : take have b-now ≡ take have b
-  pub inside : (n : ℕ) → r ≡ Bytes n → (have ≤ n) × (n ≤ length b)
+  pub inside : have + count ≤ length b
+  pub result : r ≡ read-as have count fails retry
 
--- after a feed of n bytes, the first of which stood at the offset
-unfoldable pub after : Stop → Fed → (n offset : ℕ) → Live
-after Used f n o = waiting (f .service) 0 (o + f .at) true
-after Partial f n o = waiting (f .service) (n - f .at) (o + f .at) true
-after Full f n o = waiting (f .service) (n - f .at) (o + f .at) false
-after Unknown f n o = ended (f .service) (o + f .at)
-after Far f n o = ended (f .service) (o + f .at)
+pub record Ready (l : Live) (r : Read) (b out : List ℕ) : Type 0 where
+  pub have : l .have ≤ length b
+  pub line : room ≤ length out
+  pub inside : (n : ℕ) → r ≡ Bytes n → (l .have < n) × (n ≤ length b)
 
--- of the first n bytes of a buffer: where the run goes on, the state is that of feed, and the bytes behind those used stand in front
-pub record Takes (s : Service) (b b-now : List ℕ) (n o room : ℕ) (r : Live) : Type 0 where
-  pub on : r .done ≡ false → r ≡ after (fed s (take n b) o room .stop) (fed s (take n b) o room) n o
-  pub front : r .done ≡ false → b-now ≡ sets b 0 (take (r .have) (drop (fed s (take n b) o room .at) b))
+-- the bytes that wait stand at the front of the input's buffer b; n bytes of output fit
+abbrev pub step-of : (n : ℕ) → Next → Came → Live → (b : List ℕ) → Turn
+step-of n x c l b = step-by n x c (l .service) (take (l .have) b) (l .offset)
 
--- what waited was fed again, for there was no room for its lines; or fed with what was read behind it; or no byte was read
-pub data Goes-on (l : Live) (b b-now : List ℕ) (room : ℕ) (r : Live) : Type 0 where
-  again : l .hungry ≡ false → Takes (l .service) b b-now (l .have) (l .offset) room r → Goes-on l b b-now room r
-  more : (n : ℕ) (got : List ℕ) → l .hungry ≡ true → take (l .have) got ≡ take (l .have) b → l .have ≤ n
-      → Takes (l .service) got b-now n (l .offset) room r → Goes-on l b b-now room r
-  unread : l .hungry ≡ true → take (l .have) b-now ≡ take (l .have) b → r ≡ l → Goes-on l b b-now room r
+-- what a read brought, and the buffer b behind it, make of a value
+abbrev pub stepped : (n : ℕ) → Live → Read → (b : List ℕ) → Turn
+stepped n l r b = step-of n (l .next) (brought r (l .have) b) l b
+
+-- ---- ONE TURN
+-- an answer of write that counts n more bytes: it goes on behind them, or where it was interrupted
+unfoldable pub write-as : (at n : ℕ) → (retry : Bool) → Wrote
+write-as i n g = cond (eqb n 0) (record { at = i; ok = g }) (record { at = i + n; ok = true })
+
+pub record Goes-on (at n : ℕ) (w : Wrote) : Type 0 where
+  pub count : ℕ
+  pub retry : Bool
+  pub inside : at + count ≤ n
+  pub result : w ≡ write-as at count retry
+
+-- of n bytes: all, or fewer where a write failed
+pub record Writes (n : ℕ) (w : Wrote) : Type 0 where
+  pub inside : w .at ≤ n
+  pub all : w .ok ≡ leb n (w .at)
+
+unfoldable pub settled : Live → Wrote → Live
+settled l w =
+    cond (w .ok) (record { service = l .service; have = l .have; offset = l .offset; next = l .next; wrote = w .at })
+    (record { service = l .service; have = l .have; offset = l .offset; next = Over WriteFailed; wrote = w .at })
+
+-- the longest record, that of a first element
+abbrev pub longest : ℕ
+longest = 6
+
+-- there is room for a read where one is due, and for a line
+pub record Sound (l : Live) (b out : List ℕ) : Type 0 where
+  pub have : l .have ≤ length b
+  pub space : l .next ≡ Await → l .have < length b
+  pub line : room ≤ length out
+
+pub record Turned (l : Live) (b b-now out out-now : List ℕ) (r : Live) : Type 0 where
+  pub read : Read
+  pub got : List ℕ
+  pub put : ℕ
+  pub fills : Fills b got (l .have) read
+  pub due : Untouched (l .next) read b got
+  pub inside : put ≤ length (stepped (length out) l read got .text)
+  pub result : r ≡ live-of (sent put (stepped (length out) l read got))
+  pub input : b-now ≡ sets got 0 (stepped (length out) l read got .waiting)
+  pub output : out-now ≡ sets out 0 (stepped (length out) l read got .text)
+  pub kept : length (stepped (length out) l read got .waiting) ≤ length got
+
+-- ---- A RUN
+-- so many turns were made, and what the last left is handed back; it stops only where the run is over, or behind 2 ^ 64 - 1 turns
+pub record Ran (n : ℕ) (r : Live) : Type 0 where
+  pub count : ℕ
+  pub read : List ℕ
+  pub written : List ℕ
+  pub turn : Turn
+  pub turns : Turns n count read written turn
+  pub result : r ≡ live-of turn
+  pub ends : is-over (r .next) ≡ false → count ≡ 2 ^ 64 - 1

@@ -1,27 +1,30 @@
 // The pooling program of document 01: reads records from standard input and writes their lines to standard output, each as soon as its
 // record is whole. It stops at the end of the input, behind the line of refusal 7, or with a message where a read or a write fails.
-//   Live           what goes from read to read: the state and the bytes that wait
-//   main, turn     one read, the whole records that are there, their lines, and what is left kept for the next read
-//   take           feeds what was read, and writes the lines
-//   Read, fill     one read, and what came of it
-//   Wrote, write_from, write   all of a write, past interruptions
-//   keep           moves the bytes of a record that is not whole to the front
+//   Live, Next, Why     what goes from turn to turn: the state, the bytes that wait, what comes next, or why the run is over
+//   main, run           turn after turn, till the run is over
+//   turn                a read where one is due, a step, and its text written
+//   Read, ask, fill, read_as     one read where one is due, and what its answer means
+//   step, wait          what a read makes of the state: nothing is read or written here
+//   take, comes, keep   feeds what there is, and moves the bytes that are not used to the front
+//   refuse, quiet       the line of refusal 7; nothing to write
+//   Wrote, write, write_from, write_as     all of a write, past interruptions
+//   settle, tell        what comes behind a write; the message of a failure
 // No byte of output is made outside the crate stream.
 ghost use mathlib.Core.Path.{_≡_};
-ghost use mathlib.Core.Bool.{false};
-ghost use Prim.Native.Nat.{_≤_};
+ghost use Prim.Native.Nat.{_+_, _-_, _^_, _≤_, _<_};
 ghost use lib.ListN.{length, take, drop};
 ghost use lib.Seq.{sets};
-ghost use Rattle.stream.specs.Stream.{cut-left};
-ghost use Rattle.pool.specs.Pool.{kept-count, ended, Fills, Takes, Goes-on};
+ghost use Rattle.lines.specs.Put.{room};
+ghost use Rattle.pool.specs.declared.Next.the-variants.{Await, Refuse};
+ghost use Rattle.pool.specs.Turns.{again, comes, fed-turn};
+ghost use Rattle.pool.specs.Pool.{quieted, is-over, Leaves, brought, Untouched, read-as, Fills, Ready, step-of, stepped};
+ghost use Rattle.pool.specs.Pool.{write-as, Goes-on, Writes, settled, longest, Sound, Turned, Ran};
 use libc::STDIN_FILENO;
 use libc::STDOUT_FILENO;
 use service::Service;
 use stream::Stop;
 
-// The offset past which no more bytes are taken: far from the end of 64 bits.
-const FAR: u64 = 9223372036854775808;
-
+// How many bytes are there then; or the input has ended; or it is to be made again; or it failed.
 pub enum Read {
     Bytes(usize),
     End,
@@ -29,13 +32,31 @@ pub enum Read {
     Failed,
 }
 
-// `have` bytes wait at the front of the buffer, the first at `offset`; `hungry` where the next record needs more of them.
+// The input has ended behind a whole record; or within one; an unknown kind; offsets past 64 bits; or a read or a write failed.
+pub enum Why {
+    EndOfInput,
+    CutShort,
+    UnknownKind,
+    TooFar,
+    ReadFailed,
+    WriteFailed,
+}
+
+// A read; what waits is fed again, for there was no room for its lines; the line of refusal 7; nothing more.
+pub enum Next {
+    Await,
+    Feed,
+    Refuse(Why),
+    Over(Why),
+}
+
+// `have` bytes wait at the front of the input's buffer, the first at `offset`; the first `wrote` bytes of the output's are the text.
 pub struct Live {
     pub service: Service,
     pub have: usize,
     pub offset: u64,
-    pub hungry: bool,
-    pub done: bool,
+    pub next: Next,
+    pub wrote: usize,
 }
 
 pub struct Wrote {
@@ -43,76 +64,53 @@ pub struct Wrote {
     pub ok: bool,
 }
 
-// One read into buf behind its first `have` bytes: how many bytes are there then.
-fn fill(buf: &mut [u8], have: usize) -> Read
-    ensures { λ r. ⌜ Fills (now (buf .entry)) (now (buf .exit)) have r ⌝ }
+// What an answer of read means that counts so many more bytes.
+fn read_as(have: usize, more: usize, fails: bool, retry: bool) -> Read
+    requires { ⌜ have + more < 2 ^ 64 ⌝ }
+    ensures { λ r. ⌜ r ≡ read-as have more fails retry ⌝ }
 {
-    if buf.len() <= have {
-        return Read::Failed;
-    }
-    let got = libc::read(STDIN_FILENO, &mut buf[have..]);
-    if got == 0 {
-        return Read::End;
-    }
-    if got < 0 {
-        if os::errno() == libc::EINTR {
+    if fails {
+        if retry {
             return Read::Again;
         }
         return Read::Failed;
     }
+    if more == 0 {
+        return Read::End;
+    }
+    Read::Bytes(have + more)
+}
+
+// One read into buf behind its first `have` bytes.
+fn fill(buf: &mut [u8], have: usize) -> Read
+    requires { ⌜ have < length (now buf) ⌝ }
+    ensures { λ r. ⌜ Fills (now (buf .entry)) (now (buf .exit)) have r ⌝ }
+{
+    let got = libc::read(STDIN_FILENO, &mut buf[have..]);
     let n = io::count(got, &buf[have..]);
-    Read::Bytes(have + n)
+    let retry = os::errno() == libc::EINTR;
+    read_as(have, n, got < 0, retry)
 }
 
-// One write of text from `at` on: how far text is written then, and whether to go on.
-fn write_from(text: &[u8], at: usize) -> Wrote
-    requires { ⌜ at ≤ length (now text) ⌝ }
-    ensures { λ r. ⌜ r .at ≤ length (now (text .entry)) ⌝ }
+// A read where one is due.
+fn ask(next: Next, buf: &mut [u8], have: usize) -> Read
+    requires { ⌜ (have ≤ length (now buf)) × (next ≡ Await → have < length (now buf)) ⌝ }
+    ensures { λ r. ⌜ Fills (now (buf .entry)) (now (buf .exit)) have r × Untouched next r (now (buf .entry)) (now (buf .exit)) ⌝ }
 {
-    let put = libc::write(STDOUT_FILENO, &text[at..]);
-    if 0 < put {
-        let n = io::count(put, &text[at..]);
-        return Wrote {
-            at: at + n,
-            ok: true,
-        };
+    match next {
+        Next::Await => fill(buf, have),
+        Next::Feed => Read::Again,
+        Next::Refuse(_) => Read::Again,
+        Next::Over(_) => Read::Again,
     }
-    if os::errno() == libc::EINTR {
-        return Wrote { at, ok: true };
-    }
-    os::fail(b"pool: standard output");
-    Wrote { at, ok: false }
 }
 
-// Writes all of text, and answers whether it could.
-fn write(text: &[u8]) -> bool {
-    let mut at = 0;
-    let mut turns = u64::MAX;
-    while 0 < turns {
-        if text.len() <= at {
-            return true;
-        }
-        let wrote = write_from(text, at);
-        if !wrote.ok {
-            return false;
-        }
-        at = wrote.at;
-        turns -= 1;
-    }
-    false
-}
-
-// Moves the bytes from `at` to n to the front of buf, and answers how many they are: none of a buf with fewer than n.
+// Moves the bytes from `at` to n to the front of buf, and answers how many they are.
 fn keep(buf: &mut [u8], at: usize, n: usize) -> usize
-    ensures count { λ r. ⌜ r ≡ kept-count at n (length (now (buf .entry))) ⌝ }
-    ensures left { λ r. ⌜ now (buf .exit) ≡ sets (now (buf .entry)) 0 (take r (drop at (now (buf .entry)))) ⌝ }
+    requires { ⌜ (at ≤ n) × (n ≤ length (now buf)) ⌝ }
+    ensures count { λ r. ⌜ r ≡ n - at ⌝ }
+    ensures left { λ r. ⌜ now (buf .exit) ≡ sets (now (buf .entry)) 0 (drop at (take n (now (buf .entry)))) ⌝ }
 {
-    if n < at {
-        return 0;
-    }
-    if buf.len() < n {
-        return 0;
-    }
     let left = n - at;
     let mut i = 0;
     while i < left {
@@ -122,112 +120,236 @@ fn keep(buf: &mut [u8], at: usize, n: usize) -> usize
     left
 }
 
-fn stopped(service: Service, offset: u64) -> Live
-    ensures { λ r. ⌜ r ≡ ended service offset ⌝ }
+fn comes(stop: Stop) -> Next
+    ensures { λ r. ⌜ r ≡ comes stop ⌝ }
 {
-    Live {
-        service,
-        have: 0,
-        offset,
-        hungry: false,
-        done: true,
+    match stop {
+        Stop::Used => Next::Await,
+        Stop::Unknown => Next::Refuse(Why::UnknownKind),
+        Stop::Partial => Next::Await,
+        Stop::Full => Next::Feed,
+        Stop::Far => Next::Over(Why::TooFar),
     }
 }
 
-// The line of refusal 7, and the end of the run.
-fn refuse(service: Service, offset: u64, out: &mut [u8]) -> Live
-    ensures result { λ r. ⌜ r ≡ ended service offset ⌝ }
-    ensures left { λ r. ⌜ now (out .exit) ≡ cut-left offset (now (out .entry)) ⌝ }
+// Feeds the first n bytes of buf, and keeps those that are not used.
+fn take(service: Service, offset: u64, buf: &mut [u8], n: usize, out: &mut [u8]) -> Live
+    requires { ⌜ n ≤ length (now buf) ⌝ }
+    ensures { λ r. ⌜ Leaves (fed-turn (length (now (out .entry))) service (take n (now (buf .entry))) offset) (now (buf .entry)) (now (buf .exit)) (now (out .entry)) (now (out .exit)) r ⌝ }
 {
-    let n = stream::cut(offset, out);
-    if n <= out.len() {
-        write(&out[..n]);
-    }
-    stopped(service, offset)
-}
-
-// Feeds the first n bytes of buf, and writes the lines.
-fn take(service: Service, buf: &mut [u8], n: usize, offset: u64, out: &mut [u8]) -> Live
-    ensures { λ r. ⌜ Takes service (now (buf .entry)) (now (buf .exit)) n offset (length (now (out .entry))) r ⌝ }
-{
-    if buf.len() < n {
-        return stopped(service, offset);
-    }
     let fed = stream::feed(service, &buf[..n], offset, out);
-    let next = fed.service;
+    let kept = fed.service;
     let at = fed.at;
     let wrote = fed.wrote;
     let stop = fed.stop;
-    if out.len() < wrote {
-        return stopped(next, offset);
-    }
-    if !write(&out[..wrote]) {
-        return stopped(next, offset);
-    }
-    if u64::MAX - offset < at as u64 {
-        return stopped(next, offset);
-    }
     let here = offset + at as u64;
-    match stop {
-        Stop::Used => Live {
-            service: next,
-            have: 0,
-            offset: here,
-            hungry: true,
-            done: false,
-        },
-        Stop::Partial => {
-            let left = keep(buf, at, n);
-            Live {
-                service: next,
-                have: left,
-                offset: here,
-                hungry: true,
-                done: false,
-            }
-        }
-        Stop::Full => {
-            let left = keep(buf, at, n);
-            Live {
-                service: next,
-                have: left,
-                offset: here,
-                hungry: false,
-                done: false,
-            }
-        }
-        Stop::Unknown => refuse(next, here, out),
-        Stop::Far => stopped(next, here),
+    let have = keep(buf, at, n);
+    let next = comes(stop);
+    Live {
+        service: kept,
+        have,
+        offset: here,
+        next,
+        wrote,
     }
 }
 
-// One turn: a read where more bytes are needed, and the records that are whole.
-fn turn(live: Live, buf: &mut [u8], out: &mut [u8]) -> Live
-    ensures { λ r. ⌜ (r .done ≡ false → Goes-on live (now (buf .entry)) (now (buf .exit)) (length (now (out .entry))) r) ⌝ }
+fn quiet(live: Live, next: Next) -> Live
+    ensures { λ r. ⌜ r ≡ quieted live next ⌝ }
 {
     let service = live.service;
-    let have = live.have;
+    Live {
+        service,
+        have: live.have,
+        offset: live.offset,
+        next,
+        wrote: 0,
+    }
+}
+
+// The line of refusal 7, and then the end of the run.
+fn refuse(live: Live, why: Why, buf: &[u8], out: &mut [u8]) -> Live
+    requires { ⌜ (live .have ≤ length (now buf)) × (room ≤ length (now out)) ⌝ }
+    ensures { λ r. ⌜ Leaves (step-of (length (now (out .entry))) (Refuse why) again live (now (buf .entry))) (now (buf .entry)) (now (buf .entry)) (now (out .entry)) (now (out .exit)) r ⌝ }
+{
+    let service = live.service;
+    let wrote = stream::cut(live.offset, out);
+    Live {
+        service,
+        have: live.have,
+        offset: live.offset,
+        next: Next::Over(why),
+        wrote,
+    }
+}
+
+// What a read brings.
+fn wait(live: Live, read: Read, buf: &mut [u8], out: &mut [u8]) -> Live
+    requires { ⌜ Ready live read (now buf) (now out) ⌝ }
+    ensures { λ r. ⌜ Leaves (step-of (length (now (out .entry))) Await (brought read (live .have) (now (buf .entry))) live (now (buf .entry))) (now (buf .entry)) (now (buf .exit)) (now (out .entry)) (now (out .exit)) r ⌝ }
+{
+    let service = live.service;
     let offset = live.offset;
-    if FAR <= offset {
-        return stopped(service, offset);
-    }
-    if !live.hungry {
-        return take(service, buf, have, offset, out);
-    }
-    let read = fill(buf, have);
     match read {
-        Read::Bytes(n) => take(service, buf, n, offset, out),
-        Read::Again => live,
+        Read::Bytes(n) => take(service, offset, buf, n, out),
         Read::End => {
-            if have == 0 {
-                return stopped(service, offset);
+            if live.have == 0 {
+                return quiet(live, Next::Over(Why::EndOfInput));
             }
-            refuse(service, offset, out)
+            quiet(live, Next::Refuse(Why::CutShort))
         }
-        Read::Failed => {
-            os::fail(b"pool: standard input");
-            stopped(service, offset)
+        Read::Again => quiet(live, Next::Await),
+        Read::Failed => quiet(live, Next::Over(Why::ReadFailed)),
+    }
+}
+
+// What comes next, done: nothing is read or written here.
+fn step(live: Live, read: Read, buf: &mut [u8], out: &mut [u8]) -> Live
+    requires { ⌜ Ready live read (now buf) (now out) ⌝ }
+    ensures { λ r. ⌜ Leaves (stepped (length (now (out .entry))) live read (now (buf .entry))) (now (buf .entry)) (now (buf .exit)) (now (out .entry)) (now (out .exit)) r ⌝ }
+{
+    let service = live.service;
+    let offset = live.offset;
+    let have = live.have;
+    let next = live.next;
+    match next {
+        Next::Await => wait(live, read, buf, out),
+        Next::Feed => take(service, offset, buf, have, out),
+        Next::Refuse(why) => refuse(live, why, buf, out),
+        Next::Over(why) => quiet(live, Next::Over(why)),
+    }
+}
+
+// How far a text is written, and whether to go on, behind an answer of write that counts n more bytes.
+fn write_as(at: usize, n: usize, retry: bool) -> Wrote
+    requires { ⌜ at + n < 2 ^ 64 ⌝ }
+    ensures { λ r. ⌜ r ≡ write-as at n retry ⌝ }
+{
+    if n == 0 {
+        return Wrote { at, ok: retry };
+    }
+    Wrote {
+        at: at + n,
+        ok: true,
+    }
+}
+
+// One write of text from `at` on.
+fn write_from(text: &[u8], at: usize) -> Wrote
+    requires { ⌜ at ≤ length (now text) ⌝ }
+    ensures { λ r. ⌜ Goes-on at (length (now (text .entry))) r ⌝ }
+{
+    let put = libc::write(STDOUT_FILENO, &text[at..]);
+    let n = io::count(put, &text[at..]);
+    let retry = os::errno() == libc::EINTR;
+    write_as(at, n, retry)
+}
+
+// Writes all of text, and answers how far it is written, and whether that is all.
+fn write(text: &[u8]) -> Wrote
+    ensures { λ r. ⌜ Writes (length (now (text .entry))) r ⌝ }
+{
+    let mut at = 0;
+    let mut turns = u64::MAX;
+    while 0 < turns {
+        if text.len() <= at {
+            return Wrote { at, ok: true };
         }
+        let wrote = write_from(text, at);
+        if !wrote.ok {
+            return Wrote { at, ok: false };
+        }
+        at = wrote.at;
+        turns -= 1;
+    }
+    Wrote {
+        at,
+        ok: text.len() <= at,
+    }
+}
+
+// Behind a text that is written as far as this.
+fn settle(live: Live, wrote: Wrote) -> Live
+    ensures { λ r. ⌜ r ≡ settled live wrote ⌝ }
+{
+    let service = live.service;
+    if wrote.ok {
+        let next = live.next;
+        return Live {
+            service,
+            have: live.have,
+            offset: live.offset,
+            next,
+            wrote: wrote.at,
+        };
+    }
+    Live {
+        service,
+        have: live.have,
+        offset: live.offset,
+        next: Next::Over(Why::WriteFailed),
+        wrote: wrote.at,
+    }
+}
+
+// One turn: a read where one is due, what comes of it, and its text written.
+fn turn(live: Live, buf: &mut [u8], out: &mut [u8]) -> Live
+    requires { ⌜ Sound live (now buf) (now out) ⌝ }
+    ensures { λ r. ⌜ Turned live (now (buf .entry)) (now (buf .exit)) (now (out .entry)) (now (out .exit)) r ⌝ }
+{
+    let next = live.next;
+    let read = ask(next, buf, live.have);
+    let after = step(live, read, buf, out);
+    let n = after.wrote;
+    let wrote = write(&out[..n]);
+    settle(after, wrote)
+}
+
+fn is_over(next: Next) -> bool
+    ensures { λ r. ⌜ r ≡ is-over next ⌝ }
+{
+    match next {
+        Next::Await => false,
+        Next::Feed => false,
+        Next::Refuse(_) => false,
+        Next::Over(_) => true,
+    }
+}
+
+// Turn after turn, from a new service on, till the run is over.
+fn run(buf: &mut [u8], out: &mut [u8]) -> Live
+    requires { ⌜ (longest ≤ length (now buf)) × (room ≤ length (now out)) ⌝ }
+    ensures { λ r. ⌜ Ran (length (now (out .entry))) r ⌝ }
+{
+    let service = Service::new();
+    let mut live = Live {
+        service,
+        have: 0,
+        offset: 0,
+        next: Next::Await,
+        wrote: 0,
+    };
+    let mut turns = u64::MAX;
+    while 0 < turns {
+        let next = live.next;
+        if is_over(next) {
+            return live;
+        }
+        live = turn(live, buf, out);
+        turns -= 1;
+    }
+    live
+}
+
+// A failure has its message; every other end has none.
+fn tell(why: Why) {
+    match why {
+        Why::EndOfInput => {}
+        Why::CutShort => {}
+        Why::UnknownKind => {}
+        Why::TooFar => {}
+        Why::ReadFailed => os::fail(b"pool: standard input"),
+        Why::WriteFailed => os::fail(b"pool: standard output"),
     }
 }
 
@@ -236,21 +358,9 @@ fn main() {
     let mut output = io::large_buffer();
     let buf: &mut [u8] = &mut input;
     let out: &mut [u8] = &mut output;
-    let service = Service::new();
-    let mut live = Live {
-        service,
-        have: 0,
-        offset: 0,
-        hungry: true,
-        done: false,
-    };
-    let mut turns = u64::MAX;
-    while 0 < turns {
-        let next = turn(live, buf, out);
-        if next.done {
-            return;
-        }
-        live = next;
-        turns -= 1;
+    let last = run(buf, out);
+    let next = last.next;
+    if let Next::Over(why) = next {
+        tell(why);
     }
 }

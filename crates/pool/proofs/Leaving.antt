@@ -1,0 +1,215 @@
+-- What the code leaves in its values and buffers.
+--   front-kept, fills-inside, asked, asked-due       one read, and none where none is due
+--   front-sets, same-sets, fed-leaves, quiet-leaves, seven-leaves     what a feed, a silent step and the line of refusal 7 leave
+--   wait-bytes .. wait-failed, step-as               one step, by what a read brought and by what comes next
+--   ends-none, ends-some                             one step where the input ends
+-- Assumes nothing.
+use mathlib.Core.Path.{_≡_, refl, sym, ap, ap₂, _∙_, subst}
+use mathlib.Core.Bool.{Bool, true, false}
+use mathlib.Core.List.{List, [], _∷_, _++_}
+use Prim.Native.Nat.{ℕ, _+_, _-_, _^_, _≤_, _<_}
+use native.Mathlib.Nat.{zero-add}
+use native.Mathlib.Decide.{decLe, ℕ-discrete}
+use native.Mathlib.Omega.{arith}
+use lib.ListN.{length, getD, take, drop, take-append-drop, length-append, length-drop}
+use lib.Seq.{sets, sets-eq, take-take, length-take-le, length-sets, take-all}
+use borrow.Author.Tests.{eq-eqb, ne-eqb, le-leb, lt-leb}
+use borrow.Rule.Slice.PartMut.{putMid, take-put}
+use Rattle.scheme.specs.Service.{refused}
+use Rattle.service.specs.declared.Service.{Service}
+use Rattle.service.specs.Calls.{new-service}
+use Rattle.lines.specs.Text.{numbers, line}
+use Rattle.lines.specs.Put.{room}
+use Rattle.lines.proofs.Decimals.{decimal-twenty}
+use Rattle.lines.proofs.Lines.{take-sets}
+use Rattle.stream.specs.declared.Fed.{Fed}
+use Rattle.stream.specs.Stream.{record-length, fed, lines, cut-length, cut-left}
+use Rattle.stream.specs.Promise.{Fed-says, Fed-right}
+use Rattle.stream.proofs.Promise.{fed-right}
+use Rattle.stream.proofs.Feeding.{fed-far}
+use Rattle.pool.specs.declared.Read.{Read}
+use Rattle.pool.specs.declared.Read.the-variants.{Bytes, End, Again, Failed}
+use Rattle.pool.specs.declared.Why.{Why}
+use Rattle.pool.specs.declared.Why.the-variants.{EndOfInput, CutShort, ReadFailed, WriteFailed}
+use Rattle.pool.specs.declared.Next.{Next}
+use Rattle.pool.specs.declared.Next.the-variants.{Await, Feed, Refuse, Over}
+use Rattle.pool.specs.declared.Live.{Live}
+use Rattle.pool.specs.declared.Wrote.{Wrote}
+use Rattle.pool.specs.Turns.{Came, again, Turn, first-turn, comes, fed-turn, at-end, silent, step-by, step, sent, Due, Turns, none, more}
+use Rattle.pool.specs.Pool.{live-of, quieted, Leaves, brought, Untouched, read-as, Fills, step-of, stepped}
+use Rattle.pool.specs.Promise.{Unfinished, Stands, So-far, Run-right}
+use Rattle.pool.proofs.Promise.{run-right}
+
+-- ---- one read
+pub front-kept : (a k : ℕ) (xs ys : List ℕ) → a < length xs → take a (putMid a k xs ys) ≡ take a xs
+front-kept a k xs ys h = take-put a k xs ys (omega arith)
+
+-- a read that brings bytes brings one at least, and no more than there is room for
+module _ (b b′ : List ℕ) (have : ℕ) (r : Read) (g : Fills b b′ have r) (n : ℕ) (e : r ≡ Bytes n) where
+  pub fills-inside : (have < n) × (n ≤ length b)
+  unfolding read-as
+  fills-inside = pick (g .fails) (g .retry) (ℕ-discrete (g .count) 0) (sym (g .result) ∙ e)
+    where
+      pick : (f y : Bool) → Dec (g .count ≡ 0) → read-as have (g .count) f y ≡ Bytes n → (have < n) × (n ≤ length b)
+      pick true true d x = let z : _≡_ {A = ℕ} 0 1 = cc in absurd (omega arith)
+      pick true false d x = let z : _≡_ {A = ℕ} 0 1 = cc in absurd (omega arith)
+      pick false y (yes d) x =
+          let u : End ≡ Bytes n = rw (eq-eqb (g .count) 0 d) at x in
+          let z : _≡_ {A = ℕ} 0 1 = cc in
+          absurd (omega arith)
+      pick false y (no d) x =
+          let u : Bytes (have + g .count) ≡ Bytes n = rw (ne-eqb (g .count) 0 d) at x in
+          let k : have + g .count ≡ n = cc in
+          (omega (arith, d), omega (arith, g .inside))
+
+-- where none is due
+pub asked : (x y : Next) {b : List ℕ} {have : ℕ} → have ≤ length b → x ≡ y → Untouched y Again b b → Fills b b have Again × Untouched x Again b b
+unfolding read-as
+asked x y {b} h e u =
+    (record { count = 0; fails = true; retry = true; front = refl; inside = omega arith; result = refl }, subst (λ (z : Next). Untouched z Again b b) (sym e) u)
+
+pub asked-due : (x : Next) (r : Read) (b b′ : List ℕ) → x ≡ Await → Untouched x r b b′
+unfolding Untouched
+asked-due x r b b′ e = rw e tt
+
+-- ---- the front of a buffer
+pub front-sets : (o t : List ℕ) → length t ≤ length o → take (length t) (sets o 0 t) ≡ t
+front-sets o t h = ap (λ (i : ℕ). take i (sets o 0 t)) (sym (zero-add (length t))) ∙ take-sets o 0 t (omega arith)
+
+same-sets : (b : List ℕ) (h : ℕ) → h ≤ length b → b ≡ sets b 0 (take h b)
+same-sets b h l =
+    let e : 0 + length (take h b) ≡ h = omega (arith, length-take-le h b l) in
+    sym (sets-eq (take h b) b 0 (omega (arith, length-take-le h b l)) ∙ ap (λ (i : ℕ). take h b ++ drop i b) e ∙ take-append-drop h b)
+
+-- ---- one feed
+pub here-fits : (s : Service) (b : List ℕ) (o n : ℕ) (f : Fed) → f ≡ fed s b o n → o < 2 ^ 64 → o + f .at < 2 ^ 64
+unfolding Fed-right
+here-fits s b o n f e h = pick (decLe (2 ^ 64) (o + length b))
+  where
+    at : f .at ≡ fed s b o n .at
+    at = ap (λ (g : Fed). g .at) e
+
+    pick : Dec (2 ^ 64 ≤ o + length b) → o + f .at < 2 ^ 64
+    pick (yes l) = let z : fed s b o n .at ≡ 0 = ap (λ (g : Fed). g .at) (sym (fed-far s b o n l)) in omega (arith, at)
+    pick (no l) = omega (arith, at, fed-right s b o n .inside)
+
+abbrev turn-of : Service → (b : List ℕ) → (o : ℕ) → Fed → Turn
+turn-of s b o g = record { service = g .service; waiting = drop (g .at) b; offset = o + g .at; next = comes (g .stop); text = lines s o (take (g .at) b) }
+
+module _ (s : Service) (b : List ℕ) (n o m : ℕ) (f : Fed) (h : n ≤ length b) (e : f ≡ fed s (take n b) o m) where
+  says : Fed-says s (take n b) o m f
+  unfolding Fed-right
+  says = subst (λ (g : Fed). Fed-says s (take n b) o m g) (sym e) (fed-right s (take n b) o m)
+
+  pub used-inside : f .at ≤ n
+  used-inside = omega (arith, says .inside, length-take-le n b h)
+
+  left-long : length (drop (f .at) (take n b)) ≡ n - f .at
+  left-long = length-drop (f .at) (take n b) ∙ ap (λ (i : ℕ). i - f .at) (length-take-le n b h)
+
+  pub fed-leaves : (b′ out out′ : List ℕ) (have : ℕ) (x : Next) → m ≡ length out → out′ ≡ sets out 0 (lines s o (take (f .at) (take n b)))
+      → have ≡ n - f .at → b′ ≡ sets b 0 (drop (f .at) (take n b)) → x ≡ comes (f .stop)
+      → Leaves (fed-turn m s (take n b) o) b b′ out out′ (record { service = f .service; have = have; offset = o + f .at; next = x; wrote = f .wrote })
+  unfolding fed-turn
+  fed-leaves b′ out out′ have x l w k d y =
+      let r : Live = record { service = f .service; have = have; offset = o + f .at; next = x; wrote = f .wrote } in
+      subst (λ (g : Fed). Leaves (turn-of s (take n b) o g) b b′ out out′ r) e
+      (record {
+        result = λ i. record { service = f .service; have = (k ∙ sym left-long) i; offset = o + f .at; next = y i; wrote = says .written i };
+        input = d;
+        output = w;
+        inside = omega (arith, left-long);
+        fits = omega (arith, says .written, says .fits);
+      })
+
+pub wrote-inside : {t : Turn} {b b′ out out′ : List ℕ} {r : Live} → Leaves t b b′ out out′ r → r .wrote ≤ length out′
+wrote-inside {t} {out = out} h =
+    omega (arith, ap (λ (l : Live). l .wrote) (h .result), h .fits, ap length (h .output), length-sets out 0 (t .text))
+
+-- ---- nothing to write; the line of refusal 7
+abbrev silent-of : Next → Live → (b : List ℕ) → Turn
+silent-of x l b = silent x (l .service) (take (l .have) b) (l .offset)
+
+module _ (l : Live) (b out : List ℕ) (h : l .have ≤ length b) where
+  pub quiet-leaves : (r : Live) (x : Next) → r ≡ quieted l x → Leaves (silent-of x l b) b b out out r
+  quiet-leaves r x e =
+      record {
+        result = e ∙ ap (λ (i : ℕ). record { service = l .service; have = i; offset = l .offset; next = x; wrote = 0 }) (sym (length-take-le (l .have) b h));
+        input = same-sets b (l .have) h;
+        output = refl;
+        inside = omega (arith, length-take-le (l .have) b h);
+        fits = omega arith;
+      }
+
+  seven-short : (o : ℕ) → length (line o (refused 7)) ≤ room
+  unfolding line numbers
+  seven-short o = simp length-append (omega (arith, decimal-twenty 7, decimal-twenty o))
+
+  pub seven-leaves : (out′ : List ℕ) (y : Why) (wrote : ℕ) → room ≤ length out → wrote ≡ cut-length (l .offset) (length out) → out′ ≡ cut-left (l .offset) out
+      → Leaves (step-of (length out) (Refuse y) again l b) b b out out′
+      (record { service = l .service; have = l .have; offset = l .offset; next = Over y; wrote = wrote })
+  unfolding step-by cut-length cut-left
+  seven-leaves out′ y wrote fit e d =
+      let w : wrote ≡ length (line (l .offset) (refused 7)) = rw (le-leb room (length out) fit) at e in
+      record {
+        result = λ i. record { service = l .service; have = sym (length-take-le (l .have) b h) i; offset = l .offset; next = Over y; wrote = w i };
+        input = same-sets b (l .have) h;
+        output = rw (le-leb room (length out) fit) at d;
+        inside = omega (arith, length-take-le (l .have) b h);
+        fits = omega (arith, seven-short (l .offset));
+      }
+
+-- ---- one step, by what a read brought and what comes next
+module _ (n : ℕ) (l : Live) (read : Read) (b : List ℕ) {b′ out out′ : List ℕ} {r : Live} where
+  pub wait-bytes : (k : ℕ) → read ≡ Bytes k → l .have < k → Leaves (fed-turn n (l .service) (take k b) (l .offset)) b b′ out out′ r
+      → Leaves (step-of n Await (brought read (l .have) b) l b) b b′ out out′ r
+  unfolding step-by brought
+  wait-bytes k e h g =
+      let d : List ℕ = drop (l .have) (take k b) in
+      let j : take (l .have) b ++ d ≡ take k b =
+      ap (λ (y : List ℕ). y ++ d) (sym (take-take (l .have) k b (omega arith))) ∙ take-append-drop (l .have) (take k b) in
+      rw e (subst (λ (y : List ℕ). Leaves (fed-turn n (l .service) y (l .offset)) b b′ out out′ r) (sym j) g)
+
+  wait-end : read ≡ End → Leaves (silent-of (at-end (take (l .have) b)) l b) b b′ out out′ r
+      → Leaves (step-of n Await (brought read (l .have) b) l b) b b′ out out′ r
+  unfolding step-by brought
+  wait-end e g = rw e g
+
+  pub wait-again : read ≡ Again → Leaves (silent-of Await l b) b b′ out out′ r
+      → Leaves (step-of n Await (brought read (l .have) b) l b) b b′ out out′ r
+  unfolding step-by brought
+  wait-again e g = rw e g
+
+  pub wait-failed : read ≡ Failed → Leaves (silent-of (Over ReadFailed) l b) b b′ out out′ r
+      → Leaves (step-of n Await (brought read (l .have) b) l b) b b′ out out′ r
+  unfolding step-by brought
+  wait-failed e g = rw e g
+
+  pub step-as : (x : Next) → l .next ≡ x → Leaves (step-of n x (brought read (l .have) b) l b) b b′ out out′ r
+      → Leaves (stepped n l read b) b b′ out out′ r
+  step-as x e g =
+      subst (λ (y : Next). Leaves (step-of n y (brought read (l .have) b) l b) b b′ out out′ r) (sym e) g
+
+-- ---- where the input ends
+end-none : (b : List ℕ) (h : ℕ) → h ≡ 0 → Over EndOfInput ≡ at-end (take h b)
+unfolding at-end
+end-none b h e = rw e
+
+end-some : (b : List ℕ) (h : ℕ) → h ≤ length b → (h ≡ 0 → ⊥) → Refuse CutShort ≡ at-end (take h b)
+unfolding at-end
+end-some b h l e = pick (take h b) (length-take-le h b l)
+  where
+    pick : (c : List ℕ) → length c ≡ h → Refuse CutShort ≡ at-end c
+    pick [] z = absurd (e (sym z))
+    pick (k ∷ c) z = refl
+
+module _ (n : ℕ) (l : Live) (read : Read) (b : List ℕ) {out : List ℕ} {r : Live} (x : read ≡ End) (h : l .have ≤ length b) where
+  pub ends-none : l .have ≡ 0 → r ≡ quieted l (Over EndOfInput) → Leaves (step-of n Await (brought read (l .have) b) l b) b b out out r
+  ends-none z e =
+      wait-end n l read b x
+      (subst (λ (y : Next). Leaves (silent-of y l b) b b out out r) (end-none b (l .have) z) (quiet-leaves l b out h r (Over EndOfInput) e))
+
+  pub ends-some : (l .have ≡ 0 → ⊥) → r ≡ quieted l (Refuse CutShort) → Leaves (step-of n Await (brought read (l .have) b) l b) b b out out r
+  ends-some z e =
+      wait-end n l read b x
+      (subst (λ (y : Next). Leaves (silent-of y l b) b b out out r) (end-some b (l .have) h z) (quiet-leaves l b out h r (Refuse CutShort) e))

@@ -1,0 +1,181 @@
+-- The turns of a run.
+--   goes-inside                                one write
+--   settle-sent, turned                        one turn
+--   Made, made-start, made-next, made-as, made-sound, ran    so many turns from the start on
+-- Assumes nothing.
+use mathlib.Core.Path.{_≡_, refl, sym, ap, ap₂, _∙_, subst}
+use mathlib.Core.Bool.{Bool, true, false, cond}
+use mathlib.Core.List.{List, []}
+use Prim.Native.Nat.{ℕ, _+_, _-_, _^_, _≤_, _<_}
+use native.Mathlib.Decide.{decLe, ℕ-discrete}
+use native.Mathlib.Omega.{arith}
+use lib.Dec.{eqb}
+use lib.ListN.{length, getD, take, drop, length-take}
+use lib.Seq.{sets, length-take-le, length-sets}
+use borrow.Author.Tests.{eq-eqb, ne-eqb, le-leb, lt-leb}
+use Rattle.service.specs.declared.Service.{Service}
+use Rattle.service.specs.Calls.{new-service}
+use Rattle.lines.specs.Put.{room}
+use Rattle.stream.specs.Stream.{record-length}
+use Rattle.pool.specs.declared.Read.{Read}
+use Rattle.pool.specs.declared.Read.the-variants.{Again}
+use Rattle.pool.specs.declared.Why.the-variants.{WriteFailed}
+use Rattle.pool.specs.declared.Next.{Next}
+use Rattle.pool.specs.declared.Next.the-variants.{Await, Feed, Refuse, Over}
+use Rattle.pool.specs.declared.Live.{Live}
+use Rattle.pool.specs.declared.Wrote.{Wrote}
+use Rattle.pool.specs.Turns.{Came, again, Turn, first-turn, step-by, step, sent, Due, Turns, none, more}
+use Rattle.pool.specs.Pool.{live-of, Leaves, brought, Untouched, Fills, stepped, write-as, Goes-on, Writes, settled, longest, Sound, Turned, is-over, Ran}
+use Rattle.pool.specs.Promise.{Unfinished, Stands, So-far, Run-right}
+use Rattle.pool.proofs.Promise.{run-right}
+use Rattle.pool.proofs.Leaving.{front-sets}
+
+-- ---- one write
+pub goes-inside : (at n : ℕ) (w : Wrote) → Goes-on at n w → w .at ≤ n
+unfolding write-as
+goes-inside at n w g = pick (ℕ-discrete (g .count) 0) (ap (λ (x : Wrote). x .at) (g .result))
+  where
+    pick : Dec (g .count ≡ 0) → w .at ≡ write-as at (g .count) (g .retry) .at → w .at ≤ n
+    pick (yes d) x = let u : w .at ≡ at = rw (eq-eqb (g .count) 0 d) at x in omega (arith, g .inside)
+    pick (no d) x = let u : w .at ≡ at + g .count = rw (ne-eqb (g .count) 0 d) at x in omega (arith, g .inside)
+
+-- ---- one turn
+settle-sent : (t : Turn) (w : Wrote) → Writes (length (t .text)) w → settled (live-of t) w ≡ live-of (sent (w .at) t)
+unfolding settled sent
+settle-sent t w h = pick (ℕ-discrete (w .at) (length (t .text)))
+  where
+    pick : Dec (w .at ≡ length (t .text)) → settled (live-of t) w ≡ live-of (sent (w .at) t)
+    pick (yes e) =
+        let k : w .ok ≡ true = h .all ∙ le-leb (length (t .text)) (w .at) (omega arith) in
+        rw (k, eq-eqb (w .at) (length (t .text)) e)
+        (ap (λ (i : ℕ). record { service = t .service; have = length (t .waiting); offset = t .offset; next = t .next; wrote = i }) e)
+    pick (no e) =
+        let k : w .ok ≡ false = h .all ∙ lt-leb (length (t .text)) (w .at) (omega (arith, h .inside, e)) in
+        rw (k, ne-eqb (w .at) (length (t .text)) e)
+        (ap (λ (i : ℕ). record { service = t .service; have = length (t .waiting); offset = t .offset; next = Over WriteFailed; wrote = i })
+        (sym (length-take-le (w .at) (t .text) (h .inside))))
+
+pub turned : {l : Live} {b got b′ out out′ : List ℕ} {read : Read} {a r : Live} {w : Wrote} → Fills b got (l .have) read × Untouched (l .next) read b got
+    → Leaves (stepped (length out) l read got) got b′ out out′ a → Writes (length (take (a .wrote) out′)) w → r ≡ settled a w → Turned l b b′ out out′ r
+turned {l} {b} {got} {b′} {out} {out′} {read} {a} {r} {w} f g s e =
+    let t : Turn = stepped (length out) l read got in
+    let n : a .wrote ≡ length (t .text) = ap (λ (x : Live). x .wrote) (g .result) in
+    let m : length (take (a .wrote) out′) ≡ length (t .text) =
+    length-take-le (a .wrote) out′ (omega (arith, n, g .fits, ap length (g .output), length-sets out 0 (t .text))) ∙ n in
+    let y : Writes (length (t .text)) w = subst (λ (i : ℕ). Writes i w) m s in
+    record {
+      read = read;
+      got = got;
+      put = w .at;
+      fills = f .0;
+      due = f .1;
+      inside = y .inside;
+      result = e ∙ ap (λ (x : Live). settled x w) (g .result) ∙ settle-sent t w y;
+      input = g .input;
+      output = g .output;
+      kept = g .inside;
+    }
+
+-- ---- so many turns from the start on, and what the last left
+pub record Made (n k : ℕ) (l : Live) (b : List ℕ) : Type 0 where
+  pub read : List ℕ
+  pub written : List ℕ
+  pub turn : Turn
+  pub turns : Turns n k read written turn
+  pub result : l ≡ live-of turn
+  pub front : take (l .have) b ≡ turn .waiting
+
+pub made-start : (n : ℕ) (b : List ℕ) (s : Service) → s ≡ new-service
+    → Made n 0 (record { service = s; have = 0; offset = 0; next = Await; wrote = 0 }) b
+made-start n b s e =
+    record {
+      read = [];
+      written = [];
+      turn = first-turn;
+      turns = none;
+      result = ap (λ (x : Service). record { service = x; have = 0; offset = 0; next = Await; wrote = 0 }) e;
+      front = refl;
+    }
+
+untouched-due : (x : Next) (r : Read) (h : ℕ) (b got : List ℕ) → Untouched x r b got → Due x (brought r h got)
+unfolding Untouched Due brought
+untouched-due Await r h b got e = tt
+untouched-due Feed r h b got e = ap (λ (q : Read). brought q h got) (e .0)
+untouched-due (Refuse y) r h b got e = ap (λ (q : Read). brought q h got) (e .0)
+untouched-due (Over y) r h b got e = ap (λ (q : Read). brought q h got) (e .0)
+
+sent-waiting : (i : ℕ) (t : Turn) → sent i t .waiting ≡ t .waiting
+unfolding sent
+sent-waiting i t = pick (ℕ-discrete i (length (t .text)))
+  where
+    pick : Dec (i ≡ length (t .text)) → sent i t .waiting ≡ t .waiting
+    pick (yes e) = rw (eq-eqb i (length (t .text)) e)
+    pick (no e) = rw (ne-eqb i (length (t .text)) e)
+
+pub made-next : {n k : ℕ} {l r : Live} {b b′ out out′ : List ℕ} → Made n k l b → Turned l b b′ out out′ r → length out ≡ n → Made n (k + 1) r b′
+made-next {n} {k} {l} {r} {b} {b′} {out} {out′} m g e =
+    let c : Came = brought (g .read) (l .have) (g .got) in
+    let t : Turn = m .turn in
+    let x : l .next ≡ t .next = ap (λ (q : Live). q .next) (m .result) in
+    let same : stepped (length out) l (g .read) (g .got) ≡ step n c t =
+    ap (λ (i : ℕ). stepped i l (g .read) (g .got)) e
+    ∙ ap (λ (w : List ℕ). step-by n (l .next) c (l .service) w (l .offset)) (g .fills .front ∙ m .front)
+    ∙ ap (λ (q : Live). step-by n (q .next) c (q .service) (t .waiting) (q .offset)) (m .result) in
+    let long : r .have ≡ length (step n c t .waiting) =
+    ap (λ (q : Live). q .have) (g .result) ∙ ap (λ (u : Turn). length (sent (g .put) u .waiting)) same ∙ ap length (sent-waiting (g .put) (step n c t)) in
+    record {
+      read = _;
+      written = _;
+      turn = sent (g .put) (step n c t);
+      turns =
+          more k (m .read) (m .written) t c (g .put) (m .turns)
+          (subst (λ (y : Next). Due y c) x (untouched-due (l .next) (g .read) (l .have) b (g .got) (g .due)))
+          (subst (λ (u : Turn). g .put ≤ length (u .text)) same (g .inside));
+      result = g .result ∙ ap (λ (u : Turn). live-of (sent (g .put) u)) same;
+      front =
+          ap₂ (λ (i : ℕ) (w : List ℕ). take i w) long (g .input ∙ ap (λ (u : Turn). sets (g .got) 0 (u .waiting)) same)
+          ∙ front-sets (g .got) (step n c t .waiting) (subst (λ (u : Turn). length (u .waiting) ≤ length (g .got)) same (g .kept))
+          ∙ sym (sent-waiting (g .put) (step n c t));
+    }
+
+pub made-as : {n k j : ℕ} {l : Live} {b : List ℕ} → Made n k l b → k ≡ j → Made n j l b
+made-as {n} {l = l} {b = b} m e = subst (λ (i : ℕ). Made n i l b) e m
+
+-- ---- there is room for a read where one is due
+of-six : (c : Bool) {a b : ℕ} → a ≤ 6 → b ≤ 6 → cond c a b ≤ 6
+of-six true h l = h
+of-six false h l = l
+
+at-most-six : (k : ℕ) → record-length k ≤ 6
+unfolding record-length
+at-most-six k =
+    of-six (eqb k 1) (omega arith)
+    (of-six (eqb k 2) (omega arith)
+    (of-six (eqb k 3) (omega arith) (of-six (eqb k 4) (omega arith) (of-six (eqb k 5) (omega arith) (of-six (eqb k 6) (omega arith) (omega arith))))))
+
+pub made-sound : {n k : ℕ} {l : Live} {b out : List ℕ} → Made n k l b → room ≤ n → length out ≡ n → longest ≤ length b → Sound l b out
+unfolding Run-right Stands Unfinished
+made-sound {n} {k} {l} {b} {out} m big e h =
+    record { have = omega (arith, long, length-take (l .have) b); space = λ x. few (decLe 1 (length w)) (unfinished x .0); line = omega arith }
+  where
+    w : List ℕ
+    w = m .turn .waiting
+
+    counted : l .have ≡ length w
+    counted = ap (λ (q : Live). q .have) (m .result)
+
+    long : length (take (l .have) b) ≡ l .have
+    long = ap length (m .front) ∙ sym counted
+
+    right : So-far (m .turn) (m .read) (m .written)
+    right = run-right n k (m .read) (m .written) (m .turn) big (m .turns)
+
+    unfinished : l .next ≡ Await → Stands Await (right .used) w (m .written)
+    unfinished x = subst (λ (y : Next). Stands y (right .used) w (m .written)) (sym (ap (λ (q : Live). q .next) (m .result)) ∙ x) (right .stands)
+
+    few : Dec (1 ≤ length w) → Unfinished w → l .have < length b
+    few (yes y) f = omega (arith, counted, f (omega arith), at-most-six (getD w 0 0))
+    few (no y) f = omega (arith, counted)
+
+pub ran : {n k : ℕ} {l : Live} {b : List ℕ} → Made n k l b → (is-over (l .next) ≡ false → k ≡ 2 ^ 64 - 1) → Ran n l
+ran {k = k} m h = record { count = k; read = m .read; written = m .written; turn = m .turn; turns = m .turns; result = m .result; ends = h }

@@ -1,0 +1,102 @@
+-- `pool::step` meets its contract: each thing that may come next.
+-- Assumes nothing.
+use lib.ListN.{length}
+use borrow.Author.Needs.{needs}
+use Rattle.pool.specs.declared.Next.the-variants.{Await, Feed, Refuse, Over}
+use Rattle.pool.specs.Turns.{step-by}
+use Rattle.pool.proofs.Leaving.{quiet-leaves, step-as}
+use Rattle.pool.proofs.step.Statement.{statement}
+use Rattle.pool.proofs.step.Tie as tie
+
+enum-told : tie.Need-enum-told
+enum-told c = search needs
+
+wait-requires : tie.Need-wait-requires
+wait-requires c κs = search needs
+
+enum-told-2 : tie.Need-enum-told-2
+enum-told-2 c = search needs
+
+take-requires : tie.Need-take-requires
+take-requires c κs = search needs
+
+enum-known-next : tie.Need-enum-known-next
+enum-known-next c = search needs
+
+refuse-requires : tie.Need-refuse-requires
+refuse-requires c κs = search needs
+
+enum-known-next-2 : tie.Need-enum-known-next-2
+enum-known-next-2 c = search needs
+
+quiet-requires : tie.Need-quiet-requires
+quiet-requires c κs = search needs
+
+same-length : tie.Need-same-length
+same-length c = search needs
+
+same-length-2 : tie.Need-same-length-2
+same-length-2 c = search needs
+
+returns : tie.Need-returns
+returns c =
+    let a = c .before .before .before .before .before .before .before .before .before .before .before .before .args in
+    step-as (length (a .out .now)) (a .live) (a .read) (a .buf .now) Await (c .before .before .before .before .before .before .before .enum-told .given .1)
+    (c .before .before .before .before .wait .ensures)
+
+same-length-3 : tie.Need-same-length-3
+same-length-3 c = search needs
+
+same-length-4 : tie.Need-same-length-4
+same-length-4 c = search needs
+
+returns-2 : tie.Need-returns-2
+unfolding step-by
+returns-2 c =
+    let a = c .before .before .before .before .before .before .before .before .before .before .before .before .args in
+    step-as (length (a .out .now)) (a .live) (a .read) (a .buf .now) Feed (c .before .before .before .before .before .before .before .enum-told2 .given .1)
+    (c .before .before .before .before .take .ensures)
+
+same-length-5 : tie.Need-same-length-5
+same-length-5 c = search needs
+
+same-length-6 : tie.Need-same-length-6
+same-length-6 c = search needs
+
+returns-3 : tie.Need-returns-3
+unfolding step-by
+returns-3 c =
+    let a = c .before .before .before .before .before .before .before .before .before .before .before .args in
+    step-as (length (a .out .now)) (a .live) (a .read) (a .buf .now) (Refuse _) (c .before .before .before .before .before .before .next .given .1)
+    (c .before .before .refuse .ensures)
+
+returns-4 : tie.Need-returns-4
+unfolding step-by
+returns-4 c =
+    let h = c .before .before .before .before .before .before .before .pre .have in
+    let a = c .before .before .before .before .before .before .before .args in
+    step-as (length (a .out .now)) (a .live) (a .read) (a .buf .now) (Over _) (c .before .before .next2 .given .1)
+    (quiet-leaves (a .live) (a .buf .now) (a .out .now) h (c .quiet .result) (Over _) (c .quiet .ensures))
+
+pub step-spec : {M : Type 1} → statement M
+step-spec =
+    tie.close
+    (tie.spec
+    enum-told
+    wait-requires
+    enum-told-2
+    take-requires
+    enum-known-next
+    refuse-requires
+    enum-known-next-2
+    quiet-requires
+    same-length
+    same-length-2
+    returns
+    same-length-3
+    same-length-4
+    returns-2
+    same-length-5
+    same-length-6
+    returns-3
+    returns-4)
