@@ -1,16 +1,18 @@
 -- That what the program writes are the lines of what it reads, however the input is cut into reads.
 --   run-right              every run stands as specs/Promise.antt says
+--   output-right           a run that no failure ended has written the lines of all that it read
 --   Sure, cost, forward    no failure, and no read behind the end of the input; the turns that are left at most, and that each turn has fewer
 --   over-said              a run that is over has said all
 --   reads-right            what is printed over any reads are the lines of the whole input
 -- Assumes nothing.
-use mathlib.Core.Path.{_≡_, refl, sym, ap, ap₂, _∙_}
+use mathlib.Core.Path.{_≡_, refl, sym, ap, ap₂, _∙_, subst}
 use mathlib.Core.Bool.{true}
 use mathlib.Core.List.{List, [], _∷_, _++_, append-nil, append-assoc}
 use Prim.Native.Nat.{ℕ, zero, suc, _+_, _-_, _^_, _≤_, _<_}
 use native.Mathlib.Decide.{decLe}
 use native.Mathlib.Omega.{arith}
 use lib.ListN.{length, getD, take, drop, length-append, length-drop, List·getD-append}
+use Rattle.scheme.proofs.Tests.{holds}
 use Rattle.service.specs.declared.Service.{Service}
 use Rattle.service.specs.Calls.{new-service}
 use Rattle.lines.specs.Put.{room}
@@ -24,8 +26,9 @@ use Rattle.pool.specs.declared.Why.the-variants.{EndOfInput, CutShort, U
 use Rattle.pool.specs.declared.Next.{Next}
 use Rattle.pool.specs.declared.Next.the-variants.{Await, Feed, Refuse, Over}
 use Rattle.pool.specs.Turns.{Came, came-bytes, Turn, first-turn, comes, fed-turn, at-end, step-by, step, Due, Turns, none, more}
+use Rattle.pool.specs.declared.Live.{Live}
 use Rattle.pool.specs.Turns.{next-came, left-reads, printed-from, whole, printed}
-use Rattle.pool.specs.Promise.{said, Unfinished, Broken, Ends, Stands, So-far, Run-right, Reads-right}
+use Rattle.pool.specs.Promise.{said, Unfinished, Broken, Ends, Stands, So-far, Run-right, by-itself, Output-right, Reads-right}
 use Rattle.pool.proofs.Standing.{seven-said, step-so-far, sent-so-far}
 
 start : So-far first-turn [] []
@@ -36,6 +39,24 @@ pub run-right : Run-right
 unfolding Run-right
 run-right n k read w t big none = start
 run-right n k read w t big (more j c v u a i h d l) = sent-so-far (step n a u) (c ++ came-bytes a) v i (step-so-far n u c v (run-right n j c v u big h) a d) l
+
+-- ---- what `run` ensures
+ends-said : (y : Why) (u b w : List ℕ) → Ends y u b w → by-itself y ≡ true → w ≡ said (u ++ b)
+unfolding Ends by-itself
+ends-said EndOfInput u b w h e = h .1 ∙ sym (ap said (ap (λ (c : List ℕ). u ++ c) (h .0) ∙ append-nil u))
+ends-said CutShort u b w h e = h .1
+ends-said UnknownKind u b w h e = h .1
+ends-said TooFar u b w h e = absurd (holds e)
+ends-said ReadFailed u b w h e = absurd (holds e)
+ends-said WriteFailed u b w h e = absurd (holds e)
+
+pub output-right : Output-right
+unfolding Output-right Run-right Stands
+output-right n r y big g e h =
+    let f = run-right n (g .count) (g .read) (g .written) (g .turn) big (g .turns) in
+    let x : g .turn .next ≡ Over y = sym (ap (λ (l : Live). l .next) (g .result)) ∙ e in
+    ends-said y (f .used) (g .turn .waiting) (g .written) (subst (λ (z : Next). Stands z (f .used) (g .turn .waiting) (g .written)) x (f .stands)) h
+    ∙ ap said (f .same)
 
 -- ---- a list of reads
 unfoldable Sure-why : Why → (reads : List (List ℕ)) → Type 0

@@ -3,10 +3,11 @@
 --   Unfinished, Broken       bytes that are no whole record yet; bytes that refusal 7 is for
 --   Ends, Stands, So-far     where a run stands: what is used, what waits and what is written, by what comes next, or by why it is over
 --   Run-right                every run stands so, whatever its reads bring and its writes take
+--   by-itself, Output-right  what `run` ensures: a run that no failure ended has written the lines of all that it read
 --   Reads-right              what is printed over any reads are the lines of the whole input
 -- Assumes nothing: these are definitions.
 use mathlib.Core.Path.{_≡_}
-use mathlib.Core.Bool.{true}
+use mathlib.Core.Bool.{Bool, true, false}
 use mathlib.Core.List.{List, [], _++_}
 use Prim.Native.Nat.{ℕ, _+_, _^_, _≤_, _<_}
 use lib.ListN.{length, getD}
@@ -18,7 +19,9 @@ use Rattle.pool.specs.declared.Why.{Why}
 use Rattle.pool.specs.declared.Why.the-variants.{EndOfInput, CutShort, UnknownKind, TooFar, ReadFailed, WriteFailed}
 use Rattle.pool.specs.declared.Next.{Next}
 use Rattle.pool.specs.declared.Next.the-variants.{Await, Feed, Refuse, Over}
+use Rattle.pool.specs.declared.Live.{Live}
 use Rattle.pool.specs.Turns.{Turn, Turns, whole, printed}
+use Rattle.pool.specs.Pool.{Ran}
 
 abbrev pub said : (input : List ℕ) → List ℕ
 said b = lines new-service 0 b
@@ -62,6 +65,17 @@ pub record So-far (t : Turn) (read written : List ℕ) : Type 0 where
 
 unfoldable pub Run-right : Type 0
 Run-right = (n count : ℕ) (read written : List ℕ) (t : Turn) → room ≤ n → Turns n count read written t → So-far t read written
+
+unfoldable pub by-itself : Why → Bool
+by-itself EndOfInput = true
+by-itself CutShort = true
+by-itself UnknownKind = true
+by-itself TooFar = false
+by-itself ReadFailed = false
+by-itself WriteFailed = false
+
+unfoldable pub Output-right : Type 0
+Output-right = (n : ℕ) (r : Live) (y : Why) → room ≤ n → (g : Ran n r) → r .next ≡ Over y → by-itself y ≡ true → g .written ≡ said (g .read)
 
 unfoldable pub Reads-right : Type 0
 Reads-right = (n : ℕ) (reads : List (List ℕ)) → room ≤ n → length (whole reads) < 2 ^ 64 → printed n reads ≡ said (whole reads)

@@ -1,14 +1,14 @@
 // The pooling program of document 01: reads records from standard input and writes their lines to standard output, each as soon as its
 // record is whole. It stops at the end of the input, behind the line of refusal 7, or with a message where a read or a write fails.
-//   Live, Next, Why     what goes from turn to turn: the state, the bytes that wait, what comes next, or why the run is over
-//   main, run           turn after turn, till the run is over
-//   turn                a read where one is due, a step, and its text written
-//   Read, ask, fill, read_as     one read where one is due, and what its answer means
-//   step, wait          what a read makes of the state: nothing is read or written here
-//   take, comes, keep   feeds what there is, and moves the bytes that are not used to the front
-//   refuse, quiet       the line of refusal 7; nothing to write
-//   Wrote, write, write_from, write_as     all of a write, past interruptions
-//   settle, tell        what comes behind a write; the message of a failure
+//   Read, Why, Next, Live, Wrote     what came of a read; why the run is over, or what comes next; what goes from turn to turn
+//   read_as, fill, ask               what an answer of read means; one read, where one is due
+//   keep, comes, take                feeds what there is, and moves the bytes that are not used to the front
+//   quiet, refuse                    nothing to write; the line of refusal 7
+//   wait, step                       what a read makes of the state: nothing is read or written here
+//   write_as, write_from, write      what an answer of write means; all of a text, past interruptions
+//   settle, turn                     what comes behind a write; one turn: a read where one is due, a step, and its text written
+//   is_over, run                     turn after turn, till the run is over
+//   tell, main                       the message of a failure
 // No byte of output is made outside the crate stream.
 ghost use mathlib.Core.Path.{_≡_};
 ghost use Prim.Native.Nat.{_+_, _-_, _^_, _≤_, _<_};
