@@ -4,41 +4,37 @@
 --   wait-bytes .. wait-failed, step-as               one step, by what a read brought and by what comes next
 --   ends-none, ends-some                             one step where the input ends
 -- Assumes nothing.
-use mathlib.Core.Path.{_≡_, refl, sym, ap, ap₂, _∙_, subst}
+use mathlib.Core.Path.{_≡_, refl, sym, ap, _∙_, subst}
 use mathlib.Core.Bool.{Bool, true, false}
 use mathlib.Core.List.{List, [], _∷_, _++_}
 use Prim.Native.Nat.{ℕ, _+_, _-_, _^_, _≤_, _<_}
 use native.Mathlib.Nat.{zero-add}
 use native.Mathlib.Decide.{decLe, ℕ-discrete}
 use native.Mathlib.Omega.{arith}
-use lib.ListN.{length, getD, take, drop, take-append-drop, length-append, length-drop}
-use lib.Seq.{sets, sets-eq, take-take, length-take-le, length-sets, take-all}
-use borrow.Author.Tests.{eq-eqb, ne-eqb, le-leb, lt-leb}
+use lib.ListN.{length, take, drop, take-append-drop, length-append, length-drop}
+use lib.Seq.{sets, sets-eq, take-take, length-take-le, length-sets}
+use borrow.Author.Tests.{eq-eqb, ne-eqb, le-leb}
 use borrow.Rule.Slice.PartMut.{putMid, take-put}
 use Rattle.scheme.specs.Service.{refused}
 use Rattle.service.specs.declared.Service.{Service}
-use Rattle.service.specs.Calls.{new-service}
 use Rattle.lines.specs.Text.{numbers, line}
 use Rattle.lines.specs.Put.{room}
 use Rattle.lines.proofs.Decimals.{decimal-twenty}
 use Rattle.lines.proofs.Lines.{take-sets}
 use Rattle.stream.specs.declared.Fed.{Fed}
-use Rattle.stream.specs.Stream.{record-length, fed, lines, cut-length, cut-left}
+use Rattle.stream.specs.Stream.{fed, lines, cut-length, cut-left}
 use Rattle.stream.specs.Promise.{Fed-says, Fed-right}
 use Rattle.stream.proofs.Promise.{fed-right}
 use Rattle.stream.proofs.Feeding.{fed-far}
 use Rattle.pool.specs.declared.Read.{Read}
 use Rattle.pool.specs.declared.Read.the-variants.{Bytes, End, Again, Failed}
 use Rattle.pool.specs.declared.Why.{Why}
-use Rattle.pool.specs.declared.Why.the-variants.{EndOfInput, CutShort, ReadFailed, WriteFailed}
+use Rattle.pool.specs.declared.Why.the-variants.{EndOfInput, CutShort, ReadFailed}
 use Rattle.pool.specs.declared.Next.{Next}
-use Rattle.pool.specs.declared.Next.the-variants.{Await, Feed, Refuse, Over}
+use Rattle.pool.specs.declared.Next.the-variants.{Await, Refuse, Over}
 use Rattle.pool.specs.declared.Live.{Live}
-use Rattle.pool.specs.declared.Wrote.{Wrote}
-use Rattle.pool.specs.Turns.{Came, again, Turn, first-turn, comes, fed-turn, at-end, silent, step-by, step, sent, Due, Turns, none, more}
-use Rattle.pool.specs.Pool.{live-of, quieted, Leaves, brought, Untouched, read-as, Fills, step-of, stepped}
-use Rattle.pool.specs.Promise.{Unfinished, Stands, So-far, Run-right}
-use Rattle.pool.proofs.Promise.{run-right}
+use Rattle.pool.specs.Turns.{again, Turn, comes, fed-turn, at-end, silent, step-by}
+use Rattle.pool.specs.Pool.{quieted, Leaves, brought, Untouched, read-as, Fills, step-of, stepped}
 
 -- ---- one read
 pub front-kept : (a k : ℕ) (xs ys : List ℕ) → a < length xs → take a (putMid a k xs ys) ≡ take a xs

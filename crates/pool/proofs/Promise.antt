@@ -11,10 +11,9 @@ use mathlib.Core.List.{List, [], _∷_, _++_, append-nil, append-assoc}
 use Prim.Native.Nat.{ℕ, zero, suc, _+_, _-_, _^_, _≤_, _<_}
 use native.Mathlib.Decide.{decLe}
 use native.Mathlib.Omega.{arith}
-use lib.ListN.{length, getD, take, drop, length-append, length-drop, List·getD-append}
+use lib.ListN.{length, take, drop, length-append, length-drop, List·getD-append}
 use Rattle.scheme.proofs.Tests.{holds}
 use Rattle.service.specs.declared.Service.{Service}
-use Rattle.service.specs.Calls.{new-service}
 use Rattle.lines.specs.Put.{room}
 use Rattle.stream.specs.declared.Stop.{Stop}
 use Rattle.stream.specs.declared.Stop.the-variants.{Used, Unknown, Partial, Full, Far}
@@ -25,7 +24,7 @@ use Rattle.pool.specs.declared.Why.{Why}
 use Rattle.pool.specs.declared.Why.the-variants.{EndOfInput, CutShort, UnknownKind, TooFar, ReadFailed, WriteFailed}
 use Rattle.pool.specs.declared.Next.{Next}
 use Rattle.pool.specs.declared.Next.the-variants.{Await, Feed, Refuse, Over}
-use Rattle.pool.specs.Turns.{Came, came-bytes, Turn, first-turn, comes, fed-turn, at-end, step-by, step, Due, Turns, none, more}
+use Rattle.pool.specs.Turns.{Came, came-bytes, Turn, first-turn, comes, fed-turn, at-end, step-by, step, Due, none, more}
 use Rattle.pool.specs.declared.Live.{Live}
 use Rattle.pool.specs.Turns.{next-came, left-reads, printed-from, whole, printed}
 use Rattle.pool.specs.Promise.{said, Unfinished, Broken, Ends, Stands, So-far, Run-right, by-itself, Output-right, Reads-right}

@@ -10,7 +10,7 @@ use Prim.Native.Nat.{ℕ, _+_, _-_, _^_, _≤_, _<_}
 use native.Mathlib.Decide.{decLe, ℕ-discrete}
 use native.Mathlib.Omega.{arith}
 use lib.Dec.{eqb}
-use lib.ListN.{length, getD, take, drop, length-take}
+use lib.ListN.{length, getD, take, length-take}
 use lib.Seq.{sets, length-take-le, length-sets}
 use borrow.Author.Tests.{eq-eqb, ne-eqb, le-leb, lt-leb}
 use Rattle.service.specs.declared.Service.{Service}
@@ -18,13 +18,12 @@ use Rattle.service.specs.Calls.{new-service}
 use Rattle.lines.specs.Put.{room}
 use Rattle.stream.specs.Stream.{record-length}
 use Rattle.pool.specs.declared.Read.{Read}
-use Rattle.pool.specs.declared.Read.the-variants.{Again}
 use Rattle.pool.specs.declared.Why.the-variants.{WriteFailed}
 use Rattle.pool.specs.declared.Next.{Next}
 use Rattle.pool.specs.declared.Next.the-variants.{Await, Feed, Refuse, Over}
 use Rattle.pool.specs.declared.Live.{Live}
 use Rattle.pool.specs.declared.Wrote.{Wrote}
-use Rattle.pool.specs.Turns.{Came, again, Turn, first-turn, step-by, step, sent, Due, Turns, none, more}
+use Rattle.pool.specs.Turns.{Came, Turn, first-turn, step-by, step, sent, Due, Turns, none, more}
 use Rattle.pool.specs.Pool.{live-of, Leaves, brought, Untouched, Fills, stepped, write-as, Goes-on, Writes, settled, longest, Sound, Turned, is-over, Ran}
 use Rattle.pool.specs.Promise.{Unfinished, Stands, So-far, Run-right}
 use Rattle.pool.proofs.Promise.{run-right}

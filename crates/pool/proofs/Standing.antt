@@ -4,11 +4,10 @@
 --   fed-so-far                 the bytes that are there are fed
 --   step-so-far, sent-so-far   one turn; how far its text is written
 -- Assumes nothing.
-use mathlib.Core.Path.{_≡_, refl, sym, ap, ap₂, _∙_, subst}
-use mathlib.Core.Logic.{_≢_}
+use mathlib.Core.Path.{_≡_, refl, sym, ap, _∙_, subst}
 use mathlib.Core.Bool.{true}
 use mathlib.Core.List.{List, [], _∷_, _++_, append-nil, append-assoc}
-use Prim.Native.Nat.{ℕ, _+_, _-_, _^_, _≤_, _<_}
+use Prim.Native.Nat.{ℕ, _+_, _-_, _≤_}
 use native.Mathlib.Nat.{zero-add, add-zero}
 use native.Mathlib.Decide.{ℕ-discrete}
 use native.Mathlib.Omega.{arith}
@@ -21,7 +20,7 @@ use Rattle.service.specs.Calls.{new-service}
 use Rattle.lines.specs.Text.{line}
 use Rattle.stream.specs.declared.Stop.{Stop}
 use Rattle.stream.specs.declared.Stop.the-variants.{Used, Unknown, Partial, Full, Far}
-use Rattle.stream.specs.Stream.{record-length, Item, items, lines, fed}
+use Rattle.stream.specs.Stream.{record-length, items, lines, fed}
 use Rattle.stream.specs.Promise.{all-taken, last-state, Cut-free, Stops, Fed-says, Fed-right}
 use Rattle.stream.proofs.Promise.{cut-free, fed-right}
 use Rattle.stream.proofs.Records.{items-append, taken-append, state-append, lines-broken}
@@ -46,7 +45,7 @@ module _ (u : List ℕ) (whole : all-taken (items 0 u) ≡ true) where
   behind-more : (c : List ℕ) → behind (u ++ c) ≡ last-state (behind u) (items (length u) c)
   behind-more c = ap (last-state new-service) (items-more c) ∙ state-append new-service (items 0 u) (items (length u) c) whole
 
-  pub said-more : (c : List ℕ) → said (u ++ c) ≡ said u ++ lines (behind u) (length u) c
+  said-more : (c : List ℕ) → said (u ++ c) ≡ said u ++ lines (behind u) (length u) c
   unfolding Cut-free
   said-more c = cut-free new-service 0 u c whole ∙ ap (λ (o : ℕ). said u ++ lines (behind u) o c) (zero-add (length u))
 
@@ -105,7 +104,7 @@ module _ (u : List ℕ) (whole : all-taken (items 0 u) ≡ true) where
     stopped Full y w e = e
     stopped Far y w e = (omega (arith, left-long, used-long, says .inside), e)
 
-    pub fed-so-far : (w : List ℕ) → w ≡ said u → So-far (fed-turn n (behind u) b (length u)) (u ++ b) (w ++ fed-turn n (behind u) b (length u) .text)
+    fed-so-far : (w : List ℕ) → w ≡ said u → So-far (fed-turn n (behind u) b (length u)) (u ++ b) (w ++ fed-turn n (behind u) b (length u) .text)
     unfolding fed-turn
     fed-so-far w e =
         record {

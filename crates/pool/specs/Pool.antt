@@ -21,7 +21,6 @@ use lib.Seq.{sets}
 use Rattle.lines.specs.Put.{room}
 use Rattle.pool.specs.declared.Read.{Read}
 use Rattle.pool.specs.declared.Read.the-variants.{Bytes, End, Again, Failed}
-use Rattle.pool.specs.declared.Why.{Why}
 use Rattle.pool.specs.declared.Why.the-variants.{WriteFailed}
 use Rattle.pool.specs.declared.Next.{Next}
 use Rattle.pool.specs.declared.Next.the-variants.{Await, Feed, Refuse, Over}

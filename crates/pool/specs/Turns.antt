@@ -10,7 +10,7 @@
 --   printed-from, whole, printed    what is printed over a list of reads, and the whole input
 -- Assumes nothing: these are definitions.
 use mathlib.Core.Path.{_≡_}
-use mathlib.Core.Bool.{Bool, true, false, cond}
+use mathlib.Core.Bool.{cond}
 use mathlib.Core.List.{List, [], _∷_, _++_}
 use Prim.Native.Nat.{ℕ, zero, suc, _+_, _≤_}
 use lib.Dec.{eqb}
@@ -22,7 +22,6 @@ use Rattle.lines.specs.Text.{line}
 use Rattle.stream.specs.declared.Stop.{Stop}
 use Rattle.stream.specs.declared.Stop.the-variants.{Used, Unknown, Partial, Full, Far}
 use Rattle.stream.specs.Stream.{lines, fed}
-use Rattle.pool.specs.declared.Why.{Why}
 use Rattle.pool.specs.declared.Why.the-variants.{EndOfInput, CutShort, UnknownKind, TooFar, ReadFailed, WriteFailed}
 use Rattle.pool.specs.declared.Next.{Next}
 use Rattle.pool.specs.declared.Next.the-variants.{Await, Feed, Refuse, Over}

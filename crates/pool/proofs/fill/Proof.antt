@@ -1,6 +1,6 @@
 -- `pool::fill` meets its contract: only bytes behind those that waited are lent to the read.
 -- Assumes nothing.
-use Prim.Native.Nat.{_+_, _-_, _≤_}
+use Prim.Native.Nat.{_-_}
 use native.Mathlib.Omega.{arith}
 use lib.ListN.{length}
 use borrow.Author.Needs.{needs}

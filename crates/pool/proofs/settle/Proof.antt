@@ -1,6 +1,5 @@
 -- `pool::settle` meets its contract: by whether all is written.
 -- Assumes nothing.
-use borrow.Author.Needs.{needs}
 use Rattle.pool.specs.Pool.{settled}
 use Rattle.pool.proofs.settle.Statement.{statement}
 use Rattle.pool.proofs.settle.Tie as tie

@@ -26,7 +26,7 @@ returns c =
     let a = c .before .before .before .before .before .before .before .before .args in
     let h = c .before .before .before .before .before .before .before .before .pre .have in
     let e = c .before .before .before .enum-told .given .1 in
-    ends-none (length (a .out .now)) (a .live) (a .read) (a .buf .now) e h (c .before .if1 .taken) (c .quiet .ensures)
+    ends-none (length (a .out .now)) (a .live) (a .read) (a .buf .now) e h (omega arith) (c .quiet .ensures)
 
 quiet-requires-2 : tie.Need-quiet-requires-2
 quiet-requires-2 c κs = search needs
@@ -61,7 +61,7 @@ returns-3 c =
     let a = c .before .before .before .before .before .before .before .before .args in
     let h = c .before .before .before .before .before .before .before .before .pre .have in
     let e = c .before .before .before .enum-told .given .1 in
-    ends-some (length (a .out .now)) (a .live) (a .read) (a .buf .now) e h (c .before .if1 .left) (c .quiet2 .ensures)
+    ends-some (length (a .out .now)) (a .live) (a .read) (a .buf .now) e h (λ z. omega arith) (c .quiet2 .ensures)
 
 returns-4 : tie.Need-returns-4
 returns-4 c =
