@@ -1,2 +1,3 @@
--- Below: what holds of every number below i and of i holds below i + 1.
-pub mod Below
+-- Tests: laws of the tests of lists. Copies: laws of lists that are written.
+pub mod Tests
+pub mod Copies

@@ -1,23 +1,30 @@
 // A line of the input is a call with what it must answer; its letter names the call, its numbers follow. The second implementation
 // writes such lines (reference/src/material/vectors.rs sets them out).
-//   Case              what the lines of a case have made so far
-//   Verdict, Checked  whether a call answered as the line says, or what differs; and the case
-//   new_case, check   a case before its first line; the call of one line
-//   make_into, send_into     a key, a first message into a marked buffer
+//   Case                       what the lines of a case have made so far
+//   Verdict, Checked           whether a call answered as the line says, or what differs; and the case
+//   check_plan .. check_finish one line each: the call, and every number of its answer compared
+//   Copied, copy_out, copied_reply    a reply whose part is copied out of the key
 //   Given, give_first, give_reply   elements to the service, one place or block after the other
+//   check                      the call of one line
+//   lines                      the input, line by line
 // Every answer is compared whole: number, stage, set, and the lent buffer to its end.
+ghost use mathlib.Core.Path.{_≡_};
+ghost use Rattle.client.specs.Client.{reply-answer, part-of};
+ghost use Rattle.rounds.specs.Replied.{copied};
+
+pub mod lines;
+
 use crate::lists::KEY_AT;
 use crate::lists::ROOM;
 use crate::lists::SPACE;
 use crate::lists::copy_to;
+use crate::lists::front;
 use crate::lists::holds_just;
 use crate::lists::key_of;
 use crate::lists::marked;
 use crate::lists::marked_behind;
 use crate::lists::number_at;
-use crate::lists::part;
 use crate::lists::rest;
-use crate::lists::same;
 use client::Answer;
 use client::Client;
 use client::Stage;
@@ -27,6 +34,9 @@ use service::Service;
 
 // Stands for the answer where a line asks for a larger buffer than there is; no call answers it.
 const NO_ROOM: u32 = 99;
+
+// A reply has a share for each block.
+const SHARES: usize = Client::MOST_BLOCKS as usize;
 
 pub enum Verdict {
     Agrees,
@@ -82,7 +92,7 @@ fn lent_right(fits: bool) -> Verdict {
 }
 
 // A case of a plan, with a service that has nothing yet.
-pub fn new_case(plan: Plan, service: Service) -> Case {
+fn new_case(plan: Plan, service: Service) -> Case {
     let end = Client {
         plan,
         user: 0,
@@ -139,7 +149,7 @@ fn make_part(plan: Plan, user: u32, list: &[u16], out: &mut [u16], room: usize) 
 }
 
 // The key maker, into a part of a buffer.
-pub fn make_into(plan: Plan, user: u32, list: &[u16], out: &mut [u16; ROOM], room: usize) -> u32 {
+fn make_into(plan: Plan, user: u32, list: &[u16], out: &mut [u16; ROOM], room: usize) -> u32 {
     make_part(plan, user, list, out, room)
 }
 
@@ -152,7 +162,7 @@ fn check_key(mut case: Case, line: &[u16], lent: &mut [u16; SPACE]) -> Checked {
     let number = make_into(
         plan,
         number_at(line, 0),
-        part(lent, 0, length),
+        front(lent, length),
         &mut key,
         number_at(line, 1) as usize,
     );
@@ -210,7 +220,7 @@ fn send_part(end: Client, key: &[u16], figures: &[u16], out: &mut [u16], room: u
 }
 
 // The first message, into a part of a buffer.
-pub fn send_into(
+fn send_into(
     end: Client,
     key: &[u16],
     figures: &[u16],
@@ -233,7 +243,7 @@ fn check_first(mut case: Case, line: &[u16], lent: &[u16; SPACE]) -> Checked {
     let answer = send_into(
         end,
         key_of(lent, length),
-        part(line, 4, behind),
+        front(rest(line, 4), behind - 4),
         &mut message,
         number_at(line, 0) as usize,
     );
@@ -249,21 +259,67 @@ fn check_first(mut case: Case, line: &[u16], lent: &[u16; SPACE]) -> Checked {
     Checked { case, verdict }
 }
 
+// What a reply hands back, its shares copied out of the key.
+pub struct Copied {
+    pub number: u32,
+    pub client: Client,
+    pub count: usize,
+    pub shares: [u16; SHARES],
+}
+
+fn copy_out(number: u32, client: Client, part: &[u16]) -> Copied
+    ensures { λ r. ⌜ r ≡ copied (record { number = number; client = client }) (now (part .entry)) ⌝ }
+{
+    let mut shares = [0u16; SHARES];
+    let mut i = 0;
+    while i < SHARES {
+        if part.len() <= i {
+            return Copied {
+                number,
+                client,
+                count: i,
+                shares,
+            };
+        }
+        shares[i] = part[i];
+        i += 1;
+    }
+    Copied {
+        number,
+        client,
+        count: part.len(),
+        shares,
+    }
+}
+
+// The only function here that holds a part of the key: what it hands back is plain.
+fn copied_reply(end: Client, key: &[u16], set: u32) -> Copied
+    ensures { λ r. ⌜ r ≡ copied (reply-answer end (now (key .entry)) set) (part-of end (now (key .entry)) set) ⌝ }
+{
+    let replied = end.reply(key, set);
+    copy_out(replied.number, replied.client, replied.part)
+}
+
 // r set number stage part..: the end's reply to a set, and the part of the key.
 fn check_reply(mut case: Case, line: &[u16], lent: &[u16; SPACE]) -> Checked {
     let end = case.end;
     let length = case.key;
-    let set = number_at(line, 0);
-    let key = key_of(lent, length);
-    let answer = end.reply(key, set);
-    let next = answer.client;
+    let wanted = rest(line, 3);
+    let replied = copied_reply(end, key_of(lent, length), number_at(line, 0));
+    let next = replied.client;
     let stage = next.stage;
+    let shares = replied.shares;
     case.end = next;
+    let elements = if replied.count == wanted.len() {
+        holds_just(&shares, wanted, 0)
+    } else {
+        false
+    };
     let verdict = judge(
-        answer.number,
+        replied.number,
         number_at(line, 1),
         stage_is(stage, number_at(line, 2)),
-        same(next.part(key, set), rest(line, 3)),
+        elements,
     );
     Checked { case, verdict }
 }
@@ -279,7 +335,7 @@ fn check_open(mut case: Case, line: &[u16]) -> Checked {
 }
 
 // Gives the service a user's first elements from a place on, each of which must be answered by the number.
-pub fn give_first(start: Service, user: u32, from: u32, elements: &[u16], number: u32) -> Given {
+fn give_first(start: Service, user: u32, from: u32, elements: &[u16], number: u32) -> Given {
     let mut service = start;
     let mut place = from;
     let mut i = 0;
@@ -303,7 +359,7 @@ pub fn give_first(start: Service, user: u32, from: u32, elements: &[u16], number
 }
 
 // The same for a user's reply elements from a block on.
-pub fn give_reply(start: Service, user: u32, from: u32, elements: &[u16], number: u32) -> Given {
+fn give_reply(start: Service, user: u32, from: u32, elements: &[u16], number: u32) -> Given {
     let mut service = start;
     let mut block = from;
     let mut i = 0;
@@ -433,7 +489,7 @@ fn check_service(case: Case, letter: u8, line: &[u16]) -> Checked {
 }
 
 // Makes the call of a line and compares; the random list and the key are lent.
-pub fn check(case: Case, letter: u8, line: &[u16], lent: &mut [u16; SPACE]) -> Checked {
+fn check(case: Case, letter: u8, line: &[u16], lent: &mut [u16; SPACE]) -> Checked {
     if !fits(letter, line.len()) {
         let verdict = Verdict::Damaged;
         return Checked { case, verdict };

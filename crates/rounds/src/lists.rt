@@ -1,22 +1,28 @@
-// Lists of numbers, read without a requirement: past the end stands 0, and what is no part of a list is empty.
-//   SPACE, space, KEY_AT    what is lent, and where the key starts in it
-//   ROOM, MARK, marked      a buffer for a key or a message
-//   number_at, part, rest   a number; the numbers of a range; those from a place on
-//   front, key_of           the first elements of a buffer; the key that is lent
-//   same, all_are           two lists that are equal; a list with one number throughout
-//   copy_to                 writes a list
+// Lists of numbers, read without a requirement: past the end stands 0, and a list has no more than its own elements.
+//   SPACE, space, KEY_AT        what is lent, and where the key starts in it
+//   ROOM, MARK, marked          a buffer for a key or a message
+//   number_at, front, rest      a number; the first n; those from a place on
+//   key_of                      the key that is lent
+//   same, all_are               two lists that are equal; a list with one number throughout
+//   copy_to                     writes a list
 //   holds_just, marked_behind   a list, and one number throughout behind it
 ghost use mathlib.Core.Path.{_≡_};
-ghost use mathlib.Core.Bool.{true};
-ghost use Prim.Native.Nat.{ℕ, _≤_, _<_};
-ghost use lib.ListN.{length, getD};
+ghost use mathlib.Core.Bool.{cond};
+ghost use mathlib.Core.List.{_++_};
+ghost use Prim.Native.Nat.{_+_, _-_, _≤_};
+ghost use lib.Dec.{leb};
+ghost use lib.ListN.{length, getD, take, drop, replicate};
+ghost use lib.Seq.{sets};
+ghost use Rattle.rounds.specs.Lists.{Exactly};
 
 // Room for what is lent: the longest random list, 7952 elements, and behind it the longest key, 2048. No line has more numbers.
 pub const SPACE: usize = 10496;
 
 pub const KEY_AT: usize = 8192;
 
-pub fn space() -> [u16; SPACE] {
+pub fn space() -> [u16; SPACE]
+    ensures { λ r. ⌜ r ≡ replicate 10496 0 ⌝ }
+{
     [0; SPACE]
 }
 
@@ -25,7 +31,9 @@ pub const ROOM: usize = 2304;
 
 pub const MARK: u16 = 7;
 
-pub fn marked() -> [u16; ROOM] {
+pub fn marked() -> [u16; ROOM]
+    ensures { λ r. ⌜ r ≡ replicate 2304 7 ⌝ }
+{
     [MARK; ROOM]
 }
 
@@ -44,30 +52,32 @@ pub fn number_at(s: &[u16], i: usize) -> u32
     0
 }
 
-pub fn part(s: &[u16], from: usize, end: usize) -> &[u16] {
-    if end < from {
+pub fn front(s: &[u16], n: usize) -> &[u16]
+    ensures { λ r. ⌜ now r ≡ take n (now (s .entry)) ⌝ }
+{
+    if s.len() < n {
+        return s;
+    }
+    &s[..n]
+}
+
+pub fn rest(s: &[u16], from: usize) -> &[u16]
+    ensures { λ r. ⌜ now r ≡ drop from (now (s .entry)) ⌝ }
+{
+    if s.len() < from {
         return &s[0..0];
     }
-    if s.len() < end {
-        return &s[0..0];
-    }
-    &s[from..end]
+    &s[from..]
 }
 
-pub fn rest(s: &[u16], from: usize) -> &[u16] {
-    part(s, from, s.len())
-}
-
-pub fn front(s: &[u16; ROOM], n: usize) -> &[u16] {
-    part(s, 0, n)
-}
-
-pub fn key_of(lent: &[u16; SPACE], n: usize) -> &[u16] {
-    part(rest(lent, KEY_AT), 0, n)
+pub fn key_of(lent: &[u16; SPACE], n: usize) -> &[u16]
+    ensures { λ r. ⌜ now r ≡ take n (drop 8192 (now (lent .entry))) ⌝ }
+{
+    front(rest(lent, KEY_AT), n)
 }
 
 pub fn same(a: &[u16], b: &[u16]) -> bool
-    ensures { λ r. ⌜ (r ≡ true → now (a .entry) ≡ now (b .entry)) × (now (a .entry) ≡ now (b .entry) → r ≡ true) ⌝ }
+    ensures { λ r. ⌜ Exactly r (now (a .entry) ≡ now (b .entry)) ⌝ }
 {
     if a.len() != b.len() {
         return false;
@@ -83,7 +93,7 @@ pub fn same(a: &[u16], b: &[u16]) -> bool
 }
 
 pub fn all_are(s: &[u16], x: u16) -> bool
-    ensures { λ r. ⌜ (r ≡ true → (i : ℕ) → i < length (now (s .entry)) → getD (now (s .entry)) i 0 ≡ x) ⌝ }
+    ensures { λ r. ⌜ Exactly r (now (s .entry) ≡ replicate (length (now (s .entry))) x) ⌝ }
 {
     let mut i = 0;
     while i < s.len() {
@@ -96,7 +106,10 @@ pub fn all_are(s: &[u16], x: u16) -> bool
 }
 
 // Writes s into out from `at` on, and answers whether it fits.
-pub fn copy_to(s: &[u16], out: &mut [u16], at: usize) -> bool {
+pub fn copy_to(s: &[u16], out: &mut [u16], at: usize) -> bool
+    ensures fits { λ r. ⌜ r ≡ leb (at + length (now (s .entry))) (length (now (out .entry))) ⌝ }
+    ensures left { λ r. ⌜ now (out .exit) ≡ cond (leb (at + length (now (s .entry))) (length (now (out .entry)))) (sets (now (out .entry)) at (now (s .entry))) (now (out .entry)) ⌝ }
+{
     if out.len() < at {
         return false;
     }
@@ -112,14 +125,18 @@ pub fn copy_to(s: &[u16], out: &mut [u16], at: usize) -> bool {
 }
 
 // Whether s is the wanted list, then x throughout.
-pub fn holds_just(s: &[u16], wanted: &[u16], x: u16) -> bool {
-    if !same(part(s, 0, wanted.len()), wanted) {
+pub fn holds_just(s: &[u16], wanted: &[u16], x: u16) -> bool
+    ensures { λ r. ⌜ Exactly r (now (s .entry) ≡ now (wanted .entry) ++ replicate (length (now (s .entry)) - length (now (wanted .entry))) x) ⌝ }
+{
+    if !same(front(s, wanted.len()), wanted) {
         return false;
     }
     all_are(rest(s, wanted.len()), x)
 }
 
 // Whether a buffer is the wanted list, then the mark throughout.
-pub fn marked_behind(s: &[u16; ROOM], wanted: &[u16]) -> bool {
+pub fn marked_behind(s: &[u16; ROOM], wanted: &[u16]) -> bool
+    ensures { λ r. ⌜ Exactly r (now (s .entry) ≡ now (wanted .entry) ++ replicate (2304 - length (now (wanted .entry))) 7) ⌝ }
+{
     holds_just(s, wanted, MARK)
 }

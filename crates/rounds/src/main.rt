@@ -1,41 +1,18 @@
 // Runs the examples of document 01 that no theorem covers, and the cases of the second implementation that come on standard input, by
 // the public functions, and checks every result. It says what agrees, or the first line of the input that does not.
-//   Run              how far the run has come
-//   main, examples   the examples, then the input
-//   turn             one read, and its lines
-//   take             the lines of a chunk
-//   tell             what differs
+//   lengths_right   plan 8 2 1 16: its lengths; a round of it is among the cases
+//   stream_lines    the example stream, cut in two at every byte: the printed lines; and the line of refusal 7
+//   main            the examples, then the input (calls/lines.rt)
+// Document 01's airfield is a user here.
 mod calls;
-mod example;
-mod line;
 mod lists;
 
-use calls::Case;
-use calls::Verdict;
-use example::BYTES;
-use libc::STDIN_FILENO;
+use client::Client;
 use libc::STDOUT_FILENO;
-use line::Line;
-use lists::SPACE;
 use plan::Plan;
 use service::Service;
-
-pub enum Got {
-    Bytes(usize),
-    End,
-    Again,
-    Failed,
-}
-
-// The line under way and the case; how many lines and cases are whole; and what the last line showed.
-pub struct Run {
-    pub line: Line,
-    pub case: Case,
-    pub lines: u64,
-    pub cases: u64,
-    pub verdict: Verdict,
-    pub done: bool,
-}
+use stream::Fed;
+use stream::Stop;
 
 fn say(text: &[u8]) {
     io::write_all(STDOUT_FILENO, text);
@@ -45,187 +22,129 @@ fn say_number(n: u64) {
     io::print_decimal(STDOUT_FILENO, n);
 }
 
-// One read: how many bytes are there.
-fn fill(buf: &mut [u8]) -> Got {
-    let got = libc::read(STDIN_FILENO, buf);
-    if got == 0 {
-        return Got::End;
-    }
-    if got < 0 {
-        if os::errno() == libc::EINTR {
-            return Got::Again;
-        }
-        return Got::Failed;
-    }
-    Got::Bytes(io::count(got, buf))
-}
+// "Plan 8 2 1 16: random list 4080, each key 2048 elements."
+const LIST: usize = 4080;
 
-// What a line showed that does not agree.
-fn tell(run: Run) {
-    let verdict = run.verdict;
-    say(b"case ");
-    say_number(run.cases);
-    say(b", line ");
-    say_number(run.lines);
-    match verdict {
-        Verdict::Agrees => say(b": agrees\n"),
-        Verdict::Damaged => say(b": no line of a case\n"),
-        Verdict::Number => say(b": another number is answered\n"),
-        Verdict::Stage => say(b": the end is at another stage\n"),
-        Verdict::Set => say(b": another set is handed back\n"),
-        Verdict::Elements => say(b": other elements are handed back\n"),
-    }
-}
+const KEY: usize = 2048;
 
-fn agrees(verdict: Verdict) -> bool {
-    match verdict {
-        Verdict::Agrees => true,
-        Verdict::Damaged => false,
-        Verdict::Number => false,
-        Verdict::Stage => false,
-        Verdict::Set => false,
-        Verdict::Elements => false,
-    }
-}
-
-// A whole line: the call is made and compared.
-fn whole(run: Run, line: Line, numbers: &[u16; SPACE], lent: &mut [u16; SPACE]) -> Run {
-    let case = run.case;
-    let count = line.count;
-    let letter = if line.damaged { 0 } else { line.letter };
-    let checked = calls::check(case, letter, lists::part(numbers, 0, count), lent);
-    let next = checked.case;
-    let verdict = checked.verdict;
-    let lines = std::num::wrapping_add_u64(run.lines, 1);
-    let cases = if letter == b'p' {
-        std::num::wrapping_add_u64(run.cases, 1)
-    } else {
-        run.cases
-    };
-    let done = !agrees(verdict);
-    Run {
-        line: line::new_line(),
-        case: next,
-        lines,
-        cases,
-        verdict,
-        done,
-    }
-}
-
-// The lines of a chunk, up to the first that does not agree; what is left of a line stays under way.
-fn take(start: Run, chunk: &[u8], numbers: &mut [u16; SPACE], lent: &mut [u16; SPACE]) -> Run {
-    let mut run = start;
-    let mut at = 0;
-    while at < chunk.len() {
-        let under_way = run.line;
-        let read = line::read_on(under_way, chunk, at, numbers);
-        let line = read.line;
-        if read.whole {
-            let next = whole(run, line, numbers, lent);
-            run = next;
-            if run.done {
-                return run;
-            }
-        } else {
-            run.line = line;
-        }
-        at = read.at;
-    }
-    run
-}
-
-fn finished(mut run: Run) -> Run {
-    run.done = true;
-    run
-}
-
-// The end of the input: it must be the end of a line.
-fn ended(run: Run) -> Run {
-    let line = run.line;
-    if line.letter != 0 {
-        say(b"the input ends within a line\n");
-        return finished(run);
-    }
-    say(b"cases: ");
-    say_number(run.cases);
-    say(b" agree\n");
-    finished(run)
-}
-
-fn turn(
-    run: Run,
-    buf: &mut [u8; BYTES],
-    numbers: &mut [u16; SPACE],
-    lent: &mut [u16; SPACE],
-) -> Run {
-    let got = fill(buf);
-    match got {
-        Got::Bytes(n) => {
-            let next = take(run, example::piece(buf, 0, n), numbers, lent);
-            if next.done {
-                tell(next);
-            }
-            next
-        }
-        Got::Again => run,
-        Got::End => ended(run),
-        Got::Failed => {
-            os::fail(b"rounds: standard input");
-            finished(run)
-        }
-    }
-}
-
-fn examples(buf: &mut [u8; BYTES], lent: &mut [u16; SPACE]) -> bool {
-    if !example::whole_plan(lent) {
-        say(b"plan 8 2 1 16: a result differs\n");
-        return false;
-    }
-    say(b"plan 8 2 1 16: list 4080, key 2048, and a round with dropouts\n");
-    if !example::stream_lines(buf) {
-        say(b"example stream: a line differs\n");
-        return false;
-    }
-    say(b"example stream: as printed, cut at every byte\n");
-    true
-}
-
-fn new_run() -> Run {
+fn lengths_right() -> bool {
     let plan = Plan {
-        users: 0,
-        threshold: 0,
-        collusion: 0,
-        blocks: 0,
+        users: Client::MOST_USERS,
+        threshold: 2,
+        collusion: Client::LEAST_COLLUSION,
+        blocks: Client::MOST_BLOCKS,
     };
-    Run {
-        line: line::new_line(),
-        case: calls::new_case(plan, Service::new()),
-        lines: 0,
-        cases: 0,
-        verdict: Verdict::Agrees,
-        done: false,
+    let mut user: u32 = 1;
+    while user <= Client::MOST_USERS {
+        if plan::key_length(plan, user) != KEY {
+            return false;
+        }
+        user += 1;
     }
+    plan::list_length(plan) == LIST
+}
+
+// Room for a chunk of the input, and for the lines of the example.
+const BYTES: usize = 65536;
+
+fn piece(s: &[u8], from: usize, end: usize) -> &[u8] {
+    if end < from {
+        return &s[0..0];
+    }
+    if s.len() < end {
+        return &s[0..0];
+    }
+    &s[from..end]
+}
+
+// Feeds b, its lines behind the first `wrote` bytes of text; no room answers as feed does.
+fn feed_behind(service: Service, b: &[u8], offset: u64, text: &mut [u8], wrote: usize) -> Fed {
+    if text.len() < wrote {
+        return Fed {
+            service,
+            at: 0,
+            wrote: 0,
+            stop: Stop::Full,
+        };
+    }
+    stream::feed(service, b, offset, &mut text[wrote..])
+}
+
+fn all_used(stop: Stop) -> bool {
+    match stop {
+        Stop::Used => true,
+        Stop::Unknown => false,
+        Stop::Partial => false,
+        Stop::Full => false,
+        Stop::Far => false,
+    }
+}
+
+// Whether the lines stand in the bytes that two feeds wrote.
+fn lines_are(text: &[u8], wrote: usize, more: usize, lines: &[u8]) -> bool {
+    if text.len() < wrote {
+        return false;
+    }
+    if text.len() - wrote < more {
+        return false;
+    }
+    check::same(piece(text, 0, wrote + more), lines)
+}
+
+// The first `cut` bytes are fed, then the rest from where feed stopped.
+fn cut_lines(input: &[u8], lines: &[u8], cut: usize, text: &mut [u8; BYTES]) -> bool {
+    let first = stream::feed(Service::new(), piece(input, 0, cut), 0, text);
+    let service = first.service;
+    let at = first.at;
+    let wrote = first.wrote;
+    let second = feed_behind(
+        service,
+        piece(input, at, input.len()),
+        at as u64,
+        text,
+        wrote,
+    );
+    let stop = second.stop;
+    if !all_used(stop) {
+        return false;
+    }
+    lines_are(text, wrote, second.wrote, lines)
+}
+
+fn every_cut(input: &[u8], lines: &[u8], text: &mut [u8; BYTES]) -> bool {
+    let mut cut = 0;
+    while cut < input.len() {
+        if !cut_lines(input, lines, cut, text) {
+            return false;
+        }
+        cut += 1;
+    }
+    cut_lines(input, lines, cut, text)
+}
+
+// The example input of document 01 and its output; and the line of a record cut short at offset 34.
+fn stream_lines(text: &mut [u8; BYTES]) -> bool {
+    let input =
+        b"\x01\x03\x02\x01\x01\x02\x07\x00\x00\x00\x03\x01\x00\x00\x6E\x00\x03\x03\x00\x00\x4A\x01\x04\x03\x02\x00\x00\xDC\x00\x05\x01\x00\xDC\x00\x05\x03\x00\x70\x00\x06";
+    let lines = b"plan 3 2 1 1\nopen 7\nsurvivors 7 5\nrefused 12 at 23\ntotal 7 40\n";
+    if !every_cut(input, lines, text) {
+        return false;
+    }
+    let wrote = stream::cut(34, text);
+    check::same(piece(text, 0, wrote), b"refused 7 at 34\n")
 }
 
 fn main() {
-    let mut input = io::large_buffer();
-    let mut line_space = lists::space();
-    let mut lent_space = lists::space();
-    let buf = &mut input;
-    let numbers = &mut line_space;
-    let lent = &mut lent_space;
-    if !examples(buf, lent) {
+    if !lengths_right() {
+        say(b"plan 8 2 1 16: a length differs\n");
         return;
     }
-    let mut run = new_run();
-    let mut turns = u64::MAX;
-    while 0 < turns {
-        let next = turn(run, buf, numbers, lent);
-        if next.done {
-            return;
-        }
-        run = next;
-        turns -= 1;
+    say(b"plan 8 2 1 16: list 4080, each key 2048\n");
+    let mut text = io::large_buffer();
+    if !stream_lines(&mut text) {
+        say(b"example stream: a line differs\n");
+        return;
     }
+    say(b"example stream: as printed, cut at every byte\n");
+    calls::lines::read_all();
 }

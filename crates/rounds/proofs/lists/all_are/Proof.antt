@@ -1,11 +1,12 @@
--- `rounds::lists::all_are` meets its contract: the numbers passed are x.
+-- `rounds::lists::all_are` meets its contract. The loop's invariant: the numbers passed are x.
 -- Assumes nothing.
-use mathlib.Core.Path.{_≡_}
+use mathlib.Core.Path.{_≡_, sym, ap, _∙_}
 use Prim.Native.Nat.{ℕ, _-_, _≤_, _<_}
 use native.Mathlib.Omega.{arith}
-use lib.ListN.{length, getD}
+use lib.ListN.{length, getD, length-replicate}
+use lib.Seq.{ext-getD}
 use borrow.Author.Needs.{needs}
-use Rattle.rounds.proofs.Below.{below-next}
+use Rattle.rounds.proofs.Tests.{agrees, differs, below-next, throughout}
 use Rattle.rounds.proofs.lists.all_are.Statement.{statement}
 use Rattle.rounds.proofs.lists.all_are.Tie as tie
 
@@ -25,7 +26,10 @@ shared-slice-read-if1 : tie.Need-shared-slice-read-if1 Inv-loop μ-loop
 shared-slice-read-if1 c = search needs
 
 returns : tie.Need-returns Inv-loop μ-loop
-returns c = λ e. absurd (let z : _≡_ {A = ℕ} 0 1 = cc in omega arith)
+returns c =
+    let l = c .before .before .before in
+    let a = l .before .args in
+    differs (λ e. c .if1 .taken (ap (λ s. getD s (l .loop .i) 0) e ∙ throughout (length (a .s .now)) (a .x) (l .loop .i) (omega arith)))
 
 add-i : tie.Need-add-i Inv-loop μ-loop
 add-i c = search needs
@@ -39,7 +43,12 @@ loop-again c =
     (search needs, below-next _ (l .i) (l .inv .1) (c .if1 .left))
 
 returns-2 : tie.Need-returns-2 Inv-loop μ-loop
-returns-2 c = λ e j h. c .before .loop .inv .1 j (omega arith)
+returns-2 c =
+    let l = c .before in
+    let a = l .before .args in
+    agrees
+    (ext-getD 0 _ _ (sym (length-replicate (length (a .s .now)) (a .x)))
+    (λ j h. l .loop .inv .1 j (omega arith) ∙ sym (throughout (length (a .s .now)) (a .x) j h)))
 
 pub all-are-spec : {M : Type 1} → statement M
 all-are-spec =

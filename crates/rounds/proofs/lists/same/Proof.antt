@@ -1,12 +1,12 @@
 -- `rounds::lists::same` meets its contract: the numbers passed are the same.
 -- Assumes nothing.
-use mathlib.Core.Path.{_≡_, refl, ap}
+use mathlib.Core.Path.{_≡_, ap}
 use Prim.Native.Nat.{ℕ, _-_, _≤_, _<_}
 use native.Mathlib.Omega.{arith}
 use lib.ListN.{length, getD}
 use lib.Seq.{ext-getD}
 use borrow.Author.Needs.{needs}
-use Rattle.rounds.proofs.Below.{below-next}
+use Rattle.rounds.proofs.Tests.{agrees, differs, below-next}
 use Rattle.rounds.proofs.lists.same.Statement.{statement}
 use Rattle.rounds.proofs.lists.same.Tie as tie
 
@@ -17,7 +17,7 @@ abbrev μ-loop : tie.MeasureT-loop
 μ-loop a b i₀ i = length a - i
 
 returns : tie.Need-returns Inv-loop μ-loop
-returns c = (λ e. absurd (let z : _≡_ {A = ℕ} 0 1 = cc in omega arith), λ e. absurd (c .if1 .taken (ap length e)))
+returns c = differs (λ e. c .if1 .taken (ap length e))
 
 loop-holds : tie.Need-loop-holds Inv-loop μ-loop
 loop-holds c = search needs
@@ -35,7 +35,7 @@ shared-slice-read-if2-2 : tie.Need-shared-slice-read-if2-2 Inv-loop μ-loop
 shared-slice-read-if2-2 c = search needs
 
 returns-2 : tie.Need-returns-2 Inv-loop μ-loop
-returns-2 c = (λ e. absurd (let z : _≡_ {A = ℕ} 0 1 = cc in omega arith), λ e. absurd (c .if2 .taken (ap (λ l. getD l (c .before .before .before .before .loop .i) 0) e)))
+returns-2 c = differs (λ e. c .if2 .taken (ap (λ l. getD l (c .before .before .before .before .loop .i) 0) e))
 
 add-i : tie.Need-add-i Inv-loop μ-loop
 add-i c = search needs
@@ -51,7 +51,7 @@ loop-again c =
 returns-3 : tie.Need-returns-3 Inv-loop μ-loop
 returns-3 c =
     let l = c .before .loop in
-    (λ e. ext-getD 0 _ _ (l .inv .1) (λ j h. l .inv .2 j (omega arith)), λ e. refl)
+    agrees (ext-getD 0 _ _ (l .inv .1) (λ j h. l .inv .2 j (omega arith)))
 
 pub same-spec : {M : Type 1} → statement M
 same-spec =

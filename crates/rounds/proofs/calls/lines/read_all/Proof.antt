@@ -1,8 +1,8 @@
--- `rounds::main` is safe and ends: the number of turns falls.
+-- `rounds::calls::lines::read_all` is safe and ends: the number of turns falls.
 -- Assumes nothing.
 use borrow.Author.Needs.{needs}
-use Rattle.rounds.proofs.main.Statement.{statement}
-use Rattle.rounds.proofs.main.Tie as tie
+use Rattle.rounds.proofs.calls.lines.read_all.Statement.{statement}
+use Rattle.rounds.proofs.calls.lines.read_all.Tie as tie
 
 abbrev Inv-loop : tie.InvT-loop
 Inv-loop buf₀ numbers₀ lent₀ run₀ turns₀ buf numbers lent run turns = Unit {0}
@@ -19,12 +19,6 @@ space-requires c κs = search needs
 space-requires-2 : tie.Need-space-requires-2 Inv-loop μ-loop
 space-requires-2 c κs = search needs
 
-examples-requires : tie.Need-examples-requires Inv-loop μ-loop
-examples-requires c κs = search needs
-
-returns : tie.Need-returns Inv-loop μ-loop
-returns c = search needs
-
 new-run-requires : tie.Need-new-run-requires Inv-loop μ-loop
 new-run-requires c κs = search needs
 
@@ -34,8 +28,8 @@ loop-holds c = search needs
 turn-requires : tie.Need-turn-requires Inv-loop μ-loop
 turn-requires c κs = search needs
 
-returns-2 : tie.Need-returns-2 Inv-loop μ-loop
-returns-2 c = search needs
+returns : tie.Need-returns Inv-loop μ-loop
+returns c = search needs
 
 sub-turns : tie.Need-sub-turns Inv-loop μ-loop
 sub-turns c = search needs
@@ -46,11 +40,11 @@ loop-less c = search needs
 loop-again : tie.Need-loop-again Inv-loop μ-loop
 loop-again c = search needs
 
-returns-3 : tie.Need-returns-3 Inv-loop μ-loop
-returns-3 c = search needs
+returns-2 : tie.Need-returns-2 Inv-loop μ-loop
+returns-2 c = search needs
 
-pub main-spec : {M : Type 1} → statement M
-main-spec =
+pub read-all-spec : {M : Type 1} → statement M
+read-all-spec =
     tie.close
     (tie.spec
     Inv-loop
@@ -58,13 +52,11 @@ main-spec =
     large-buffer-requires
     space-requires
     space-requires-2
-    examples-requires
-    returns
     new-run-requires
     loop-holds
     turn-requires
-    returns-2
+    returns
     sub-turns
     loop-less
     loop-again
-    returns-3)
+    returns-2)

@@ -1,18 +1,15 @@
--- `rounds::example::lengths_right` is safe and ends: the users left fall.
+-- `rounds::lengths_right` is safe and ends: the users left fall.
 -- Assumes nothing.
 use Prim.Native.Nat.{_-_, _≤_}
 use borrow.Author.Needs.{needs}
-use Rattle.rounds.proofs.example.lengths_right.Statement.{statement}
-use Rattle.rounds.proofs.example.lengths_right.Tie as tie
+use Rattle.rounds.proofs.lengths_right.Statement.{statement}
+use Rattle.rounds.proofs.lengths_right.Tie as tie
 
 abbrev Inv-loop : tie.InvT-loop
 Inv-loop plan user₀ user = (1 ≤ user) × (user ≤ 9)
 
 abbrev μ-loop : tie.MeasureT-loop
 μ-loop plan user₀ user = 9 - user
-
-the-plan-requires : tie.Need-the-plan-requires Inv-loop μ-loop
-the-plan-requires c κs = search needs
 
 loop-holds : tie.Need-loop-holds Inv-loop μ-loop
 loop-holds c = search needs
@@ -44,7 +41,6 @@ lengths-right-spec =
     (tie.spec
     Inv-loop
     μ-loop
-    the-plan-requires
     loop-holds
     key-length-requires
     returns

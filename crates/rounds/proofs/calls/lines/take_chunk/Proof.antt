@@ -1,10 +1,10 @@
--- `rounds::take` is safe and ends: what is left of the chunk falls.
+-- `rounds::calls::lines::take_chunk` is safe and ends: what is left of the chunk falls.
 -- Assumes nothing.
 use Prim.Native.Nat.{_-_, _≤_}
 use lib.ListN.{length}
 use borrow.Author.Needs.{needs}
-use Rattle.rounds.proofs.take.Statement.{statement}
-use Rattle.rounds.proofs.take.Tie as tie
+use Rattle.rounds.proofs.calls.lines.take_chunk.Statement.{statement}
+use Rattle.rounds.proofs.calls.lines.take_chunk.Tie as tie
 
 abbrev Inv-loop : tie.InvT-loop
 Inv-loop chunk numbers₀ lent₀ run₀ at₀ numbers lent run at = at ≤ length chunk
@@ -39,8 +39,8 @@ loop-again-2 c = search needs
 returns-2 : tie.Need-returns-2 Inv-loop μ-loop
 returns-2 c = search needs
 
-pub take-spec : {M : Type 1} → statement M
-take-spec =
+pub take-chunk-spec : {M : Type 1} → statement M
+take-chunk-spec =
     tie.close
     (tie.spec
     Inv-loop

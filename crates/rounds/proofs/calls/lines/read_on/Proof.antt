@@ -1,11 +1,11 @@
--- `rounds::line::read_on` meets its contract: a turn takes one byte of the chunk.
+-- `rounds::calls::lines::read_on` meets its contract: a turn takes one byte of the chunk.
 -- Assumes nothing.
 use mathlib.Core.Path.{_≡_}
 use Prim.Native.Nat.{_-_, _≤_}
 use lib.ListN.{length}
 use borrow.Author.Needs.{needs}
-use Rattle.rounds.proofs.line.read_on.Statement.{statement}
-use Rattle.rounds.proofs.line.read_on.Tie as tie
+use Rattle.rounds.proofs.calls.lines.read_on.Statement.{statement}
+use Rattle.rounds.proofs.calls.lines.read_on.Tie as tie
 
 abbrev Inv-loop : tie.InvT-loop
 Inv-loop chunk from numbers₀ line₀ at₀ numbers line at = (from ≤ at) × (at ≤ length chunk) × (length numbers ≡ length numbers₀)
@@ -19,8 +19,8 @@ loop-holds c = search needs
 shared-slice-read-byte : tie.Need-shared-slice-read-byte Inv-loop μ-loop
 shared-slice-read-byte c = search needs
 
-ended-requires : tie.Need-ended-requires Inv-loop μ-loop
-ended-requires c κs = search needs
+number-ended-requires : tie.Need-number-ended-requires Inv-loop μ-loop
+number-ended-requires c κs = search needs
 
 add-t16 : tie.Need-add-t16 Inv-loop μ-loop
 add-t16 c = search needs
@@ -57,7 +57,7 @@ read-on-spec =
     μ-loop
     loop-holds
     shared-slice-read-byte
-    ended-requires
+    number-ended-requires
     add-t16
     same-length
     returns

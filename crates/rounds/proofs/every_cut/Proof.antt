@@ -1,10 +1,10 @@
--- `rounds::example::every_cut` is safe and ends: the bytes left fall.
+-- `rounds::every_cut` is safe and ends: the bytes left fall.
 -- Assumes nothing.
 use Prim.Native.Nat.{_-_, _≤_}
 use lib.ListN.{length}
 use borrow.Author.Needs.{needs}
-use Rattle.rounds.proofs.example.every_cut.Statement.{statement}
-use Rattle.rounds.proofs.example.every_cut.Tie as tie
+use Rattle.rounds.proofs.every_cut.Statement.{statement}
+use Rattle.rounds.proofs.every_cut.Tie as tie
 
 abbrev Inv-loop : tie.InvT-loop
 Inv-loop input lines text₀ cut₀ text cut = cut ≤ length input

@@ -1,0 +1,51 @@
+-- `rounds::lists::rest` meets its contract: behind its end a list has nothing.
+-- Assumes nothing.
+use mathlib.Core.Path.{sym}
+use Prim.Native.Nat.{_-_}
+use native.Mathlib.Omega.{arith}
+use lib.ListN.{length, drop, drop-of-length-le, length-drop}
+use lib.Seq.{take-all}
+use borrow.Author.Needs.{needs}
+use Rattle.rounds.proofs.lists.rest.Statement.{statement}
+use Rattle.rounds.proofs.lists.rest.Tie as tie
+
+sub-result : tie.Need-sub-result
+sub-result c = search needs
+
+part-result-start : tie.Need-part-result-start
+part-result-start c = search needs
+
+part-result-end : tie.Need-part-result-end
+part-result-end c = search needs
+
+returns : tie.Need-returns
+returns c = let a = c .before .before .args in sym (drop-of-length-le (a .s .now) {i = a .from} (omega arith))
+
+mul-result : tie.Need-mul-result
+mul-result c = search needs
+
+sub-result-2 : tie.Need-sub-result-2
+sub-result-2 c = search needs
+
+part-result-start-2 : tie.Need-part-result-start-2
+part-result-start-2 c = search needs
+
+part-result-end-2 : tie.Need-part-result-end-2
+part-result-end-2 c = search needs
+
+returns-2 : tie.Need-returns-2
+returns-2 c = let a = c .before .before .args in take-all (length (a .s .now) - a .from) (drop (a .from) (a .s .now)) (omega (arith, length-drop (a .from) (a .s .now)))
+
+pub rest-spec : {M : Type 1} → statement M
+rest-spec =
+    tie.close
+    (tie.spec
+    sub-result
+    part-result-start
+    part-result-end
+    returns
+    mul-result
+    sub-result-2
+    part-result-start-2
+    part-result-end-2
+    returns-2)
