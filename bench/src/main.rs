@@ -2,7 +2,7 @@
 //! repository's root. All results are compared before times are taken.
 mod calls;
 #[allow(dead_code)]
-#[path = "../../callers/cutawheno.rs"]
+#[path = "../../rust/src/lib.rs"]
 mod cutawheno;
 mod fast;
 mod program;
@@ -17,7 +17,15 @@ use timing::{BATCHES, RUNS};
 
 fn main() {
     let mut report = Report::default();
-    for p in [plan(8, 2, 1, 16), plan(8, 7, 1, 16), plan(8, 7, 6, 16), plan(3, 2, 1, 1)] {
+    for users in 3..=8 {
+        let p = plan(users, 2, 1, 16);
+        let times = calls::measure_keys(p);
+        report.growth.push((users, times));
+        if users == 8 {
+            report.call("key maker", p, times);
+        }
+    }
+    for p in [plan(8, 7, 1, 16), plan(8, 7, 6, 16), plan(3, 2, 1, 1)] {
         report.call("key maker", p, calls::measure_keys(p));
     }
     let plans = [plan(8, 2, 1, 16), plan(8, 7, 1, 16)];
@@ -37,9 +45,6 @@ fn main() {
             report.call(&format!("finish of {replies} replies"), p, finish);
             report.solver.push((format!("{}, {replies} replies", named(p)), finish[0], calls::measure_flint(&round, replies)));
         }
-    }
-    for users in 3..=8 {
-        report.growth.push((users, calls::measure_keys(plan(users, 2, 1, 16))));
     }
     program::measure(&mut report);
     report.proofs = proofs();

@@ -72,7 +72,7 @@ impl Report {
             }
         }
         line("\n## How cost grows with the number of airfields\n");
-        line("The key maker, U = 2, T = 1, M = 16. A key has shares for 2 ^ (K - 1) - 1 sets, so the time of the key maker doubles with each airfield, and so does that of first message and reply, which test the whole key. The service holds no key: its calls grow with K at most.\n");
+        line("The key maker, U = 2, T = 1, M = 16. A key has shares for 2 ^ (K - 1) - 1 sets, so the time of the key maker doubles with each airfield, and so does that of first message and reply, which test the whole key. The service holds no key: its calls grow with K at most. The row of K = 8 is that of plan 8 2 1 16 above.\n");
         line("| K | ours, ns | Rust, ns | ratio |\n|---|---|---|---|");
         for (users, [ours, rust]) in &self.growth {
             line(&format!("| {users} | {ours:.0} | {rust:.0} | {:.2} |", ours / rust));
@@ -102,8 +102,9 @@ impl Report {
             svg.text(200, y + 11, "end", name);
             let fill = if ratio <= 1.0 { "#4a8" } else { "#c84" };
             svg.bar(210.0, y, scale(ratio) - 210.0, fill);
-            svg.text(scale(ratio) as u32 + 6, y + 11, "start", &format!("{ratio:.2}"));
+            svg.text(scale(ratio.max(1.0)) as u32 + 6, y + 11, "start", &format!("{ratio:.2}"));
         }
+        svg.text(scale(1.0) as u32, 22, "middle", "1.00");
         svg.line(scale(1.0), 28.0, scale(1.0), 34.0 + bars as f64, "#333");
         let top = bars as f64 + 70.0;
         let micros = |i: usize| self.growth.iter().map(|row| (row.0, row.1[i] / 1e3)).collect::<Vec<_>>();
