@@ -62,8 +62,9 @@ impl Service {
         element: Element,
     ) -> Result<(), Refusal> {
         let plan = self.accepted_plan()?;
-        let Phase::Gathering { firsts } = &mut self.phase else {
-            return Err(Refusal::WrongPhase);
+        let firsts = match &mut self.phase {
+            Phase::Gathering { firsts } => firsts,
+            _ => return Err(Refusal::WrongPhase),
         };
         let place = usize::from(place);
         refuse_if(!plan.has_airfield(airfield), Refusal::AirfieldNumber)?;
@@ -77,8 +78,9 @@ impl Service {
     /// Gives the round and the survivors.
     pub fn close(&mut self) -> Result<(u32, Set), Refusal> {
         let plan = self.accepted_plan()?;
-        let Phase::Gathering { firsts } = &self.phase else {
-            return Err(Refusal::WrongPhase);
+        let firsts = match &self.phase {
+            Phase::Gathering { firsts } => firsts,
+            _ => return Err(Refusal::WrongPhase),
         };
         let survivors = complete(&plan, firsts, plan.row_length());
         refuse_if(!plan.usable(survivors), Refusal::TooFew)?;
@@ -94,8 +96,9 @@ impl Service {
         element: Element,
     ) -> Result<(), Refusal> {
         let plan = self.accepted_plan()?;
-        let Phase::Replying { survivors, replies, .. } = &mut self.phase else {
-            return Err(Refusal::WrongPhase);
+        let (survivors, replies) = match &mut self.phase {
+            Phase::Replying { survivors, replies, .. } => (survivors, replies),
+            _ => return Err(Refusal::WrongPhase),
         };
         let block = usize::from(block);
         refuse_if(!plan.has_airfield(airfield), Refusal::AirfieldNumber)?;
@@ -111,8 +114,9 @@ impl Service {
     /// ones do not.
     pub fn finish(&mut self) -> Result<(u32, Vec<Element>), Refusal> {
         let plan = self.accepted_plan()?;
-        let Phase::Replying { firsts, survivors, replies } = &self.phase else {
-            return Err(Refusal::WrongPhase);
+        let (firsts, survivors, replies) = match &self.phase {
+            Phase::Replying { firsts, survivors, replies } => (firsts, survivors, replies),
+            _ => return Err(Refusal::WrongPhase),
         };
         let answering = complete(&plan, replies, plan.blocks());
         refuse_if(!plan.usable(answering), Refusal::TooFew)?;

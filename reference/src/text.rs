@@ -18,8 +18,9 @@ pub fn line_of(record: &Record) -> String {
 /// The record on a line, nothing for a blank line, or what is wrong with it.
 pub fn record_of(line: &str) -> Result<Option<Record>, String> {
     let mut words = line.split(COMMENT).next().unwrap_or("").split_whitespace();
-    let Some(name) = words.next() else {
-        return Ok(None);
+    let name = match words.next() {
+        Some(name) => name,
+        None => return Ok(None),
     };
     let form = FORMS
         .iter()

@@ -1,4 +1,4 @@
-//! The stream's order of refusals, the text form, and the three programs.
+//! The stream's order of refusals, the text form, and the programs.
 
 use reference::stream::{run, to_bytes, Damage, Record, Records};
 use reference::text::{decode, encode};
@@ -107,10 +107,7 @@ fn what_was_held_before_is_not_used() {
 
 #[test]
 fn programs_agree_with_the_library() {
-    let records = env!("CARGO_BIN_EXE_records");
-    let bytes = program(records, &["encode"], EXAMPLE.as_bytes()).stdout;
-    assert_eq!(bytes, encode(EXAMPLE).unwrap());
-    assert_eq!(program(records, &["decode"], &bytes).stdout, EXAMPLE.as_bytes());
+    let bytes = encode(EXAMPLE).unwrap();
     let printed = program(env!("CARGO_BIN_EXE_reference"), &[], &bytes).stdout;
     assert_eq!(printed, run(&bytes).as_bytes());
     let generated = program(env!("CARGO_BIN_EXE_generate"), &["rounds", "5", "3"], &[]).stdout;
@@ -118,16 +115,8 @@ fn programs_agree_with_the_library() {
 }
 
 #[test]
-fn programs_fail_with_status_1() {
-    let records = env!("CARGO_BIN_EXE_records");
-    let outputs = [
-        program(records, &["encode"], b"open -1\n"),
-        program(records, &["decode"], &[4, 2]),
-        program(records, &[], &[]),
-        program(env!("CARGO_BIN_EXE_generate"), &["rounds"], &[]),
-    ];
-    for output in outputs {
-        assert_eq!(output.status.code(), Some(1));
-        assert!(!output.stderr.is_empty());
-    }
+fn generate_fails_with_status_1() {
+    let output = program(env!("CARGO_BIN_EXE_generate"), &["rounds"], &[]);
+    assert_eq!(output.status.code(), Some(1));
+    assert!(!output.stderr.is_empty());
 }

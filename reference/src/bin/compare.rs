@@ -10,7 +10,7 @@ use reference::material::{damaged, rounds};
 use reference::random::Random;
 use reference::stream::{run, to_bytes};
 use std::io::{self, Read, Write};
-use std::os::fd::OwnedFd;
+use std::os::unix::io::OwnedFd;
 use std::os::unix::net::UnixDatagram;
 use std::process::{Child, Command, ExitCode, Stdio};
 
@@ -21,9 +21,12 @@ const LONGEST_PIECE: usize = 12;
 
 fn main() -> io::Result<ExitCode> {
     let arguments: Vec<String> = std::env::args().skip(1).collect();
-    let Some((program, kind, first, last)) = read(&arguments) else {
-        eprintln!("{USAGE}");
-        return Ok(ExitCode::FAILURE);
+    let (program, kind, first, last) = match read(&arguments) {
+        Some(what) => what,
+        None => {
+            eprintln!("{USAGE}");
+            return Ok(ExitCode::FAILURE);
+        }
     };
     for seed in first..=last {
         let stream = match kind {
@@ -51,8 +54,9 @@ enum Kind {
 }
 
 fn read(arguments: &[String]) -> Option<(&str, Kind, u64, u64)> {
-    let [program, kind, first, last] = arguments else {
-        return None;
+    let (program, kind, first, last) = match arguments {
+        [program, kind, first, last] => (program, kind, first, last),
+        _ => return None,
     };
     let kind = match kind.as_str() {
         "rounds" => Kind::Rounds,

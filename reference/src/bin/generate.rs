@@ -16,9 +16,12 @@ const DEFAULT_COUNT: u32 = 20;
 
 fn main() -> io::Result<ExitCode> {
     let arguments: Vec<String> = std::env::args().skip(1).collect();
-    let Some((kind, seed, count)) = read(&arguments) else {
-        eprintln!("{USAGE}");
-        return Ok(ExitCode::FAILURE);
+    let (kind, seed, count) = match read(&arguments) {
+        Some(what) => what,
+        None => {
+            eprintln!("{USAGE}");
+            return Ok(ExitCode::FAILURE);
+        }
     };
     let mut out = BufWriter::new(io::stdout());
     match kind {

@@ -21,7 +21,7 @@ const SURVIVORS: [Set; 4] = [3, 5, 6, 7];
 fn main() -> io::Result<ExitCode> {
     let arguments: Vec<String> = std::env::args().skip(1).collect();
     let (program, count) = match &arguments[..] {
-        [program, count] if count.parse::<u32>().is_ok_and(|count| count >= 10) => {
+        [program, count] if count.parse::<u32>().map_or(false, |count| count >= 10) => {
             (program, count.parse().expect("tested"))
         }
         _ => {

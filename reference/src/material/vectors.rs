@@ -152,9 +152,10 @@ impl Case {
         numbers: &[u16],
     ) {
         let mut start = 0;
-        for run in numbers.chunk_by(|a, b| a == b) {
-            let end = start + run.len();
-            let head = [airfield.into(), from + short(start), run[0]];
+        while start < numbers.len() {
+            let number = numbers[start];
+            let end = start + numbers[start..].iter().take_while(|&&other| other == number).count();
+            let head = [airfield.into(), from + short(start), number];
             self.line(letter, &[&head, &elements[start..end]].concat());
             start = end;
         }

@@ -1,7 +1,5 @@
 //! Document 01's example round through the library, from Rust: keys, first messages, the service, the replies to set 5, the total 40,
 //! and some refusals. Exit status 101 where anything is not as expected.
-mod cutawheno;
-
 use cutawheno::{End, Plan, Refusal, Service, LONGEST_KEY, LONGEST_LIST, MOST_PLACES};
 
 const PLAN: Plan = Plan { users: 3, threshold: 2, collusion: 1, blocks: 1 };

@@ -1,36 +1,115 @@
-//! Safe Rust over the functions that include/cutawheno.h declares; link with libcapi.a.
+//! Pooled sums that nobody has to take on trust: key maker, airfield end and pooling service, safe over the proved functions that
+//! include/cutawheno.h declares (static library libcapi.a; build.rs finds it).
+//!
 //! A slice carries its own length, and the buffer to be written overlaps no other: what the header asks of a caller always holds.
-#![allow(dead_code)] // no program calls all of it
+//! Every call answers or refuses with the specification's number, and a refusal changes neither state nor lent memory.
+//!
+//! ```
+//! use cutawheno::{End, Plan, Refusal};
+//! let plan = Plan { users: 3, threshold: 2, collusion: 1, blocks: 1 };
+//! let mut key = vec![0; plan.key_len()];
+//! plan.make_key(1, &[100, 200, 300, 12, 60, 40, 120], &mut key)?;
+//! assert_eq!(key, [100, 154, 220, 340]);
+//! let mut end = End::start(plan, 1)?;
+//! let mut message = [0];
+//! end.first_message(&key, &[10], &mut message)?;
+//! assert_eq!(message, [110]);
+//! assert_eq!(end.reply(&key, 5)?, [220]);
+//! assert_eq!(end.reply(&key, 7), Err(Refusal::OtherSet));
+//! # Ok::<(), Refusal>(())
+//! ```
+//!
+//! `examples/round.rs` is a whole round.
+#![deny(missing_docs)]
 
-/// K, U, T and M of document 01.
+use std::fmt;
+
+/// K, U, T and M of document 01. Any numbers can be written down: a plan outside its ranges is refused by the calls that take it.
 #[derive(Clone, Copy, Debug, PartialEq, Eq)]
 pub struct Plan {
+    /// K, the airfields: 3 to 8.
     pub users: u32,
+    /// U, how many must respond at least: above T, below K.
     pub threshold: u32,
+    /// T, how many may collude: at least 1.
     pub collusion: u32,
+    /// M, the blocks of a row: 1 to 16.
     pub blocks: u32,
 }
 
 /// Why a call is refused, by document 01's numbers.
 #[derive(Clone, Copy, Debug, PartialEq, Eq)]
 pub enum Refusal {
+    /// The plan is outside its ranges.
     BadPlan = 1,
+    /// A lent list or buffer is not of the plan's length.
     BadLength = 2,
+    /// An element is above 65520.
     BadElement = 3,
+    /// The airfield number is 0 or above K.
     BadUser = 4,
+    /// The set has fewer than U members, or one above K.
     SetUnusable = 5,
+    /// The airfield is not in the set.
     NotInSet = 6,
+    /// The place or block is one that the plan has not.
     BadPlace = 8,
+    /// No plan yet, or a second plan.
     PlanOrder = 11,
+    /// Not in this phase.
     OtherPhase = 12,
+    /// That place or block is held already.
     Held = 13,
+    /// The airfield is not a survivor.
     NoSurvivor = 14,
+    /// Fewer than U complete airfields.
     TooFew = 15,
+    /// No sums and noise explain all complete replies.
     Unexplained = 16,
+    /// The round is not above the last one opened.
     OldRound = 17,
+    /// The first message was given already, or a reply is asked of a fresh end.
     OutOfTurn = 18,
+    /// Another set was answered.
     OtherSet = 19,
 }
+
+impl Refusal {
+    /// The number that document 01 gives it.
+    pub const fn number(self) -> u32 {
+        self as u32
+    }
+
+    /// What it means.
+    pub const fn meaning(self) -> &'static str {
+        match self {
+            Refusal::BadPlan => "the plan is outside its ranges",
+            Refusal::BadLength => "a lent list or buffer is not of the plan's length",
+            Refusal::BadElement => "an element is above 65520",
+            Refusal::BadUser => "the airfield number is 0 or above K",
+            Refusal::SetUnusable => "the set has fewer than U members, or one above K",
+            Refusal::NotInSet => "the airfield is not in the set",
+            Refusal::BadPlace => "the place or block is one that the plan has not",
+            Refusal::PlanOrder => "no plan yet, or a second plan",
+            Refusal::OtherPhase => "not in this phase",
+            Refusal::Held => "that place or block is held already",
+            Refusal::NoSurvivor => "the airfield is not a survivor",
+            Refusal::TooFew => "fewer than U complete airfields",
+            Refusal::Unexplained => "no sums and noise explain all complete replies",
+            Refusal::OldRound => "the round is not above the last one opened",
+            Refusal::OutOfTurn => "the first message was given already, or a reply is asked of a fresh end",
+            Refusal::OtherSet => "another set was answered",
+        }
+    }
+}
+
+impl fmt::Display for Refusal {
+    fn fmt(&self, out: &mut fmt::Formatter) -> fmt::Result {
+        write!(out, "refused {}: {}", self.number(), self.meaning())
+    }
+}
+
+impl std::error::Error for Refusal {}
 
 /// The length of an end's array.
 pub const END: usize = 8;
@@ -41,9 +120,11 @@ pub struct End {
     numbers: [u32; END],
 }
 
-/// The length of a buffer for totals, and of the longest row of figures; of the longest random list, and of the longest key.
+/// The length of a buffer for totals, and of the longest row of figures.
 pub const MOST_PLACES: usize = 96;
+/// The length of the longest random list of all plans.
 pub const LONGEST_LIST: usize = 7952;
+/// The length of the longest key of all plans.
 pub const LONGEST_KEY: usize = 2048;
 
 // Lengths of a service's arrays, and where its head has the number of places in a row.
@@ -73,6 +154,7 @@ struct Closed {
     set: u32,
 }
 
+#[rustfmt::skip]
 #[link(name = "capi", kind = "static")]
 extern "C" {
     fn cutawheno_row_len(users: u32, threshold: u32, collusion: u32, blocks: u32) -> u32;
@@ -155,8 +237,15 @@ impl Plan {
         // SAFETY: pointers and lengths are those of slices, of which the written one is borrowed alone.
         outcome(unsafe {
             cutawheno_make_key(
-                list.as_ptr(), list.len(), key.as_mut_ptr(), key.len(),
-                self.users, self.threshold, self.collusion, self.blocks, user,
+                list.as_ptr(),
+                list.len(),
+                key.as_mut_ptr(),
+                key.len(),
+                self.users,
+                self.threshold,
+                self.collusion,
+                self.blocks,
+                user,
             )
         })
     }
@@ -186,7 +275,13 @@ impl End {
         // SAFETY: pointers and lengths are those of slices, of which the written one is borrowed alone, as the array is.
         outcome(unsafe {
             cutawheno_end_first_message(
-                key.as_ptr(), key.len(), figures.as_ptr(), figures.len(), message.as_mut_ptr(), message.len(), &mut self.numbers,
+                key.as_ptr(),
+                key.len(),
+                figures.as_ptr(),
+                figures.len(),
+                message.as_mut_ptr(),
+                message.len(),
+                &mut self.numbers,
             )
         })
     }
@@ -197,6 +292,12 @@ impl End {
         let part = unsafe { cutawheno_end_reply(key.as_ptr(), key.len(), &mut self.numbers, set) };
         outcome(part.number)?;
         Ok(&key[part.start as usize..][..part.count as usize])
+    }
+}
+
+impl Default for Service {
+    fn default() -> Service {
+        Service::new()
     }
 }
 

@@ -1,0 +1,274 @@
+//! Files that hold secrets. Whatever is said to be done is on the disk, folder included, before anything is said.
+//!
+//! - `New`: a new private file, never over another: `create`, `write`, `remove`
+//! - `Held`: an existing file, locked for the whole call: `open`, `read`, `sync`, `replace`, `destroy`
+//!
+//! A file that serves as one end must not serve as two. So a name is resolved first, a file with a second name (a hard link) is
+//! refused, and the lock is on the file itself: a run that has waited looks whether the name still leads to the file it has locked.
+
+use cutawheno_tools::command::shown;
+use cutawheno_tools::standard::complain;
+use cutawheno_tools::system::{self, NOFOLLOW, NONBLOCK};
+use std::ffi::OsString;
+use std::fs::{self, File, Metadata, OpenOptions, Permissions};
+use std::io::{self, Read, Seek, Write};
+use std::os::unix::fs::{FileTypeExt, MetadataExt, OpenOptionsExt, PermissionsExt};
+use std::path::{Path, PathBuf};
+
+/// For the owner alone.
+const PRIVATE: u32 = 0o600;
+const OTHERS: u32 = 0o077;
+const MODE: u32 = 0o7777;
+/// More than the longest list has, in bytes.
+const LONGEST: u64 = 1 << 16;
+/// How often a file may be replaced by other runs while this one waits for its lock.
+const PATIENCE: u32 = 1000;
+
+/// A new file, private and still empty: its name is taken.
+pub struct New {
+    file: File,
+    folder: File,
+    path: PathBuf,
+}
+
+impl New {
+    pub fn create(path: &Path) -> Result<New, String> {
+        let folder = folder_of(path)?;
+        let file = create_private(path).map_err(|fault| match fault.kind() {
+            io::ErrorKind::AlreadyExists => {
+                format!(
+                    "{}: something stands there already, and nothing is written over it (airfield status tells what it is)",
+                    shown(path)
+                )
+            }
+            _ => told(path, &fault),
+        })?;
+        Ok(New { file, folder, path: path.to_path_buf() })
+    }
+
+    /// Writes it and has it on the disk, or leaves none.
+    pub fn write(mut self, bytes: &[u8]) -> Result<(), String> {
+        let written = self.file.write_all(bytes).and_then(|()| self.file.sync_all()).and_then(|()| self.folder.sync_all());
+        written.map_err(|fault| format!("{}; {}", told(&self.path, &fault), self.remove()))
+    }
+
+    /// Removes it again, and says so.
+    pub fn remove(self) -> String {
+        match remove(&self.file, &self.path) {
+            Ok(()) => "nothing is left of the new file".to_string(),
+            Err(left) => format!("what is left of it could not be removed: {left}"),
+        }
+    }
+}
+
+/// A file that is there, opened and locked.
+pub struct Held {
+    file: File,
+    given: PathBuf,
+    path: PathBuf,
+}
+
+/// What a file is opened for.
+#[derive(Clone, Copy, PartialEq, Eq)]
+pub enum Purpose {
+    Use,
+    Destruction,
+}
+
+impl Held {
+    pub fn open(given: &Path, purpose: Purpose) -> Result<Held, String> {
+        let mut patient = false;
+        for _ in 0..PATIENCE {
+            let path = fs::canonicalize(given).map_err(|fault| told(given, &fault))?;
+            let file = open_existing(&path).map_err(|fault| format!("{}: {fault}", shown(given)))?;
+            wait_for_lock(&file, given, &mut patient)?;
+            let found = file.metadata().map_err(|fault| told(given, &fault))?;
+            if fs::symlink_metadata(&path).map_or(false, |named| same_file(&named, &found)) {
+                check(&found, purpose).map_err(|fault| format!("{}: {fault}", shown(given)))?;
+                return Ok(Held { file, given: given.to_path_buf(), path });
+            }
+        }
+        Err(format!("{}: other runs replace it all the time", shown(given)))
+    }
+
+    pub fn read(&self) -> Result<Vec<u8>, String> {
+        read_all(&self.file).map_err(|fault| format!("{}: {fault}", shown(&self.given)))
+    }
+
+    /// Has the file and its name on the disk, as a run that was killed may have left that to do.
+    pub fn sync(&self) -> Result<(), String> {
+        let synced = self.file.sync_all().map_err(|fault| told(&self.given, &fault));
+        synced.and_then(|()| folder_of(&self.path)?.sync_all().map_err(|fault| told(&self.given, &fault)))
+    }
+
+    /// Puts new bytes in the place of the old ones, by a file beside it whose name ends in `.new`: at any moment the name leads to
+    /// the old bytes or to the new ones, whole. The old ones are then overwritten. What a killed run has left under that name is
+    /// destroyed if it begins as the new bytes do up to `head`.
+    pub fn replace(&self, bytes: &[u8], head: usize) -> Result<(), String> {
+        let folder = folder_of(&self.path)?;
+        let new = self.beside();
+        self.remove_leftover(&new, &bytes[..head])?;
+        let mut file = create_private(&new).map_err(|fault| told(&new, &fault))?;
+        let replaced = file.write_all(bytes).and_then(|()| file.sync_all()).and_then(|()| fs::rename(&new, &self.path));
+        if let Err(fault) = replaced {
+            drop(remove(&file, &new));
+            return Err(format!("{}; {} is as it was", told(&new, &fault), shown(&self.given)));
+        }
+        folder.sync_all().map_err(|fault| {
+            format!("{}; its new stage may not be on the disk yet: run the same command again", told(&self.given, &fault))
+        })?;
+        if let Err(fault) = erase(&self.file) {
+            complain(&format!("{}: its old bytes could not be overwritten: {fault}", shown(&self.given)));
+        }
+        Ok(())
+    }
+
+    /// Overwrites the file and removes it, and what a killed run may have left beside it if that begins with `head`; all on the disk.
+    pub fn destroy(self, head: Option<String>) -> Result<(), String> {
+        let folder = folder_of(&self.path)?;
+        if let Some(Err(fault)) = head.map(|head| self.remove_leftover(&self.beside(), head.as_bytes())) {
+            complain(&format!("airfield: {fault}"));
+        }
+        let removed = remove(&self.file, &self.path).and_then(|()| folder.sync_all());
+        removed.map_err(|fault| told(&self.given, &fault))
+    }
+
+    /// The name that a new version has until it is whole.
+    fn beside(&self) -> PathBuf {
+        let mut name = OsString::from(&self.path);
+        name.push(".new");
+        PathBuf::from(name)
+    }
+
+    fn remove_leftover(&self, new: &Path, head: &[u8]) -> Result<(), String> {
+        let in_the_way = |why: &str| format!("{} stands in the way: {why}; move it and run the same command again", shown(new));
+        match fs::symlink_metadata(new) {
+            Err(fault) if fault.kind() == io::ErrorKind::NotFound => return Ok(()),
+            Err(fault) => return Err(told(new, &fault)),
+            Ok(found) if found.is_file() && found.mode() & MODE != PRIVATE => {
+                return Err(in_the_way(&format!("its mode is {:04o} and not {PRIVATE:04o}", found.mode() & MODE)))
+            }
+            Ok(_) => (),
+        }
+        let file = open_existing(new).map_err(|fault| in_the_way(&fault))?;
+        let found = file.metadata().map_err(|fault| told(new, &fault))?;
+        check(&found, Purpose::Use).map_err(|fault| in_the_way(&fault))?;
+        let bytes = read_all(&file).map_err(|fault| in_the_way(&fault))?;
+        if !(is_erased(&bytes) || bytes.starts_with(head) || head.starts_with(&bytes)) {
+            return Err(in_the_way("it is no earlier version of this file"));
+        }
+        remove(&file, new).map_err(|fault| told(new, &fault))
+    }
+}
+
+/// Nothing but zeros: what stands in a file that was overwritten and not yet removed.
+pub fn is_erased(bytes: &[u8]) -> bool {
+    bytes.iter().all(|&byte| byte == 0)
+}
+
+/// A new file for the owner alone, whatever the umask; a link is not followed.
+fn create_private(path: &Path) -> io::Result<File> {
+    let file = OpenOptions::new().read(true).write(true).create_new(true).mode(PRIVATE).custom_flags(NOFOLLOW).open(path)?;
+    match file.set_permissions(Permissions::from_mode(PRIVATE)) {
+        Ok(()) => Ok(file),
+        Err(fault) => fs::remove_file(path).and(Err(fault)),
+    }
+}
+
+/// A regular file; nothing else is opened, since opening a pipe or a device can wait or act.
+fn open_existing(path: &Path) -> Result<File, String> {
+    let named = fs::symlink_metadata(path).map_err(|fault| fault.to_string())?;
+    if !named.is_file() {
+        return Err(format!("it is {}, and no file", kind_of(&named)));
+    }
+    let flags = NOFOLLOW | NONBLOCK;
+    OpenOptions::new().read(true).write(true).custom_flags(flags).open(path).map_err(|fault| fault.to_string())
+}
+
+fn kind_of(found: &Metadata) -> &'static str {
+    let kind = found.file_type();
+    if kind.is_dir() {
+        "a folder"
+    } else if kind.is_symlink() {
+        "a link"
+    } else if kind.is_fifo() {
+        "a pipe"
+    } else if kind.is_socket() {
+        "a socket"
+    } else {
+        "a device"
+    }
+}
+
+/// What must hold of a file with a secret. One that is to be destroyed may lie open to others.
+fn check(found: &Metadata, purpose: Purpose) -> Result<(), String> {
+    let mode = found.mode() & MODE;
+    if !found.is_file() {
+        Err(format!("it is {}, and no file", kind_of(found)))
+    } else if found.nlink() != 1 {
+        Err(format!("it has {} names (hard links), and one is wanted: remove the others", found.nlink()))
+    } else if purpose == Purpose::Destruction {
+        Ok(())
+    } else if found.uid() != system::user() {
+        Err(format!("it belongs to user {}, and this is user {}", found.uid(), system::user()))
+    } else if mode & OTHERS != 0 {
+        Err(format!("its mode is {mode:04o}, so that others than its owner may have read it; if they have not, run chmod 600 on it"))
+    } else {
+        Ok(())
+    }
+}
+
+/// A run that waits says so once.
+fn wait_for_lock(file: &File, given: &Path, patient: &mut bool) -> Result<(), String> {
+    let fault = |fault: io::Error| format!("{}: it cannot be locked: {fault}", shown(given));
+    if system::lock_now(file).map_err(fault)? {
+        return Ok(());
+    }
+    if !*patient {
+        complain(&format!("airfield: {}: another run works on it; waiting", shown(given)));
+    }
+    *patient = true;
+    system::lock(file).map_err(fault)
+}
+
+fn same_file(one: &Metadata, other: &Metadata) -> bool {
+    (one.dev(), one.ino()) == (other.dev(), other.ino())
+}
+
+fn read_all(mut file: &File) -> Result<Vec<u8>, String> {
+    let mut bytes = Vec::new();
+    file.rewind().and_then(|()| file.take(LONGEST + 1).read_to_end(&mut bytes)).map_err(|fault| fault.to_string())?;
+    if bytes.len() as u64 > LONGEST {
+        return Err(format!("it is longer than {LONGEST} bytes, which no list and no end is"));
+    }
+    Ok(bytes)
+}
+
+/// The folder that a file's name stands in, to be synced.
+fn folder_of(path: &Path) -> Result<File, String> {
+    let folder = path.parent().filter(|folder| !folder.as_os_str().is_empty()).unwrap_or(Path::new("."));
+    File::open(folder).map_err(|fault| told(folder, &fault))
+}
+
+/// Overwrites a file with zeros where it lies, on the disk.
+fn erase(mut file: &File) -> io::Result<()> {
+    let mut left = file.metadata()?.len();
+    file.rewind()?;
+    while left > 0 {
+        let zeros = [0; 4096];
+        let count = left.min(zeros.len() as u64);
+        file.write_all(&zeros[..count as usize])?;
+        left -= count;
+    }
+    file.sync_all()
+}
+
+/// Overwrites a file and removes its name, even where it cannot be overwritten.
+fn remove(file: &File, path: &Path) -> io::Result<()> {
+    let erased = erase(file);
+    fs::remove_file(path).and(erased)
+}
+
+fn told(path: &Path, fault: &io::Error) -> String {
+    format!("{}: {fault}", shown(path))
+}

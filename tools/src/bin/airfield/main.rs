@@ -1,0 +1,281 @@
+//! The key office and an airfield's end at the command line, over the proved library; `words.rs` has the commands, `format.rs` the
+//! text of the files, `files.rs` how they are kept.
+//!
+//! A refused call leaves its files as they were. A taken one has the end's new stage on the disk before it prints anything, and the end
+//! keeps its message: a print that fails costs nothing, as the same command then prints the same bytes.
+mod files;
+mod format;
+mod words;
+
+use cutawheno::{Plan, Refusal};
+use cutawheno_tools::command::{finish, shown, Fault, VERSION};
+use cutawheno_tools::{standard, system};
+use files::{is_erased, Held, New, Purpose};
+use format::{numbers, End, Identity, List, Stage};
+use std::io::Read;
+use std::path::{Path, PathBuf};
+use std::process::ExitCode;
+use words::{Command, Figures, HELP};
+
+const LARGEST: u32 = 65520;
+/// Bytes of standard input that are looked through for figures: far more than a row has.
+const LONGEST_INPUT: u64 = 1 << 16;
+const NOT_COVERED: &str = "not covered: copies, backups and snapshots of it, what the disk, its file system or a swap area keeps of \
+    old blocks, and what was printed or sent\n";
+
+fn main() -> ExitCode {
+    finish("airfield", run())
+}
+
+fn run() -> Result<(), Fault> {
+    let words: Vec<_> = std::env::args_os().skip(1).collect();
+    let command = words::read(&words).map_err(Fault::usage)?;
+    let mut output = standard::output().map_err(|fault| format!("{fault}; nothing was done"))?;
+    let (text, kept) = match command {
+        Command::Help => (HELP.to_string(), None),
+        Command::Version => (format!("airfield {VERSION}\n"), None),
+        Command::List { plan, list } => (draw_list(plan, &list)?, None),
+        Command::Key { list, airfield, end } => (make_key(&list, airfield, &end)?, None),
+        Command::First { end, figures } => (first(&end, figures)?, Some(end)),
+        Command::Reply { end, set } => (reply(&end, set)?, Some(end)),
+        Command::Status { file } => (status(&file)?, None),
+        Command::Destroy { files } => (destroy(&files)?, None),
+    };
+    standard::write(&mut output, text.as_bytes()).map_err(|fault| match kept {
+        Some(end) => format!("{fault}; {} has kept the message: the same command prints it again", shown(end)).into(),
+        None => fault.into(),
+    })
+}
+
+fn draw_list(plan: Plan, file: &Path) -> Result<String, String> {
+    let wanted = plan.list_len();
+    if wanted == 0 {
+        return Err(refused(
+            Refusal::BadPlan,
+            &format!("plan {} is outside its ranges: K from 3 to 8, T from 1, U above T and below K, M from 1 to 16", numbers(&plan)),
+        ));
+    }
+    let mut identity = [0; 16];
+    draw(&mut identity)?;
+    let mut elements = Vec::new();
+    while elements.len() < wanted {
+        let mut bytes = [0; 2];
+        draw(&mut bytes)?;
+        // what is no element is drawn again, so that every element is as likely as every other
+        elements.extend(Some(u16::from_le_bytes(bytes)).filter(|&element| u32::from(element) <= LARGEST));
+    }
+    let list = List { identity: Identity(identity), plan, ends: 0, elements };
+    New::create(file)?.write(list.text().as_bytes())?;
+    Ok(String::new())
+}
+
+fn draw(bytes: &mut [u8]) -> Result<(), String> {
+    system::draw(bytes).map_err(|fault| format!("the system's source of randomness: {fault}"))
+}
+
+/// The list counts the airfield's end as made before the key is written anywhere: from one list no second end can come.
+fn make_key(file: &Path, airfield: u32, end: &Path) -> Result<String, String> {
+    let held = Held::open(file, Purpose::Use)?;
+    let mut list = List::read(&held.read()?).map_err(|fault| format!("{}: {fault}", shown(file)))?;
+    let mut key = vec![0; list.plan.key_len()];
+    list.plan.make_key(airfield, &list.elements, &mut key).map_err(|refusal| match refusal {
+        Refusal::BadUser => refused(refusal, &format!("no airfield {airfield}: the plan of {} has 1 to {}", shown(file), list.plan.users)),
+        _ => refusal.to_string(),
+    })?;
+    let member = 1 << (airfield - 1);
+    if list.ends & member != 0 {
+        return Err(format!("{}: the end of airfield {airfield} was made from it already, and a key serves one end", shown(file)));
+    }
+    let new = New::create(end)?;
+    list.ends |= member;
+    if let Err(fault) = held.replace(list.text().as_bytes(), list.head().len()) {
+        return Err(format!("{fault}; {}", new.remove()));
+    }
+    let end = End { list: list.identity, plan: list.plan, airfield, key, stage: Stage::Fresh };
+    let made = |fault| format!("{fault}; {} counts the end as made, so draw a new list", shown(file));
+    new.write(end.text().as_bytes()).map_err(made)?;
+    Ok(String::new())
+}
+
+/// An end in its file, which is locked as long as this lasts.
+struct Kept {
+    held: Held,
+    end: End,
+}
+
+impl Kept {
+    fn open(file: &Path) -> Result<Kept, String> {
+        let held = Held::open(file, Purpose::Use)?;
+        let end = End::read(&held.read()?).map_err(|fault| format!("{}: {fault}", shown(file)))?;
+        Ok(Kept { held, end })
+    }
+
+    fn replace(&self) -> Result<(), String> {
+        self.held.replace(self.end.text().as_bytes(), self.end.head().len())
+    }
+}
+
+fn first(file: &Path, figures: Figures) -> Result<String, String> {
+    // figures may be slow to come: nobody waits for the lock meanwhile
+    let figures = match figures {
+        Figures::Given(figures) => figures,
+        Figures::FromInput => figures_from_input()?,
+    };
+    let mut kept = Kept::open(file)?;
+    let masked = masked(&kept.end, &figures);
+    match kept.end.message() {
+        Some(sent) if masked.as_ref().map_or(false, |message| message == sent) => kept.held.sync()?,
+        Some(_) => {
+            let why = format!("{} has given its first message with other figures, and a key never sends twice", shown(file));
+            return Err(refused(Refusal::OutOfTurn, &why));
+        }
+        None => {
+            kept.end.stage = Stage::Sent { message: masked? };
+            kept.replace()?;
+        }
+    }
+    Ok(records(&kept.end, "first", kept.end.message().unwrap_or_default()))
+}
+
+/// The first message of a fresh end with this key.
+fn masked(end: &End, figures: &[u32]) -> Result<Vec<u16>, String> {
+    // a figure too large for 16 bits is refused as the largest of 16 bits is
+    let row: Vec<u16> = figures.iter().map(|&figure| u16::try_from(figure).unwrap_or(u16::MAX)).collect();
+    let mut message = vec![0; end.plan.row_len()];
+    let fresh = cutawheno::End::start(end.plan, end.airfield);
+    let sent = fresh.and_then(|mut fresh| fresh.first_message(&end.key, &row, &mut message));
+    sent.map(|()| message).map_err(|refusal| {
+        let large = figures.iter().enumerate().find(|(_, &figure)| figure > LARGEST);
+        match (refusal, large) {
+            (Refusal::BadLength, _) => refused(refusal, &format!("figures wanted {}, given {}", end.plan.row_len(), row.len())),
+            (Refusal::BadElement, Some((at, figure))) => refused(refusal, &format!("figure {} is {figure}, above {LARGEST}", at + 1)),
+            _ => refusal.to_string(),
+        }
+    })
+}
+
+fn figures_from_input() -> Result<Vec<u32>, String> {
+    let mut text = Vec::new();
+    let input = standard::input()?;
+    input.take(LONGEST_INPUT + 1).read_to_end(&mut text).map_err(|fault| format!("standard input: {fault}"))?;
+    if text.len() as u64 > LONGEST_INPUT {
+        return Err(format!("standard input: more than {LONGEST_INPUT} bytes, which no row of figures has"));
+    }
+    words::figures_of(&text).map_err(|fault| format!("standard input: {fault}"))
+}
+
+fn reply(file: &Path, set: u32) -> Result<String, String> {
+    let mut kept = Kept::open(file)?;
+    let mut end = resumed(&kept.end);
+    let shares = end.reply(&kept.end.key, set).map_err(|refusal| reply_refused(refusal, &kept.end, set, file))?.to_vec();
+    match kept.end.stage {
+        Stage::Fresh | Stage::Answered { .. } => kept.held.sync()?,
+        Stage::Sent { message } => {
+            kept.end.stage = Stage::Answered { message, set };
+            kept.replace()?;
+        }
+    }
+    Ok(records(&kept.end, "reply", &shares))
+}
+
+/// The library's end, by the header's numbers.
+fn resumed(end: &End) -> cutawheno::End {
+    let Plan { users, threshold, collusion, blocks } = end.plan;
+    let stage = match end.stage {
+        Stage::Fresh => 0,
+        Stage::Sent { .. } => 1,
+        Stage::Answered { set, .. } => 2 + set,
+    };
+    cutawheno::End::resume([users, threshold, collusion, blocks, end.airfield, stage, 0, 0])
+}
+
+fn reply_refused(refusal: Refusal, end: &End, set: u32, file: &Path) -> String {
+    let End { plan, airfield, .. } = end;
+    let why = match (refusal, &end.stage) {
+        (Refusal::SetUnusable, _) => {
+            format!("set {set} is {}; wanted are at least {} of 1 to {}", members(set), plan.threshold, plan.users)
+        }
+        (Refusal::NotInSet, _) => format!("airfield {airfield} is not in set {set}, which is {}", members(set)),
+        (Refusal::OtherSet, Stage::Answered { set: answered, .. }) => {
+            format!("{} has answered set {answered}, and a key never answers two", shown(file))
+        }
+        (Refusal::OutOfTurn, _) => format!("{} has given no first message yet", shown(file)),
+        _ => return refusal.to_string(),
+    };
+    refused(refusal, &why)
+}
+
+/// A message as records in words, place by place or block by block, led by a comment that tells which list its key comes from.
+fn records(end: &End, kind: &str, elements: &[u16]) -> String {
+    let End { list, airfield, .. } = end;
+    let lines = elements.iter().enumerate().map(|(at, element)| format!("{kind} {airfield} {at} {element}\n"));
+    format!("# list {} airfield {airfield}\n", list.short()) + &lines.collect::<String>()
+}
+
+fn status(file: &Path) -> Result<String, String> {
+    let bytes = Held::open(file, Purpose::Use)?.read()?;
+    let told = match List::read(&bytes) {
+        Ok(list) => status_of_list(&list),
+        Err(fault) if !bytes.starts_with(b"cutawheno end ") => return Err(format!("{}: {fault}", shown(file))),
+        Err(_) => status_of_end(&End::read(&bytes).map_err(|fault| format!("{}: {fault}", shown(file)))?),
+    };
+    Ok(told)
+}
+
+fn status_of_list(list: &List) -> String {
+    let List { identity, plan, ends, elements } = list;
+    let plan = status_of_plan(plan);
+    format!("random list of {} elements\nlist {identity}\n{plan}ends made: {}\n", elements.len(), members(*ends))
+}
+
+fn status_of_end(end: &End) -> String {
+    let End { list, plan, airfield, .. } = end;
+    let stage = match &end.stage {
+        Stage::Fresh => "fresh: no first message has been sent".to_string(),
+        Stage::Sent { .. } => "sent: the first message has been given, and no set is answered".to_string(),
+        Stage::Answered { set, .. } => format!("answered: set {set}, {}", members(*set)),
+    };
+    format!("end of airfield {airfield}\nlist {list}\n{}stage {stage}\n", status_of_plan(plan))
+}
+
+fn status_of_plan(plan: &Plan) -> String {
+    let Plan { users, threshold, collusion, blocks } = plan;
+    format!(
+        "plan {}\nairfields {users}, of which {threshold} must answer and {collusion} may collude; blocks {blocks}; figures in a row {}\n",
+        numbers(plan),
+        plan.row_len()
+    )
+}
+
+/// The airfields of a set, in words.
+fn members(set: u32) -> String {
+    let members: Vec<String> = (0..u32::BITS).filter(|bit| set >> bit & 1 == 1).map(|bit| (bit + 1).to_string()).collect();
+    match members[..] {
+        [] => "no airfields".to_string(),
+        _ => format!("airfields {}", members.join(" ")),
+    }
+}
+
+/// Tries every file, also behind one that fails.
+fn destroy(files: &[PathBuf]) -> Result<String, String> {
+    let faults = files.iter().filter_map(|file| destroy_one(file).err());
+    match faults.collect::<Vec<_>>()[..] {
+        [] => Ok(format!("overwritten and removed: {}\n{NOT_COVERED}", files.iter().map(shown).collect::<Vec<_>>().join(" "))),
+        ref faults => Err(format!("{} of {} files not destroyed: {}", faults.len(), files.len(), faults.join("; "))),
+    }
+}
+
+fn destroy_one(file: &Path) -> Result<(), String> {
+    let held = Held::open(file, Purpose::Destruction)?;
+    let bytes = held.read()?;
+    if !format::known(&bytes) && !is_erased(&bytes) {
+        return Err(format!("{}: it is neither a list nor an end, and stays as it is", shown(file)));
+    }
+    let head = End::read(&bytes).map(|end| end.head()).or_else(|_| List::read(&bytes).map(|list| list.head()));
+    held.destroy(head.ok())
+}
+
+/// A refusal with its number, and why it came.
+fn refused(refusal: Refusal, why: &str) -> String {
+    format!("refused {}: {why}", refusal.number())
+}

@@ -1,0 +1,104 @@
+//! The command line.
+//!
+//! - `HELP`: what `--help` prints
+//! - `Command`: a command with its words read
+//! - `read`: from the words of the command line
+//! - `Figures`: where figures come from
+//! - `figures_of`: figures from text, as standard input gives them
+
+use cutawheno::Plan;
+use cutawheno_tools::command::shown;
+use std::ffi::{OsStr, OsString};
+use std::path::PathBuf;
+
+pub const HELP: &str = "\
+airfield: the key office and an airfield's end, over the proved library
+
+  airfield list K U T M LIST      draws a random list from the system's source into the new file LIST
+  airfield key LIST AIRFIELD END  makes the airfield's key, and a fresh end that keeps it in the new file END; LIST counts it,
+                                  and makes no second end for that airfield
+  airfield first END [FIGURE..]   prints the first message as records in words; without figures they are read from
+                                  standard input, with white space between, so that they show in no list of processes
+  airfield reply END SET          prints the reply to the announced set as records in words
+  airfield status FILE            tells what an end or a list is, and shows nothing secret
+  airfield destroy FILE..         overwrites and removes lists and ends
+  airfield --help, --version
+
+K airfields (3 to 8), U of them must answer at least (above T, below K), T may collude at most (from 1), M blocks (1 to 16).
+A row has M x (U - T) figures, whole numbers from 0 to 65520. Bit k - 1 of a set's number stands for airfield k.
+An end sends one first message and answers one set. The same figures, or the same set, asked again give the same bytes.
+`records encode` makes bytes of the records in words.
+
+Exit status: 0 done; 1 refused or failed, told on standard error, and a refusal changes nothing; 2 command line not understood.
+";
+
+pub enum Command {
+    Help,
+    Version,
+    List { plan: Plan, list: PathBuf },
+    Key { list: PathBuf, airfield: u32, end: PathBuf },
+    First { end: PathBuf, figures: Figures },
+    Reply { end: PathBuf, set: u32 },
+    Status { file: PathBuf },
+    Destroy { files: Vec<PathBuf> },
+}
+
+pub enum Figures {
+    Given(Vec<u32>),
+    FromInput,
+}
+
+/// The command, or what is not understood.
+pub fn read(words: &[OsString]) -> Result<Command, String> {
+    if words.iter().any(|word| word == "--help") {
+        return Ok(Command::Help);
+    }
+    let (command, words) = words.split_first().ok_or_else(|| "no command; airfield --help tells them".to_string())?;
+    let wanted = |wanted: &str| {
+        let command = shown(command);
+        Err(format!("{command} takes {wanted}, and {} words are given; airfield --help tells more", words.len()))
+    };
+    match (command.to_str(), words) {
+        (Some("--version"), []) => Ok(Command::Version),
+        (Some("list"), [k, u, t, m, list]) => Ok(Command::List { plan: plan([k, u, t, m])?, list: list.into() }),
+        (Some("list"), _) => wanted("K U T M LIST"),
+        (Some("key"), [list, airfield, end]) => {
+            Ok(Command::Key { list: list.into(), airfield: number("AIRFIELD", airfield)?, end: end.into() })
+        }
+        (Some("key"), _) => wanted("LIST AIRFIELD END"),
+        (Some("first"), [end]) => Ok(Command::First { end: end.into(), figures: Figures::FromInput }),
+        (Some("first"), [end, figures @ ..]) => {
+            let figures = figures.iter().enumerate().map(|(at, word)| figure(at, word)).collect::<Result<_, _>>()?;
+            Ok(Command::First { end: end.into(), figures: Figures::Given(figures) })
+        }
+        (Some("first"), _) => wanted("END [FIGURE..]"),
+        (Some("reply"), [end, set]) => Ok(Command::Reply { end: end.into(), set: number("SET", set)? }),
+        (Some("reply"), _) => wanted("END SET"),
+        (Some("status"), [file]) => Ok(Command::Status { file: file.into() }),
+        (Some("status"), _) => wanted("FILE"),
+        (Some("destroy"), [_, ..]) => Ok(Command::Destroy { files: words.iter().map(PathBuf::from).collect() }),
+        (Some("destroy"), _) => wanted("FILE.."),
+        _ => Err(format!("no command is called {}; airfield --help tells them", shown(command))),
+    }
+}
+
+/// Figures from text, with white space between.
+pub fn figures_of(text: &[u8]) -> Result<Vec<u32>, String> {
+    let text = String::from_utf8_lossy(text);
+    text.split_whitespace().enumerate().map(|(at, word)| figure(at, OsStr::new(word))).collect()
+}
+
+fn figure(at: usize, word: &OsStr) -> Result<u32, String> {
+    number(&format!("figure {}", at + 1), word)
+}
+
+fn plan([k, u, t, m]: [&OsString; 4]) -> Result<Plan, String> {
+    Ok(Plan { users: number("K", k)?, threshold: number("U", u)?, collusion: number("T", t)?, blocks: number("M", m)? })
+}
+
+/// Decimal digits. A number too large for 32 bits is too large for every use: the largest stands for it, and is refused as it would be.
+fn number(what: &str, word: &OsStr) -> Result<u32, String> {
+    let digits = word.to_str().filter(|word| !word.is_empty() && word.bytes().all(|byte| byte.is_ascii_digit()));
+    let digits = digits.ok_or_else(|| format!("{what}: a whole number from 0 on is wanted, and {} is found", shown(word)))?;
+    Ok(digits.parse().unwrap_or(u32::MAX))
+}

@@ -1,0 +1,149 @@
+//! Records as words, and back.
+//!
+//! Lines are written as they come: what a line or a record gives is handed on before more input is waited for, so words can feed a
+//! running `pool`. A comment that `airfield` writes names the list of a message's key; where two lists meet in one round, a warning says
+//! so, and the exit status stays as it is: the bytes are right, and whether the messages belong together is not theirs to tell.
+
+use cutawheno_tools::command::{finish, shown, Fault, VERSION};
+use cutawheno_tools::standard::{self, complain};
+use reference::stream::{Damage, Record, Records};
+use reference::text::{line_of, record_of};
+use std::ffi::OsString;
+use std::fs::File;
+use std::io::{BufRead, BufReader, BufWriter, Read, Write};
+use std::process::ExitCode;
+
+const HELP: &str = "\
+records: records of the pooling service as words, and back
+
+  records encode   words on standard input to bytes on standard output
+  records decode   bytes on standard input to words on standard output
+  records --help, --version
+
+One record a line: its kind and then its numbers in decimal, with white space between.
+  plan K U T M | open ROUND | first AIRFIELD PLACE ELEMENT | close | reply AIRFIELD BLOCK ELEMENT | finish
+What follows a # is a comment up to the end of its line. Comments and blank lines give no bytes.
+Each line is handed on as it comes. The first line that is no record, or byte that begins none, ends the run: what stood before it
+is written, and nothing behind it. Keys of two lists in one round, where comments of `airfield` tell them, are warned of.
+
+Exit status: 0 done; 1 a line or record is not right, or reading or writing failed, told on standard error; 2 command line not understood.
+";
+
+/// The longest line, in bytes: far more than a record needs.
+const LONGEST: u64 = 1 << 16;
+
+fn main() -> ExitCode {
+    finish("records", run())
+}
+
+fn run() -> Result<(), Fault> {
+    let words: Vec<OsString> = std::env::args_os().skip(1).collect();
+    let words: Vec<Option<&str>> = words.iter().map(|word| word.to_str()).collect();
+    let convert: fn(Output) -> Result<(), String> = match words[..] {
+        _ if words.contains(&Some("--help")) => |output| put(output, HELP.as_bytes()),
+        [Some("--version")] => |output| put(output, format!("records {VERSION}\n").as_bytes()),
+        [Some("encode")] => encode,
+        [Some("decode")] => decode,
+        [] => return Err(Fault::usage("no command; records --help tells them".to_string())),
+        _ => return Err(Fault::usage("encode or decode is wanted, alone; records --help tells more".to_string())),
+    };
+    let mut output = BufWriter::new(standard::output()?);
+    let outcome = convert(&mut output);
+    // what stood before a fault is written all the same
+    let written = output.flush().map_err(fault_of_output);
+    Ok(outcome.and(written)?)
+}
+
+type Output<'a> = &'a mut BufWriter<File>;
+
+fn put(output: Output, bytes: &[u8]) -> Result<(), String> {
+    output.write_all(bytes).map_err(fault_of_output)
+}
+
+fn fault_of_output(fault: std::io::Error) -> String {
+    format!("standard output: {fault}")
+}
+
+fn encode(output: Output) -> Result<(), String> {
+    let mut input = BufReader::new(standard::input()?);
+    let mut lists = Lists::default();
+    let mut line = Vec::new();
+    for number in 1.. {
+        line.clear();
+        let read = (&mut input).take(LONGEST).read_until(b'\n', &mut line);
+        match read.map_err(|fault| format!("standard input: {fault}"))? as u64 {
+            0 => break,
+            LONGEST if line.last() != Some(&b'\n') => return Err(format!("line {number} is longer than {LONGEST} bytes")),
+            _ => (),
+        }
+        let text = String::from_utf8_lossy(&line);
+        let record = record_of(&text).map_err(|fault| format!("line {number}: {fault}"))?;
+        lists.look(number, &text, &record);
+        put(output, &record.map(|record| record.to_bytes()).unwrap_or_default())?;
+        // no other line is there yet
+        if !input.buffer().contains(&b'\n') {
+            output.flush().map_err(fault_of_output)?;
+        }
+    }
+    Ok(())
+}
+
+/// The list that the round's first comment of `airfield` names, with its line.
+#[derive(Default)]
+struct Lists {
+    named: Option<(u64, String)>,
+}
+
+impl Lists {
+    fn look(&mut self, number: u64, line: &str, record: &Option<Record>) {
+        if matches!(record, Some(Record::Open(_))) {
+            self.named = None;
+        }
+        let words: Vec<&str> = line.split_whitespace().collect();
+        let (list, airfield) = match words[..] {
+            ["#", "list", list, "airfield", airfield] => (list, airfield),
+            _ => return,
+        };
+        match &self.named {
+            None => self.named = Some((number, list.to_string())),
+            Some((_, named)) if named == list => (),
+            Some((at, named)) => complain(&format!(
+                "records: warning: line {number}: airfield {} has a key of list {}, but line {at} names list {}: \
+                 keys of two lists give no true total",
+                shown(airfield),
+                shown(list),
+                shown(named)
+            )),
+        }
+    }
+}
+
+fn decode(output: Output) -> Result<(), String> {
+    let mut input = BufReader::new(standard::input()?);
+    let (mut bytes, mut offset) = (Vec::new(), 0);
+    loop {
+        let more = input.fill_buf().map_err(|fault| format!("standard input: {fault}"))?;
+        let (ended, count) = (more.is_empty(), more.len());
+        bytes.extend_from_slice(more);
+        input.consume(count);
+        let taken = decode_whole(&bytes, offset, ended, output)?;
+        offset += taken;
+        bytes.drain(..taken);
+        output.flush().map_err(fault_of_output)?;
+        if ended {
+            return Ok(());
+        }
+    }
+}
+
+/// The lines of the records that are whole, and how many bytes these have. `offset` is that of the first byte.
+fn decode_whole(bytes: &[u8], offset: usize, ended: bool, output: Output) -> Result<usize, String> {
+    for (at, record) in Records::new(bytes) {
+        match record {
+            Ok(record) => put(output, (line_of(&record) + "\n").as_bytes())?,
+            Err(Damage::CutShort { .. }) if !ended => return Ok(at),
+            Err(damage) => return Err(format!("byte {}: {damage}", offset + at)),
+        }
+    }
+    Ok(bytes.len())
+}

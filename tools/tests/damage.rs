@@ -1,0 +1,134 @@
+//! Files that are damaged, cut, lengthened or of another version: refused by name, and left as they are.
+mod common;
+
+use common::{sealed, Folder};
+use std::fs;
+use std::os::unix::fs::PermissionsExt;
+
+/// Refused by status and by a call that would use it, with the file's name; the file keeps its bytes.
+#[track_caller]
+fn refused(folder: &Folder, bytes: &[u8], told: &str) {
+    folder.write("file", bytes, 0o600);
+    folder.airfield(&["status", "file"]).failed(&["file: ", told]);
+    let used = if bytes.starts_with(b"cutawheno list") { ["key", "file", "1", "new"] } else { ["first", "file", "10", "1"] };
+    let words = if used[0] == "key" { &used[..] } else { &used[..3] };
+    folder.airfield(words).failed(&["file: "]);
+    assert_eq!(folder.read("file"), bytes);
+    assert!(!folder.names().contains(&"new".to_string()));
+}
+
+/// An end that has answered, and a list: every field occurs.
+fn files(name: &str) -> (Folder, [Vec<u8>; 2]) {
+    let folder = Folder::with_ends(name);
+    folder.airfield(&["first", "end1", "10"]).done();
+    folder.airfield(&["reply", "end1", "5"]).done();
+    let files = ["end1", "list"].map(|name| folder.read(name));
+    (folder, files)
+}
+
+#[test]
+fn a_change_of_any_byte_is_found() {
+    let (folder, files) = files("bytes");
+    for file in files {
+        for at in 0..file.len() {
+            for change in [1, 0x10, 0x80] {
+                let mut bytes = file.clone();
+                bytes[at] ^= change;
+                refused(&folder, &bytes, "");
+            }
+        }
+    }
+}
+
+#[test]
+fn a_file_cut_at_any_length_is_found() {
+    let (folder, files) = files("cut");
+    for file in files {
+        (0..file.len()).for_each(|length| refused(&folder, &file[..length], ""));
+        for added in [&b"\n"[..], b" ", b"0", &file[..]] {
+            refused(&folder, &[&file[..], added].concat(), "");
+            refused(&folder, &[added, &file[..]].concat(), "");
+        }
+    }
+}
+
+/// Shows that a stage cannot be turned back by swapping single lines between two versions of an end.
+#[test]
+fn lines_of_two_versions_do_not_mix() {
+    let folder = Folder::with_ends("mix");
+    let fresh = String::from_utf8(folder.read("end1")).unwrap();
+    folder.airfield(&["first", "end1", "10"]).done();
+    let sent = String::from_utf8(folder.read("end1")).unwrap();
+    refused(&folder, sent.replace("stage sent", "stage fresh").as_bytes(), "checksum");
+    refused(&folder, fresh.replace("stage fresh", "stage sent").as_bytes(), "checksum");
+    let checksum = |text: &str| text.lines().last().unwrap().to_string();
+    refused(&folder, sent.replace(&checksum(&sent), &checksum(&fresh)).as_bytes(), "checksum");
+}
+
+/// With a right checksum: what is no end of this version, or does not fit together, is refused all the same.
+#[test]
+fn what_is_no_end_of_this_version_is_refused() {
+    let (folder, files) = files("fields");
+    let text = String::from_utf8(files[0].clone()).unwrap();
+    let body = &text[..text.rfind("checksum").unwrap()];
+    refused(&folder, &sealed(&body.replace("end 1", "end 2")), "it is of version 2, and this tool reads version 1");
+    refused(&folder, &sealed(&body.replace("end 1", "purse 1")), "it is no file of the kind");
+    for (field, other) in [
+        ("plan 3 2 1 1", "plan 3 3 1 1"),
+        ("plan 3 2 1 1", "plan 3 2 1 2"),
+        ("plan 3 2 1 1", "plan 3 2 1 01"),
+        ("plan 3 2 1 1", "plan 3 2 1"),
+        ("airfield 1", "airfield 4"),
+        ("airfield 1", "airfield 0"),
+        ("airfield 1\n", "airfield 1\nround 7\n"),
+        ("stage answered 5", "stage answered"),
+        ("stage answered 5", "stage answered 05"),
+        ("stage answered 5", "stage answered 6"),
+        ("stage answered 5", "stage answered 9"),
+        ("stage answered 5", "stage answered 4294967295"),
+        ("stage answered 5", "stage fresh"),
+        ("stage answered 5", "stage other"),
+        ("key ", "key 1 "),
+        ("key ", "key 70000 "),
+        ("key ", "key  "),
+        ("message ", "message 65521 "),
+        ("message ", "message 1 "),
+        ("list ", "list 0"),
+    ] {
+        assert!(body.contains(field));
+        refused(&folder, &sealed(&body.replacen(field, other, 1)), "");
+    }
+    let text = String::from_utf8(files[1].clone()).unwrap();
+    let list = &text[..text.rfind("checksum").unwrap()];
+    for (field, other) in [
+        ("list 1", "list 3"),
+        ("plan 3 2 1 1", "plan 3 3 1 1"),
+        ("plan 3 2 1 1", "plan 3 2 1 2"),
+        ("ends 7", "ends 8"),
+        ("ends 7", "ends 07"),
+        ("ends 7", "ends none"),
+        ("ends 7\n", ""),
+        ("elements ", "elements 1 "),
+        ("elements ", "elements 65521 "),
+    ] {
+        assert!(list.contains(field));
+        refused(&folder, &sealed(&list.replacen(field, other, 1)), "");
+    }
+    // and the checksum is made as the tool makes it
+    folder.write("file", &sealed(body), 0o600);
+    folder.airfield(&["status", "file"]).done();
+}
+
+/// Bytes that are no text at all.
+#[test]
+fn other_files_are_refused() {
+    let (folder, _) = files("other");
+    for bytes in
+        [&b""[..], b"\0", b"\xff\xfe\n", b"100 200 300 12 60 40 120\n", b"cutawheno end 1\n", b"cutawheno end 1\nchecksum 00000000\n"]
+    {
+        refused(&folder, bytes, "");
+    }
+    folder.write("file", &fs::read("/proc/self/exe").unwrap()[..60000], 0o600);
+    folder.airfield(&["status", "file"]).failed(&["file: it is no file"]);
+    assert_eq!(fs::metadata(folder.at("file")).unwrap().permissions().mode() & 0o777, 0o600);
+}

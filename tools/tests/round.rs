@@ -1,0 +1,190 @@
+//! Whole rounds through `airfield` and `records`, and what the tools say.
+mod common;
+
+use common::{checksum, Folder, AIRFIELD, RECORDS};
+use reference::client::make_key;
+use reference::stream::run;
+use std::ffi::OsStr;
+use std::os::unix::ffi::OsStrExt;
+use std::process::Stdio;
+
+#[test]
+fn the_tests_checksum_is_the_one_of_iso_3309() {
+    assert_eq!(checksum(b"123456789"), 0xcbf43926);
+}
+
+#[test]
+fn a_round_gives_the_survivors_total() {
+    let folder = Folder::new("round");
+    folder.airfield(&["list", "4", "3", "1", "2", "list"]).done();
+    let figures = [["12", "0", "7", "310"], ["3", "5", "0", "205"], ["0", "0", "1", "80"], ["9", "1", "2", "65520"]];
+    let mut told = "plan 4 3 1 2\nopen 1\n".to_string();
+    for (airfield, row) in (1..).zip(figures) {
+        let end = format!("end{airfield}");
+        folder.airfield(&["key", "list", &airfield.to_string(), &end]).done();
+        let message = folder.airfield(&[&["first", &end], &row[..]].concat()).done();
+        told += if airfield == 2 { "" } else { &message };
+    }
+    told += "close\n";
+    for end in ["end1", "end3", "end4"] {
+        told += &folder.airfield(&["reply", end, "13"]).done();
+    }
+    told += "finish\n";
+    let bytes = folder.with_input(RECORDS, &["encode"], told.as_bytes());
+    assert_eq!((bytes.status, bytes.error.as_str()), (Some(0), ""));
+    let stream = reference::text::encode(&told).unwrap();
+    assert_eq!(run(&stream), "plan 4 3 1 2\nopen 1\nsurvivors 1 13\ntotal 1 21 1 10 389\n");
+}
+
+/// Shows that lists are drawn anew, within the range, and that keys are those of the second implementation.
+#[test]
+fn lists_and_keys_are_those_of_the_plan() {
+    let folder = Folder::new("keys");
+    for list in ["list1", "list2"] {
+        folder.airfield(&["list", "8", "2", "1", "16", list]).done();
+    }
+    assert_ne!(folder.read("list1"), folder.read("list2"));
+    let list: Vec<u16> = folder.numbers("list1", "elements").iter().map(|&element| element.try_into().unwrap()).collect();
+    assert!(list.len() == 4080 && list.iter().all(|&element| element <= 65520));
+    folder.airfield(&["key", "list1", "8", "end"]).done();
+    let mut key = [0; 2048];
+    make_key([8, 2, 1, 16], 8, &list, &mut key).unwrap();
+    assert_eq!(folder.numbers("end", "key"), key.map(u32::from));
+}
+
+/// Shows that a list makes one end for each airfield: a second one would send a second message under the same key.
+#[test]
+fn a_list_makes_one_end_for_each_airfield() {
+    let folder = Folder::new("ends");
+    folder.airfield(&["list", "3", "2", "1", "1", "list"]).done();
+    assert!(folder.airfield(&["status", "list"]).done().ends_with("ends made: no airfields\n"));
+    folder.airfield(&["key", "list", "2", "end"]).done();
+    for name in ["end", "other"] {
+        folder.airfield(&["key", "list", "2", name]).failed(&["list: the end of airfield 2 was made from it already"]);
+    }
+    folder.airfield(&["key", "list", "3", "other"]).done();
+    assert!(folder.airfield(&["status", "list"]).done().ends_with("ends made: airfields 2 3\n"));
+    assert_eq!(folder.names(), ["end", "list", "other"]);
+}
+
+/// Figures need not stand in the command line, where others see them.
+#[test]
+fn figures_from_standard_input() {
+    let folder = Folder::with_ends("input");
+    let message = folder.message("end1", 77);
+    assert_eq!(folder.with_input(AIRFIELD, &["first", "end1"], b"\n 77\t\n").done(), message);
+    assert_eq!(folder.airfield(&["first", "end1", "77"]).done(), message);
+    let from_input = |input: &[u8]| folder.with_input(AIRFIELD, &["first", "end2"], input);
+    from_input(b"").failed(&["refused 2", "figures wanted 1, given 0"]);
+    from_input(b"5 x").failed(&["standard input: figure 2", "x is found"]);
+    from_input(b"\xff\x1b").failed(&["figure 1"]);
+    from_input(&[b'1'; 70000]).failed(&["standard input", "65536"]);
+    folder.shell("$AIRFIELD first end2 <&-").failed(&["standard input is closed"]);
+    folder.shell("$AIRFIELD first end2 < /").failed(&["standard input: Is a directory"]);
+    assert_eq!(folder.with_input(AIRFIELD, &["first", "end2"], b"0").done(), folder.message("end2", 0));
+}
+
+#[test]
+fn the_same_asked_again_gives_the_same_bytes_and_another_is_refused() {
+    let folder = Folder::with_ends("again");
+    folder.airfield(&["reply", "end1", "5"]).failed(&["refused 18", "end1 has given no first message yet"]);
+    let message = folder.message("end1", 10);
+    for _ in 0..3 {
+        assert_eq!(folder.airfield(&["first", "end1", "10"]).done(), message);
+    }
+    let other = |figures: &[&str]| folder.airfield(&[&["first", "end1"], figures].concat());
+    for figures in [&["11"][..], &["65521"], &["10", "10"]] {
+        other(figures).failed(&["refused 18", "end1 has given its first message with other figures"]);
+    }
+    folder.airfield(&["reply", "end1", "1"]).failed(&["refused 5", "set 1 is airfields 1; wanted are at least 2 of 1 to 3"]);
+    folder.airfield(&["reply", "end1", "6"]).failed(&["refused 6", "airfield 1 is not in set 6, which is airfields 2 3"]);
+    let reply = folder.airfield(&["reply", "end1", "5"]).done();
+    assert_eq!(reply, format!("{}reply 1 0 {}\n", folder.comment("end1"), folder.numbers("end1", "key")[2]));
+    assert_eq!(folder.airfield(&["reply", "end1", "5"]).done(), reply);
+    folder.airfield(&["reply", "end1", "7"]).failed(&["refused 19", "end1 has answered set 5"]);
+    assert_eq!(folder.airfield(&["first", "end1", "10"]).done(), message);
+    assert_eq!(folder.airfield(&["reply", "end1", "5"]).done(), reply);
+}
+
+/// Shows that a refusal changes nothing, and that its message says what was wanted and what was found.
+#[test]
+fn refusals_say_what_was_wanted() {
+    let folder = Folder::with_ends("refusals");
+    let before = folder.read("end1");
+    let refused = |words: &[&str], told: &[&str]| folder.airfield(words).failed(told);
+    refused(&["list", "3", "3", "1", "1", "x"], &["refused 1: plan 3 3 1 1", "K from 3 to 8"]);
+    refused(&["list", "99999999999", "3", "1", "1", "x"], &["refused 1"]);
+    refused(&["key", "list", "4", "x"], &["refused 4: no airfield 4", "1 to 3"]);
+    refused(&["key", "end1", "1", "x"], &["end1: it is of the kind end, and the kind list is wanted"]);
+    refused(&["first", "list", "1"], &["list: it is of the kind list, and the kind end is wanted"]);
+    refused(&["first", "end1", "1", "2"], &["refused 2: figures wanted 1, given 2"]);
+    refused(&["first", "end1", "65521"], &["refused 3: figure 1 is 65521, above 65520"]);
+    refused(&["first", "end1", "99999999999"], &["refused 3"]);
+    refused(&["first", "nothing", "1"], &["nothing: No such file"]);
+    assert_eq!(folder.read("end1"), before);
+    assert_eq!(folder.names(), ["end1", "end2", "end3", "list"]);
+}
+
+#[test]
+fn status_tells_the_stage_and_nothing_secret() {
+    let folder = Folder::with_ends("status");
+    let list = String::from_utf8(folder.read("list")).unwrap().lines().nth(1).unwrap().to_string();
+    let plan = "plan 3 2 1 1\nairfields 3, of which 2 must answer and 1 may collude; blocks 1; figures in a row 1";
+    assert_eq!(
+        folder.airfield(&["status", "list"]).done(),
+        format!("random list of 7 elements\n{list}\n{plan}\nends made: airfields 1 2 3\n")
+    );
+    let expect = |stage: &str| {
+        let text = format!("end of airfield 2\n{list}\n{plan}\nstage {stage}\n");
+        assert_eq!(folder.airfield(&["status", "end2"]).done(), text);
+    };
+    expect("fresh: no first message has been sent");
+    folder.airfield(&["first", "end2", "5"]).done();
+    expect("sent: the first message has been given, and no set is answered");
+    folder.airfield(&["reply", "end2", "6"]).done();
+    expect("answered: set 6, airfields 2 3");
+}
+
+#[test]
+fn help_and_version_are_printed_and_other_words_are_not_understood() {
+    let folder = Folder::new("usage");
+    for (program, name) in [(AIRFIELD, "airfield"), (RECORDS, "records")] {
+        let said = |words: &[&str]| common::Said::from(folder.command(program, words).output().unwrap());
+        assert!(said(&["--help"]).done().starts_with(&format!("{name}: ")));
+        assert_eq!(said(&["--version"]).done(), format!("{name} {}\n", env!("CARGO_PKG_VERSION")));
+        for words in [&[][..], &["other"], &["--version", "x"]] {
+            said(words).ended(2, &["--help"]);
+        }
+        folder.shell(&format!("{program} --help > /dev/full")).failed(&["No space left"]);
+        folder.shell(&format!("{program} --help >&-")).failed(&["standard output is closed"]);
+    }
+    for words in [&["list", "3"][..], &["key", "a"], &["first"], &["reply", "a"], &["status"], &["destroy"]] {
+        folder.airfield(words).ended(2, &["takes"]);
+    }
+    folder.airfield(&["first", "end", "1", "-5"]).ended(2, &["figure 2", "-5 is found"]);
+    folder.airfield(&["list", "3", "2", "1", "x", "list"]).ended(2, &["M: a whole number", "x is found"]);
+    folder.airfield(&["reply", "end", ""]).ended(2, &["SET", "\"\" is found"]);
+}
+
+/// Words that are no text, and a standard error that fails or is closed, give no panic.
+#[test]
+fn strange_words_and_a_failing_standard_error() {
+    let folder = Folder::with_ends("strange");
+    let strange = OsStr::from_bytes(b"\xff\xfe\n");
+    let word = OsStr::new;
+    folder.airfield(&[strange]).ended(2, &["no command is called"]);
+    folder.airfield(&[word("status"), strange]).failed(&["No such file"]);
+    folder.airfield(&[word("first"), word("end1"), strange]).ended(2, &["figure 1"]);
+    folder.airfield(&[word("list"), word("3"), word("2"), word("1"), word("1"), strange]).done();
+    folder.airfield(&[word("key"), strange, word("1"), OsStr::from_bytes(b"\xfd")]).done();
+    assert!(folder.airfield(&[word("first"), OsStr::from_bytes(b"\xfd"), word("3")]).done().contains("first 1 0 "));
+    folder.command(RECORDS, &[strange]).output().map(common::Said::from).unwrap().ended(2, &[]);
+    for error in ["/dev/full", "&-"] {
+        assert_eq!(folder.shell(&format!("$AIRFIELD first end1 x 2>{error}")).status, Some(2));
+        assert_eq!(folder.shell(&format!("$AIRFIELD first end1 1 2 2>{error}")).status, Some(1));
+        assert_eq!(folder.shell(&format!("$AIRFIELD 2>{error}")).status, Some(2));
+        assert_eq!(folder.shell(&format!("$RECORDS encode 2>{error} <<< x")).status, Some(1));
+    }
+    let mut child = folder.command(AIRFIELD, &["first", "end1", "1"]).stderr(Stdio::null()).spawn().unwrap();
+    assert!(child.wait().unwrap().success());
+}
