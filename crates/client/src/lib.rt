@@ -135,10 +135,10 @@ impl Client {
         if !is_fresh(stage) {
             return 18;
         }
-        if key.len() != plan::key_length(plan, user) {
+        if key.len() != plan::key_of(plan, user) {
             return 2;
         }
-        let places = plan::row_length(plan);
+        let places = plan::places_of(plan);
         if figures.len() != places {
             return 2;
         }
@@ -191,7 +191,7 @@ impl Client {
         if is_fresh(stage) {
             return 18;
         }
-        if key.len() != plan::key_length(plan, user) {
+        if key.len() != plan::key_of(plan, user) {
             return 2;
         }
         if !element::all_elements(key) {

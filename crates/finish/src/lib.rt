@@ -294,7 +294,7 @@ fn totals_of<'a>(
     let unknowns = explained.unknowns;
     let users = users_of(plan, survivors);
     let rows = users.list;
-    let sums = first_sums(first, &rows, users.count, plan::row_length(plan));
+    let sums = first_sums(first, &rows, users.count, plan::places_of(plan));
     let items = (plan.threshold - plan.collusion) as usize;
     let totals = all_blocks(&sums, &unknowns, items, plan.blocks as usize);
     Summed {

@@ -29,9 +29,9 @@ use plan::Plan;
 use plan::all_sets;
 use plan::has_enough;
 use plan::holds;
-use plan::key_length;
-use plan::list_length;
-use plan::row_length;
+use plan::key_of;
+use plan::list_of;
+use plan::places_of;
 use plan::start_refusal;
 
 // A plan has at most 16 blocks; with 8 users that makes 128 products.
@@ -52,7 +52,7 @@ pub fn make_key(plan: Plan, user: u32, random: &[u16], out: &mut [u16]) -> u32
     if number != 0 {
         return number;
     }
-    let row = row_length(plan);
+    let row = places_of(plan);
     copy_masks(plan, user, random, out, row);
     write_sets(plan, user, random, out, row);
     0
@@ -66,10 +66,10 @@ fn refusal(plan: Plan, user: u32, random: &[u16], out: usize) -> u32
     if started != 0 {
         return started;
     }
-    if random.len() != list_length(plan) {
+    if random.len() != list_of(plan) {
         return 2;
     }
-    if out != key_length(plan, user) {
+    if out != key_of(plan, user) {
         return 2;
     }
     if !all_elements(random) {

@@ -3,12 +3,13 @@
 //   is_good, start_refusal                            tests 1 and 4
 //   holds, is_usable, has_enough, is_usable_with      sets of users
 //   row_length, list_length, key_length               how long lent lists are: 0 for what tests 1 and 4 refuse
+//   places_of, list_of, key_of                        the same of what those tests have let pass
 //   all_sets, reply_start                             how many sets; where a reply lies in the key
 // Document 01's airfield is a user here. What has a `requires` is for plans that passed test 1.
 ghost use mathlib.Core.Path.{_≡_};
 ghost use Prim.Native.Nat.{_+_, _*_, _^_, _≤_, _<_};
 ghost use lib.ListN.{length};
-ghost use Rattle.scheme.specs.Scheme.{plan-good, start-refusal, in-set, usable, usable-with, usable-sets, sets-with, places, rank, reply-start};
+ghost use Rattle.scheme.specs.Scheme.{plan-good, start-refusal, in-set, usable, usable-with, usable-sets, sets-with, places, rank, list-length, key-length, reply-start};
 ghost use Rattle.scheme.specs.Good.{Good};
 ghost use Rattle.plan.specs.Plan.{plan-of};
 ghost use Rattle.plan.specs.Counts.{usable-rule, holding-rule};
@@ -272,11 +273,28 @@ fn set_place(p: Plan, user: u32, set: u32) -> u32
 }
 
 // L = M × (U − T).
-fn places_of(p: Plan) -> usize
+pub fn places_of(p: Plan) -> usize
     requires { ⌜ Good (plan-of p) ⌝ }
     ensures { λ r. ⌜ (r ≡ places (plan-of p)) × (r ≤ 96) ⌝ }
 {
     p.blocks as usize * (p.threshold - p.collusion) as usize
+}
+
+// "S of airfield 1, then of 2, up to K, L elements each; then for each usable set, block by block, T noise elements."
+pub fn list_of(p: Plan) -> usize
+    requires { ⌜ Good (plan-of p) ⌝ }
+    ensures { λ r. ⌜ (r ≡ list-length (plan-of p)) × (r ≤ 8 * 96 + 256 * 16 * 6) ⌝ }
+{
+    let sets = count_usable(p);
+    p.users as usize * places_of(p) + sets * p.blocks as usize * p.collusion as usize
+}
+
+// Its L masks, and M shares for each usable set that holds the user.
+pub fn key_of(p: Plan, user: u32) -> usize
+    requires { ⌜ Good (plan-of p) × (1 ≤ user) × (user ≤ p .users) ⌝ }
+    ensures { λ r. ⌜ (r ≡ key-length (plan-of p) user) × (r ≤ 96 + 256 * 16) ⌝ }
+{
+    places_of(p) + count_holding(p, user) * p.blocks as usize
 }
 
 // How long a row of figures is, and a first message.
@@ -289,25 +307,22 @@ pub fn row_length(p: Plan) -> usize
     places_of(p)
 }
 
-// "S of airfield 1, then of 2, up to K, L elements each; then for each usable set, block by block, T noise elements."
 pub fn list_length(p: Plan) -> usize
     ensures { λ r. ⌜ (r ≡ list-len (plan-of p)) × (r ≤ 8 * 96 + 256 * 16 * 6) ⌝ }
 {
     if !is_good(p) {
         return 0;
     }
-    let sets = count_usable(p);
-    p.users as usize * places_of(p) + sets * p.blocks as usize * p.collusion as usize
+    list_of(p)
 }
 
-// Its L masks, and M shares for each usable set that holds the user.
 pub fn key_length(p: Plan, user: u32) -> usize
     ensures { λ r. ⌜ (r ≡ key-len (plan-of p) user) × (r ≤ 96 + 256 * 16) ⌝ }
 {
     if start_refusal(p, user) != 0 {
         return 0;
     }
-    places_of(p) + count_holding(p, user) * p.blocks as usize
+    key_of(p, user)
 }
 
 // Where the M shares for a set start in a user's key: behind its L masks and the shares for the smaller sets.

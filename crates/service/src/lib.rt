@@ -296,7 +296,7 @@ pub fn plan_lent(
     if !plan::is_good(plan) {
         return SteppedHead { number: 1, head };
     }
-    let places = plan::row_length(plan) as u32;
+    let places = plan::places_of(plan) as u32;
     let idle = Head {
         phase: Phase::Idle,
         plan,
@@ -361,7 +361,7 @@ pub fn close_lent(head: Head, first: &[u16; FIRSTS], reply: &mut [u16; REPLIES])
             head,
         };
     }
-    let each = plan::row_length(plan);
+    let each = plan::places_of(plan);
     let set = complete_set(first, ROW, plan, each);
     if u32::count_ones(set) < plan.threshold {
         return ClosedHead {

@@ -210,7 +210,7 @@ fn take_finish(
         let wrote = lines::put_refusal(out, at, number, offset);
         return Turned { head: next, wrote };
     }
-    let places = plan::row_length(plan);
+    let places = plan::places_of(plan);
     let wrote = lines::put_total(out, at, round, &totals, places);
     Turned { head: next, wrote }
 }

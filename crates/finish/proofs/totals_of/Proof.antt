@@ -9,7 +9,6 @@ use Rattle.scheme.specs.Scheme.{items, places}
 use Rattle.scheme.proofs.Tests.{holds}
 use Rattle.plan.specs.Plan.{plan-of}
 use Rattle.plan.proofs.Laws.{places-le}
-use Rattle.plan.proofs.Lengths.{row-len-good}
 use Rattle.solve.specs.Solve.{padded}
 use Rattle.finish.specs.Parts.{Blocks-solved, First-sums}
 use Rattle.finish.proofs.Answers.{prepared-own, solved-same}
@@ -25,7 +24,7 @@ summed : (c : tie.After-first-sums) → let a = c .before .before .before .befor
     First-sums (a .first .now) (c .before .before .before .before .users-of .result .list) (c .before .before .before .before .users-of .result .count) (places (plan-of (a .plan))) (c .first-sums .result)
 summed c =
     let a = c .before .before .before .before .before .before .before .before .before .before .args in
-    subst (λ (n : ℕ). First-sums (a .first .now) (c .before .before .before .before .users-of .result .list) (c .before .before .before .before .users-of .result .count) n (c .first-sums .result)) (c .before .row-length .ensures .0 ∙ row-len-good _ (c .before .before .before .before .before .before .before .before .before .before .pre .0)) (c .first-sums .ensures)
+    subst (λ (n : ℕ). First-sums (a .first .now) (c .before .before .before .before .users-of .result .list) (c .before .before .before .before .users-of .result .count) n (c .first-sums .result)) (c .before .places-of .ensures .0) (c .first-sums .ensures)
 
 system-of-requires : tie.Need-system-of-requires
 system-of-requires c κs = c .pre
@@ -46,14 +45,14 @@ returns c =
 users-of-requires : tie.Need-users-of-requires
 users-of-requires c κs = c .before .before .before .before .before .pre .0 .users-high
 
-row-length-requires : tie.Need-row-length-requires
-row-length-requires c κs = search needs
+places-of-requires : tie.Need-places-of-requires
+places-of-requires c κs = c .before .before .before .before .before .before .before .before .pre .0
 
 first-sums-requires : tie.Need-first-sums-requires
 first-sums-requires c κs =
     let g = c .before .before .before .before .before .before .before .before .before .pre .0 in
     let u = c .before .before .before .users-of .ensures in
-    (listed-few _ _ _ _ (u .list-right) (u .count-right) (g .users-high), c .row-length .ensures .1, listed-points _ _ _ _ (u .list-right) (u .count-right) (g .users-high))
+    (listed-few _ _ _ _ (u .list-right) (u .count-right) (g .users-high), c .places-of .ensures .1, listed-points _ _ _ _ (u .list-right) (u .count-right) (g .users-high))
 
 sub-items : tie.Need-sub-items
 sub-items c = let g = c .before .before .before .before .before .before .before .before .before .before .before .pre .0 in omega (arith, g .collusion-high)
@@ -92,7 +91,7 @@ totals-of-spec =
     no-totals-requires
     returns
     users-of-requires
-    row-length-requires
+    places-of-requires
     first-sums-requires
     sub-items
     cast-items

@@ -13,7 +13,6 @@ use Rattle.scheme.proofs.Refusals.{written-taken, written-refused}
 use Rattle.scheme.proofs.Keys.{key-is-long}
 use Rattle.plan.specs.Plan.{plan-of}
 use Rattle.plan.proofs.Laws.{masks-inside}
-use Rattle.plan.proofs.Lengths.{row-len-good}
 use Rattle.keys.specs.Parts.{Ready}
 use Rattle.keys.proofs.Accepted.{accepted}
 use Rattle.scheme.proofs.Lists.{sets-append}
@@ -45,9 +44,6 @@ module _ (c : tie.Else1) where
       Ready (plan-of (a .plan)) (a .user) (a .random .now) × (length (a .out .now) ≡ key-length (plan-of (a .plan)) (a .user))
   taken = accepted _ _ _ _ not-refused
 
-row-is : (c : tie.After-row-length) → c .row-length .result ≡ places (plan-of (c .before .before .before .before .before .args .plan))
-row-is c = c .row-length .ensures .0 ∙ row-len-good _ (taken (c .before) .0 .good)
-
 refusal-requires : tie.Need-refusal-requires
 refusal-requires c κs = search needs
 
@@ -56,21 +52,22 @@ returns c =
     let e = c .before .refusal .ensures in
     (e, sym (written-refused (λ z. c .if1 .taken (e ∙ z)) _ _))
 
-row-length-requires : tie.Need-row-length-requires
-row-length-requires c κs = search needs
+places-of-requires : tie.Need-places-of-requires
+places-of-requires c κs = taken c .0 .good
 
 copy-masks-requires : tie.Need-copy-masks-requires
 copy-masks-requires c κs =
     let t = taken (c .before .before) in
     let a = c .before .before .before .before .before .before .args in
-    let e = row-is (c .before) in
-    (t .0, (e, c .before .row-length .ensures .1, omega (arith, e, t .1, masks-inside (plan-of (a .plan)) (a .user))))
+    let e = c .before .places-of .ensures in
+    (t .0, (e .0, e .1, omega (arith, e .0, t .1, masks-inside (plan-of (a .plan)) (a .user))))
 
 write-sets-requires : tie.Need-write-sets-requires
 write-sets-requires c κs =
     let d = c .before .before .before .before .before in
     let t = taken (d .before) in
-    (t .0, (row-is d, d .row-length .ensures .1, c .before .before .before .copy-masks .kept .1 .1 .1 .0 ∙ t .1))
+    let e = d .places-of .ensures in
+    (t .0, (e .0, e .1, c .before .before .before .copy-masks .kept .1 .1 .1 .0 ∙ t .1))
 
 same-length : tie.Need-same-length
 same-length c = search needs
@@ -80,7 +77,7 @@ returns-2 c =
     let d = c .before .before .before .before .before .before .before .before in
     let z = not-refused (d .before) in (
       sym z,
-      key-written _ _ _ _ _ _ _ (row-is d) (taken (d .before) .1) (c .before .before .before .before .before .before .copy-masks .ensures)
+      key-written _ _ _ _ _ _ _ (d .places-of .ensures .0) (taken (d .before) .1) (c .before .before .before .before .before .before .copy-masks .ensures)
           (c .before .before .write-sets .ensures) z,
     )
 
@@ -90,7 +87,7 @@ make-key-spec =
     (tie.spec
     refusal-requires
     returns
-    row-length-requires
+    places-of-requires
     copy-masks-requires
     write-sets-requires
     same-length

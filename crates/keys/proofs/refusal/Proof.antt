@@ -1,12 +1,13 @@
 -- `keys::refusal` meets its contract: each return is the definition under the tests that led there.
 use mathlib.Core.Path.{_≡_, sym, _∙_}
+use native.Mathlib.Omega.{arith}
 use lib.ListN.{length}
 use borrow.Author.Tests.{eq-eqb, ne-eqb, not-true, not-false}
 use borrow.Author.Needs.{needs}
 use Rattle.scheme.specs.Scheme.{unless, start-refusal, key-refusal, list-length, key-length, _then_}
-use Rattle.scheme.proofs.Refusals.{then-refused, start-taken}
+use Rattle.scheme.proofs.Refusals.{then-refused}
 use Rattle.plan.specs.Plan.{plan-of}
-use Rattle.plan.proofs.Lengths.{list-len-good, key-len-good}
+use Rattle.scheme.proofs.Refusals.{start-taken}
 use Rattle.keys.proofs.refusal.Statement.{statement}
 use Rattle.keys.proofs.refusal.Tie as tie
 
@@ -14,19 +15,12 @@ use Rattle.keys.proofs.refusal.Tie as tie
 start : (c : tie.Else1) → start-refusal (plan-of (c .before .before .before .args .plan)) (c .before .before .before .args .user) ≡ 0
 start c = sym (c .before .start-refusal .ensures) ∙ c .if1 .left
 
--- the lengths that are asked for are those of a good plan and its user
-list-is : (c : tie.After-list-length) → c .list-length .result ≡ list-length (plan-of (c .before .before .before .before .args .plan))
-list-is c = c .list-length .ensures .0 ∙ list-len-good _ (start-taken _ _ (start (c .before)) .0)
-
-key-is : (c : tie.After-key-length) → let a = c .before .before .before .before .before .before .args in c .key-length .result ≡ key-length (plan-of (a .plan)) (a .user)
-key-is c = c .key-length .ensures .0 ∙ key-len-good _ _ (start-taken _ _ (start (c .before .before .before)))
-
 -- the list, and the buffer, has the right length
 list-long : (c : tie.Else2) → length (c .before .before .before .before .before .args .random .now) ≡ list-length (plan-of (c .before .before .before .before .before .args .plan))
-list-long c = c .if2 .left ∙ list-is (c .before)
+list-long c = c .if2 .left ∙ c .before .list-of .ensures .0
 
 out-long : (c : tie.Else3) → let a = c .before .before .before .before .before .before .before .args in a .out ≡ key-length (plan-of (a .plan)) (a .user)
-out-long c = c .if3 .left ∙ key-is (c .before)
+out-long c = c .if3 .left ∙ c .before .key-of .ensures .0
 
 start-refusal-requires : tie.Need-start-refusal-requires
 start-refusal-requires c κs = search needs
@@ -35,19 +29,21 @@ returns : tie.Need-returns
 unfolding key-refusal
 returns c = c .before .start-refusal .ensures ∙ sym (then-refused (λ e. c .if1 .taken (c .before .start-refusal .ensures ∙ e)) _)
 
-list-length-requires : tie.Need-list-length-requires
-list-length-requires c κs = search needs
+list-of-requires : tie.Need-list-of-requires
+list-of-requires c κs = start-taken _ _ (start c) .0
 
 returns-2 : tie.Need-returns-2
 unfolding key-refusal _then_ unless
-returns-2 c = rw (start (c .before .before), ne-eqb _ _ (λ e. c .if2 .taken (e ∙ sym (list-is (c .before)))))
+returns-2 c = rw (start (c .before .before), ne-eqb _ _ (λ e. c .if2 .taken (e ∙ sym (c .before .list-of .ensures .0))))
 
-key-length-requires : tie.Need-key-length-requires
-key-length-requires c κs = search needs
+key-of-requires : tie.Need-key-of-requires
+key-of-requires c κs =
+    let g = start-taken _ _ (start (c .before .before)) in
+    (g .0, g .1, omega (arith, g .2, g .0 .users-high))
 
 returns-3 : tie.Need-returns-3
 unfolding key-refusal _then_ unless
-returns-3 c = rw (start (c .before .before .before .before), eq-eqb _ _ (list-long (c .before .before)), ne-eqb _ _ (λ e. c .if3 .taken (e ∙ sym (key-is (c .before)))))
+returns-3 c = rw (start (c .before .before .before .before), eq-eqb _ _ (list-long (c .before .before)), ne-eqb _ _ (λ e. c .if3 .taken (e ∙ sym (c .before .key-of .ensures .0))))
 
 all-elements-requires : tie.Need-all-elements-requires
 all-elements-requires c κs = search needs
@@ -70,9 +66,9 @@ refusal-spec =
     (tie.spec
     start-refusal-requires
     returns
-    list-length-requires
+    list-of-requires
     returns-2
-    key-length-requires
+    key-of-requires
     returns-3
     all-elements-requires
     returns-4

@@ -14,7 +14,6 @@ use Rattle.scheme.proofs.Good.{good}
 use Rattle.scheme.proofs.Held.{complete-below}
 use Rattle.plan.specs.Plan.{plan-of}
 use Rattle.plan.proofs.Laws.{ones-same}
-use Rattle.plan.proofs.Lengths.{row-len-good}
 use Rattle.service.specs.declared.Service.{Service}
 use Rattle.service.specs.View.{phase-of, view}
 use Rattle.service.specs.Calls.{lent, close-refusal, closed}
@@ -34,7 +33,7 @@ at-start c = let a = c .before .before .before .before .before .args in lent (a 
 
 whole : (c : tie.After-complete-set) → c .complete-set .result ≡ gathered (view (at-start (c .before .before .before)))
 unfolding gathered view
-whole c = c .complete-set .ensures ∙ ap (complete-set _ _) (c .before .before .row-length .ensures .0 ∙ row-len-good _ (good _ (a-plan (c .before .before .before))))
+whole c = c .complete-set .ensures ∙ ap (complete-set _ _) (c .before .before .places-of .ensures .0)
 
 counted :
     (c : tie.After-complete-set) → let s = at-start (c .before .before .before) in
@@ -63,15 +62,15 @@ returns-2 c =
     let h = sym (c .before .is-good .ensures) ∙ not-true _ (c .if2 .taken) in
     close-refused _ (λ z. omega arith) (simp (p .0, p .1, h))
 
-row-length-requires : tie.Need-row-length-requires
-row-length-requires c κs = search needs
+places-of-requires : tie.Need-places-of-requires
+places-of-requires c κs = good _ (a-plan c)
 
 complete-set-requires : tie.Need-complete-set-requires
 complete-set-requires c κs =
     let e = c .before .before in
     let g = good _ (a-plan e) in
     let n : length (at-start e .first) ≡ 768 = search needs in
-    (g .users-high, omega arith, c .before .row-length .ensures .1, omega arith)
+    (g .users-high, omega arith, c .before .places-of .ensures .1, omega arith)
 
 returns-3 : tie.Need-returns-3
 unfolding close-refusal unless _then_
@@ -105,7 +104,7 @@ close-lent-spec =
     returns
     is-good-requires
     returns-2
-    row-length-requires
+    places-of-requires
     complete-set-requires
     returns-3
     nothing-reply-requires

@@ -9,7 +9,6 @@ use Rattle.scheme.specs.Service.{has-plan}
 use Rattle.scheme.proofs.Good.{good}
 use Rattle.scheme.proofs.Refusals.{unless-zero}
 use Rattle.plan.specs.Plan.{plan-of}
-use Rattle.plan.proofs.Lengths.{row-len-good}
 use Rattle.service.specs.View.{phase-of}
 use Rattle.service.specs.Calls.{plan-step, plan-refusal, planned, after}
 use Rattle.service.proofs.Refused.{unless-not-zero}
@@ -40,8 +39,8 @@ returns-2 : tie.Need-returns-2
 unfolding plan-step plan-refusal after unless _then_
 returns-2 c = simp (none-yet (c .before .before), sym (c .before .is-good .ensures) ∙ not-true _ (c .if2 .taken))
 
-row-length-requires : tie.Need-row-length-requires
-row-length-requires c κs = search needs
+places-of-requires : tie.Need-places-of-requires
+places-of-requires c κs = good _ (is-good c)
 
 cast-places : tie.Need-cast-places
 cast-places c = search needs
@@ -54,7 +53,7 @@ unfolding plan-step plan-refusal planned after unless _then_
 returns-3 c =
     let d = c .before .before .before in
     let e = d .before in
-    simp (none-yet (e .before .before), is-good e, d .row-length .ensures .0 ∙ row-len-good _ (good _ (is-good e)), c .clear .ensures .0, c .clear .ensures .1)
+    simp (none-yet (e .before .before), is-good e, d .places-of .ensures .0, c .clear .ensures .0, c .clear .ensures .1)
 
 pub plan-lent-spec : {M : Type 1} → statement M
 plan-lent-spec =
@@ -64,7 +63,7 @@ plan-lent-spec =
     returns
     is-good-requires
     returns-2
-    row-length-requires
+    places-of-requires
     cast-places
     clear-requires
     returns-3)

@@ -1,13 +1,12 @@
 -- `stream::take_finish` meets its contract: the call's answer decides the line.
 -- Assumes nothing.
-use mathlib.Core.Path.{_≡_, sym, ap, _∙_}
+use mathlib.Core.Path.{sym, ap, _∙_}
 use Prim.Native.Nat.{ℕ}
 use lib.ListN.{take}
 use borrow.Author.Needs.{needs}
 use Rattle.scheme.specs.Scheme.{places}
 use Rattle.scheme.specs.Service.{totalled}
 use Rattle.plan.specs.Plan.{plan-of}
-use Rattle.plan.proofs.Lengths.{row-len-good}
 use Rattle.service.specs.Promise.{told}
 use Rattle.finish.specs.declared.Finished.{Finished}
 use Rattle.lines.specs.Text.{line}
@@ -16,13 +15,6 @@ use Rattle.stream.specs.Stream.{step}
 use Rattle.stream.proofs.Turns.{turn-taken, turn-refused, finish-good}
 use Rattle.stream.proofs.take_finish.Statement.{statement}
 use Rattle.stream.proofs.take_finish.Tie as tie
-
--- a finish that is taken has a good plan
-row-is : (c : tie.After-row-length) → let x = c .before .before .before .before in
-    c .row-length .result ≡ places (plan-of (x .before .before .before .before .before .args .head .plan))
-row-is c =
-    let x = c .before .before .before .before in
-    c .row-length .ensures .0 ∙ row-len-good _ (finish-good _ (sym (ap (λ (r : Finished). r .number) (x .finish-lent .ensures)) ∙ c .before .if1 .left))
 
 finish-lent-requires : tie.Need-finish-lent-requires
 finish-lent-requires c κs = search needs
@@ -44,8 +36,8 @@ returns c =
     (ap (λ (r : Finished). told (r .number) (totalled (a .head .round) (take (places (plan-of (a .head .plan))) (r .totals)))) e)
     (c .before .before .before .before .if1 .taken) (c .before .before .put-refusal .ensures .1)
 
-row-length-requires : tie.Need-row-length-requires
-row-length-requires c κs = search needs
+places-of-requires : tie.Need-places-of-requires
+places-of-requires c κs = finish-good _ (sym (ap (λ (r : Finished). r .number) (c .before .before .before .finish-lent .ensures)) ∙ c .if1 .left)
 
 put-total-requires : tie.Need-put-total-requires
 put-total-requires c κs = search needs
@@ -64,7 +56,7 @@ returns-2 c =
     (ap (λ (r : Finished). r .service) e)
     (ap (λ (r : Finished). told (r .number) (totalled (a .head .round) (take (places (plan-of (a .head .plan))) (r .totals)))) e)
     (c .before .before .before .before .before .before .if1 .left)
-    (put-as (c .before .before .put-total .ensures .1 _) (ap (λ (i : ℕ). line (a .offset) (totalled (a .head .round) (take i ts))) (row-is (c .before .before .before .before .before))))
+    (put-as (c .before .before .put-total .ensures .1 _) (ap (λ (i : ℕ). line (a .offset) (totalled (a .head .round) (take i ts))) (c .before .before .before .before .before .places-of .ensures .0)))
 
 pub take-finish-spec : {M : Type 1} → statement M
 take-finish-spec =
@@ -74,7 +66,7 @@ take-finish-spec =
     put-refusal-requires
     same-length
     returns
-    row-length-requires
+    places-of-requires
     put-total-requires
     same-length-2
     returns-2)
