@@ -2,7 +2,7 @@
 //   cutawheno_end_start                 a fresh end
 //   cutawheno_end_first_message         figures plus masks
 //   cutawheno_end_reply, CutawhenoPart  where in the key the shares for a set lie
-//   END                                 the length of `end`
+//   END, end_at                         the length of `end`, and what its numbers stand for
 // `end` has users, threshold, collusion, blocks, user and stage (0 fresh, 1 sent, 2 + v has answered the set v); behind them two numbers
 // that no call reads, 0 from the start. The calls move the stage themselves. Any numbers are an end, so 1 and 4 are tested at each call,
 // ahead of the others. A refused call hands back its number and leaves the array and every buffer as they came.

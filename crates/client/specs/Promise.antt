@@ -1,6 +1,6 @@
 -- What document 01 says of the calls of an airfield end, one after the other.
 --   Same-part           "the same set asked again gets the same part"
---   Refused-unchanged   "the part that goes with a refused reply is empty; the state and every lent buffer stay as before the call"
+--   First-unchanged, Reply-unchanged, Refused-unchanged   "the part that goes with a refused reply is empty; the state and every lent buffer stay as before the call"
 -- Assumes nothing: these are definitions.
 use mathlib.Core.Path.{_≡_}
 use mathlib.Core.Logic.{_≢_}

@@ -4,7 +4,8 @@
 //   Answer             what a first message hands back: 0 or the refusal's number, and the end
 //   Replied            what a reply hands back: the same, and the part of the lent key, which is empty after a refusal
 //   stage_of_number    the stage that a number stands for, where an end is kept as numbers
-//   Client::start, first_message, reply_refusal, reply; Client::Q and the limits
+//   is_fresh, open_to, add_masks    tests 18 and 19 of a stage; figures plus masks
+//   Client::start, first_message, reply_refusal, reply; Client::Q and the limits; first_refusal, part, after_reply behind them
 // A refused call hands back its number alone: the end and every lent buffer are as before.
 ghost use mathlib.Core.Path.{_≡_};
 ghost use mathlib.Core.Bool.{true};
