@@ -2,7 +2,6 @@
 --   transposed   rows and columns exchanged: a Cauchy system again
 --   solves       the closed solution has the right-hand side as its values
 --   unique       unknowns with the same values are the same
---   only-zero    unknowns whose values are all zero are zero
 -- With E k l = Σ_i β_i a_ki a_li, β the weights of the columns: E k l is 0 for k ≢ l, as (row l - row k) a_ki a_li = a_ki - a_li,
 -- and the rows' weight k is 1 / E k k. Uniqueness: an unknown is a sum of the values, with the solution of the transposed system at
 -- its unit vector as coefficients.
@@ -17,7 +16,7 @@ use Rattle.algebra.specs.Field.{Field, sub}
 use Rattle.algebra.specs.Sums.{In, sum}
 use Rattle.algebra.specs.Cauchy.{System, coefficient, value, weight, solution}
 use Rattle.algebra.proofs.Field.{add-last, expand, one-mul, mul-zero, add-cancel, mul-cancel, add-sub, sub-ne}
-use Rattle.algebra.proofs.Sums.{sum-same, sum-zero, sum-add, sum-scale, sum-pair, sum-pick}
+use Rattle.algebra.proofs.Sums.{sum-same, sum-add, sum-scale, sum-pair, sum-pick}
 use Rattle.algebra.proofs.Weights.{weights-one}
 
 pub transposed : {K : Field} {row col : ℕ → K .F} {rs cs : List ℕ} → System K row col rs cs → System K col row cs rs
@@ -118,6 +117,3 @@ module _ {K : Field} {row col : ℕ → K .F} {rs cs : List ℕ} (system : Syste
 
   pub unique : (w v : ℕ → F) → ((k : ℕ) → In k rs → value K row col cs k w ≡ value K row col cs k v) → (i : ℕ) → In i cs → w i ≡ v i
   unique w v h i m = sym (read w i m) ∙ sum-same K rs _ _ (λ k n. ap (λ u. reading i k ⊗ u) (h k n)) ∙ read v i m
-
-  pub only-zero : (w : ℕ → F) → ((k : ℕ) → In k rs → value K row col cs k w ≡ 𝟘) → (i : ℕ) → In i cs → w i ≡ 𝟘
-  only-zero w h = unique w (λ i. 𝟘) (λ k m. h k m ∙ sym (sum-zero K cs _ (λ i n. mul-zero K _)))

@@ -1,5 +1,5 @@
 -- Plans, sets and lengths: ours are document 03's.
---   plan-good-same, items-same, places-same              plans
+--   plan-good-same, places-same                          plans
 --   in-set-same, ones-same, usable-same                  sets
 --   usable-sets-same, holding-same                       the usable sets, and those that hold an airfield
 --   index-rank, usable-index, holding-index              the place of a set in a row of sets
@@ -23,10 +23,6 @@ use Rattle.document03.specs.Scheme as D
 pub plan-good-same : (p : D.Plan) → D.plan-good p ≡ plan-good (our-plan p)
 unfolding D.plan-good plan-good
 plan-good-same p = refl
-
-pub items-same : (p : D.Plan) → D.items p ≡ items (our-plan p)
-unfolding D.items items
-items-same p = refl
 
 pub places-same : (p : D.Plan) → D.places p ≡ places (our-plan p)
 unfolding D.places places D.items items

@@ -1,5 +1,5 @@
 -- Sums and shares: ours modulo 65521 are document 03's.
---   mask-same, noise-same                     what stands in the random list
+--   noise-same                                what stands in the random list
 --   inverse-same, coefficient-same            its inverses by powers are ours, for the numbers that occur
 --   sum-set-same, sum-S-same, total-at-same   sums over a set
 --   dotted-same                               a row of coefficients, from any column on
@@ -25,10 +25,6 @@ use Rattle.document03.specs.Scheme as D
 use Rattle.document03.proofs.Sets.{places-same, in-set-same, usable-index}
 
 -- ---- the random list
-pub mask-same : (p : D.Plan) (xs : List ℕ) (k i : ℕ) → D.S p xs k i ≡ mask (our-plan p) xs k i
-unfolding D.S mask
-mask-same p xs k i = ap (λ (n : ℕ). getD xs ((k - 1) * n + i) 0) (places-same p)
-
 pub noise-same : (p : D.Plan) (xs : List ℕ) (v b i : ℕ) → usable (our-plan p) v ≡ true → D.noise p xs v b i ≡ noise (our-plan p) xs v b i
 unfolding D.noise noise noise-start
 noise-same p xs v b i h = ap₂ (λ (n r : ℕ). getD xs (p .k * n + (r * p .m + b) * p .t + i) 0) (places-same p) (usable-index p v h)

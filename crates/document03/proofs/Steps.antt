@@ -9,7 +9,7 @@ use mathlib.Core.List.{List}
 use Prim.Native.Nat.{ℕ, suc}
 use native.Mathlib.Omega.{arith}
 use borrow.Author.Tests.{eqb-true}
-use Rattle.scheme.specs.Scheme.{sixteen, plan-good}
+use Rattle.scheme.specs.Scheme.{sixteen}
 use Rattle.scheme.specs.Good.{Good}
 use Rattle.scheme.specs.Service.{replying, State, nothing, Record, finish-record, Answer, closed, totalled, refused, refusal, planned-state, opened-state, idle-state, next-state, answer-of, is-finish, explained-by, totals-by, Steps, refuses, accepts, totals-up, disagrees}
 use Rattle.scheme.proofs.Tests.{holds}

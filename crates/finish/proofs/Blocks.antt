@@ -65,10 +65,6 @@ module _ (p : Plan) (v : ℕ) (rs : List ℕ) (m : ℕ) (e : rs ≡ rows-of p v)
   pub listed-points : Points 8 m rs
   listed-points = rw (e, d) (rows-points p v h)
 
-pub choice-long : (p : Plan) (r : ℕ) (y : (k block : ℕ) → ℕ) (b : ℕ) → length (choice-of p r y b) ≡ p .threshold
-unfolding choice-of
-choice-long p r y b = map-span-length _ (p .threshold) 0
-
 -- ---- what `explains` says of one block
 explains-facts : (p : Plan) (r : ℕ) (y : (k : ℕ) → ℕ) (w : List ℕ) → explains sixteen p r y w ≡ true → Explained sixteen p (users-in p r) (length (users-in p r)) y w
 unfolding explains

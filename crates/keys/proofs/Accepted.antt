@@ -7,7 +7,6 @@ use Prim.Native.Nat.{ℕ}
 use borrow.Author.Tests.{eqb-true}
 use Rattle.scheme.specs.Scheme.{sixteen, Plan, key-length, key-refusal}
 use Rattle.scheme.proofs.Tests.{both}
-use Rattle.scheme.proofs.Good as goodness
 use Rattle.scheme.proofs.Refusals.{then-zero, unless-zero, start-taken}
 use Rattle.keys.specs.Parts.{Ready}
 

@@ -1,5 +1,5 @@
 -- Texts written behind one another.
---   take-sets, drop-sets             what stands before the text's end, and behind it
+--   take-sets                        what stands before the text's end
 --   put-none, put-append, put-as     of Put: no text, two texts, an equal text
 --   put-more, put-all                one byte more of a text, and the whole of it
 --   put-length                       the buffer keeps its length
@@ -8,11 +8,11 @@
 -- Assumes nothing.
 use mathlib.Core.Path.{_≡_, refl, sym, ap, ap₂, _∙_}
 use mathlib.Core.List.{List, [], _∷_, _++_, append-assoc, append-nil}
-use Prim.Native.Nat.{ℕ, zero, suc, _+_, _≤_, _<_}
+use Prim.Native.Nat.{ℕ, _+_, _≤_, _<_}
 use native.Mathlib.Numerals.{add-one}
 use native.Mathlib.Omega.{arith}
-use lib.ListN.{length, getD, take, drop, set, length-append}
-use lib.Seq.{sets, sets-eq, length-sets, take-at, drop-at, take-suc, take-length, length-take-le}
+use lib.ListN.{length, getD, take, set, length-append}
+use lib.Seq.{sets, sets-eq, length-sets, take-at, take-suc, take-length, length-take-le}
 use Rattle.scheme.specs.Scheme.{Plan}
 use Rattle.scheme.specs.Service.{planned, opened, closed, totalled, refused}
 use Rattle.scheme.proofs.Lists.{sets-append}
@@ -26,9 +26,6 @@ module _ (o : List ℕ) (at : ℕ) (t : List ℕ) (h : at + length t ≤ length 
 
   pub take-sets : take (at + length t) (sets o at t) ≡ take at o ++ t
   take-sets = ap (take (at + length t)) (sets-eq t o at h) ∙ take-at (take at o ++ t) _ _ front
-
-  pub drop-sets : drop (at + length t) (sets o at t) ≡ drop (at + length t) o
-  drop-sets = ap (drop (at + length t)) (sets-eq t o at h) ∙ drop-at (take at o ++ t) _ _ front
 
 -- ---- Put
 pub put-none : (o : List ℕ) (at : ℕ) → Put o o at at []

@@ -2,7 +2,7 @@
 --   span-append, span-in, in-span, span-once, span-length       the n numbers from k on
 --   map-same, map-span-length, map-span-at                      maps over them
 --   members-append, members-in, in-members, members-once, members-fewer, members-le     those that pass a test
---   rank-zero, rank-step, rank-le, rank-at, rank-lt             how many below v pass
+--   rank-zero, rank-step, rank-at, rank-lt                      how many below v pass
 --   rows-same, rows-append, rows-length, rows-at                        one list for each number
 --   sets-append, sets-more, sets-whole                          lists written one behind the other; one word more of a map; all of a list
 --   high, low, digits-lt                                        a number of two digits
@@ -143,10 +143,6 @@ keep-le false k n l h = omega arith
 pub members-le : (t : ℕ → Bool) (n k : ℕ) → length (members t n k) ≤ n
 members-le t zero k = omega arith
 members-le t (suc n) k = keep-le (t k) k n (members t n (suc k)) (members-le t n (suc k))
-
-pub rank-le : (t : ℕ → Bool) (v : ℕ) → rank t v ≤ v
-unfolding rank
-rank-le t v = members-le t v 0
 
 -- the numbers below v that pass, v, and those above
 members-split : (t : ℕ → Bool) (n v : ℕ) → v < n → t v ≡ true → members t n 0 ≡ members t v 0 ++ (v ∷ members t (n - suc v) (suc v))

@@ -23,7 +23,7 @@ use Rattle.scheme.specs.Scheme.{span, Arithmetic, sum, Plan, items, plac
 use Rattle.scheme.specs.Promise.{Table, Shown, admissible, shown}
 use Rattle.scheme.specs.Laws.{Laws}
 use Rattle.scheme.proofs.Lists.{span-append, span-in, in-span, span-once, span-length, map-span-at, members-once}
-use Rattle.scheme.proofs.Sums.{el-same, zero-small, sum-same, sum-el, sum-small, row-value-el}
+use Rattle.scheme.proofs.Sums.{el-same, zero-small, sum-el, sum-small, row-value-el}
 use Rattle.scheme.proofs.Sets.{users-in-in, users-in-size, place-lt}
 use Rattle.scheme.proofs.Keys.{each-at, key-mask, key-reply, elements-at}
 use Rattle.scheme.proofs.Sharp.{map-back}

@@ -1,6 +1,6 @@
 -- Tests and the facts that they stand for.
 --   both, joined              the two halves of a true `&&`
---   is-true, is-false         a test by what it would say
+--   is-false                  a test by what it would say
 --   past                      a number from k on that is not k: the arms of a match, one after the other
 -- Assumes nothing.
 use mathlib.Core.Path.{_≡_, refl, sym, ap₂, subst}
@@ -11,10 +11,6 @@ use lib.Dec.{T}
 
 pub holds : {b : Bool} → b ≡ true → T b
 holds e = subst T (sym e) tt
-
-pub is-true : (b : Bool) → T b → b ≡ true
-is-true true t = refl
-is-true false t = absurd t
 
 pub is-false : (b : Bool) → (b ≡ true → ⊥) → b ≡ false
 is-false true h = absurd (h refl)

@@ -5,7 +5,7 @@
 --   Explained, explained, explained-back     what `explains` says, for the first rows of a list
 --   columns-known, one-explained       U rows settle U columns
 --   one-choice, some-choice            at least U replies leave at most one choice; U leave one
---   settled, unsettled                 what explains the first U replies explains all, or nothing does
+--   settled                            what explains the first U replies is what explains all, if anything does
 --   rules-explain, totals-right        replies that follow the rules are explained, and what explains them gives the survivors' total
 -- Assumes nothing.
 use mathlib.Core.Path.{_≡_, refl, sym, ap, ap₂, _∙_}
@@ -167,11 +167,6 @@ module _ (A : Arithmetic) (p : Plan) (L : Laws A (p .users) (p .threshold)) wher
       (g : Explained A p (users-in p r) (p .threshold) (λ k. y k b) w) (f : (block : ℕ) → List ℕ) (h : explains-all A p r y f ≡ true) where
     pub settled : f b ≡ w
     settled = let e = enough p r many in one-explained (users-in p r) e (λ k. y k b) _ _ (f b) w (e .many) (omega arith) (explained A p r y f h b i) g
-
-    -- so where they miss one more reply, no choice explains all
-    pub unsettled : (a : ℕ) → a < length (users-in p r) → row-value A (p .threshold) (getD (users-in p r) a 0) (unknown w) ≢ y (getD (users-in p r) a 0) b → ⊥
-    unsettled a l ne =
-        ne (ap (λ (w : List ℕ). row-value A (p .threshold) (getD (users-in p r) a 0) (unknown w)) (sym settled) ∙ explained A p r y f h b i .fits a l)
 
   -- the closed solution
   pub some-choice : Some-choice A p

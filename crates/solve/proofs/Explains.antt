@@ -1,7 +1,6 @@
 -- The solver in the words of demand 2: rows are users, columns are 1 to U, values are replies.
 --   points-some                     fewer points, in a wider range
 --   Block                           the arrays of a block: users, columns, values
---   rows-good, columns-good         their points are good
 --   explains-first                  the unknowns explain the first U values
 --   fits-explains, explains-fits    they explain all values exactly if the further rows fit
 -- Assumes nothing.
@@ -18,7 +17,7 @@ use Rattle.scheme.specs.Scheme.{span, q, sixteen, Plan, row-value}
 use Rattle.scheme.proofs.Lists.{span-in, in-span, map-span-length}
 use Rattle.scheme.proofs.Keys.{elements-map}
 use Rattle.scheme.proofs.Sums.{sum-same}
-use Rattle.scheme.proofs.Totals.{all-of-in, at-all-of, in-at, at-apart, Enough, unknown, Explained}
+use Rattle.scheme.proofs.Totals.{all-of-in, at-all-of, in-at, unknown, Explained}
 use Rattle.solve.specs.Solve.{laws16, Points, Square, padded, filled, unknown-at, solution-of, dot-of, fits-of}
 use Rattle.solve.proofs.Right.{dot-row, solve-right}
 
@@ -37,18 +36,6 @@ pub record Block (p : Plan) (users : List ℕ) (m : ℕ) (y : (k : ℕ) → ℕ)
   pub small : (a : ℕ) → a < m → getD vs a 0 < q
 
 module _ (p : Plan) (users : List ℕ) (m : ℕ) (y : (k : ℕ) → ℕ) (rs cs vs : List ℕ) (block : Block p users m y rs cs vs) where
-  pub rows-good : Enough p users → p .users ≤ 8 → m ≤ length users → Points 8 m rs
-  rows-good e h l = record {
-    inside = λ i a. let x = e .inside _ (in-at users i (omega arith)) in rw (block .rows i a) (x .0, omega (arith, x .1));
-    apart = λ i k a b ne f. at-apart users (e .once) i k (omega arith) (omega arith) ne (sym (block .rows i a) ∙ f ∙ block .rows k b);
-  }
-
-  pub columns-good : p .threshold ≤ 7 → Points 7 (p .threshold) cs
-  columns-good h = record {
-    inside = λ i a. let e = block .columns i a in (omega arith, omega arith);
-    apart = λ i k a b ne f. ne (omega (arith, block .columns i a, block .columns k b));
-  }
-
   module _ (square : Square rs cs (p .threshold)) where
     abbrev n : ℕ
     n = p .threshold

@@ -1,9 +1,9 @@
 -- `keys::dot` meets its contract: one number a turn (Sums.dotted-more).
 use mathlib.Core.Path.{_≡_}
 use mathlib.Core.List.{List}
-use Prim.Native.Nat.{ℕ, _+_, _*_, _-_, _≤_}
+use Prim.Native.Nat.{ℕ, _+_, _-_, _≤_}
 use native.Mathlib.Omega.{arith}
-use lib.ListN.{length, getD}
+use lib.ListN.{getD}
 use borrow.Author.Needs.{needs}
 use Rattle.keys.specs.Parts.{Dotted}
 use Rattle.keys.proofs.Sums.{dotted-none, dotted-more}

@@ -7,7 +7,6 @@ use native.Mathlib.Nat.{zero-add, zero-mul, eq-or-lt-of-le, mod-eq-of-lt}
 use native.Mathlib.Omega.{arith}
 use lib.ListN.{length, getD, replicate, length-replicate}
 use lib.Seq.{sets, length-sets}
-use denote.Ref.{now}
 use borrow.Author.Needs.{needs}
 use Rattle.scheme.specs.Scheme.{span, q, Plan, items, places}
 use Rattle.plan.specs.Plan.{plan-of}
