@@ -1,5 +1,6 @@
 -- Laws of the service on lent arrays.
 --   phase-replying                     a number from 3 on
+--   left-refused                       a refused call leaves the arrays
 --   taken-right, refused-right, kept-right     what a call answers and leaves; kept-right of a call on the arrays themselves
 --   same-head                          arrays with equal heads
 --   close-kept                         a refused close keeps the state
@@ -20,6 +21,11 @@ phase-replying (suc zero) a b c = absurd (b refl)
 phase-replying (suc (suc zero)) a b c = absurd (c refl)
 phase-replying (suc (suc (suc n))) a b c = refl
 
+pub left-refused : (n : ℕ) (s : Service) (a : Arrays) → (n ≡ 0 → ⊥) → left n s a ≡ a
+unfolding left
+left-refused zero s a h = absurd (h refl)
+left-refused (suc n) s a h = refl
+
 -- the number m and the state t that a call hands back, and the arrays b at exit
 module _ (a : Arrays) {n : ℕ} (s : Service) {m : ℕ} (e : m ≡ n) where
   pub taken-right : {t : Service} {b : Arrays} → m ≡ 0 → t ≡ s → b ≡ arrays-of t → (0 ≡ n) × (b ≡ left n s a)
@@ -27,12 +33,7 @@ module _ (a : Arrays) {n : ℕ} (s : Service) {m : ℕ} (e : m ≡ n) where
   taken-right z f g = let h = sym z ∙ e in (h, rw (sym h) (g ∙ ap arrays-of f))
 
   pub refused-right : (m ≡ 0 → ⊥) → (m ≡ n) × (a ≡ left n s a)
-  unfolding left
-  refused-right h = (e, sym (kept n (λ z. h (e ∙ z))))
-    where
-      kept : (n : ℕ) → (n ≡ 0 → ⊥) → left n s a ≡ a
-      kept zero h = absurd (h refl)
-      kept (suc n) h = refl
+  refused-right h = (e, sym (left-refused n s a (λ z. h (e ∙ z))))
 
   pub kept-right : {h : Head} {xs ys : List ℕ} → (m ≡ 0 → ⊥) → lent h xs ys ≡ s → s ≡ state a → (m ≡ n) × (arrays (a .head) xs ys ≡ left n s a)
   kept-right h f k =

@@ -11,11 +11,12 @@ use mathlib.Core.List.{List, _∷_}
 use Prim.Native.Nat.{ℕ, zero, suc, _+_, _*_, _/_, _%_, _^_, _<_}
 use native.Mathlib.Nat.{add-zero, zero-add}
 use native.Mathlib.Omega.{arith}
-use borrow.Author.Tests.{ltb-true, eq-eqb, ne-eqb}
+use borrow.Author.Tests.{eq-eqb, ne-eqb}
 use lib.Dec.{ltb, leb}
 use lib.ListN.{length}
 use Rattle.scheme.specs.Scheme.{keep, members, rank, plan-good, items, places, in-set, ones, usable, usable-with, usable-sets, sets-with, list-length, key-length, reply-start}
-use Rattle.scheme.proofs.Tests.{both, joined, holds}
+use Rattle.scheme.proofs.Tests.{joined, holds}
+use Rattle.scheme.proofs.Sets.{usable-below}
 use Rattle.document03.specs.Ours.{our-plan}
 use Rattle.document03.specs.Scheme as D
 
@@ -41,10 +42,6 @@ ones-same (suc n) v = ap (λ (m : ℕ). v % 2 + m) (ones-same n (v / 2))
 pub usable-same : (p : D.Plan) (v : ℕ) → D.usable p v ≡ usable (our-plan p) v
 unfolding D.usable usable
 usable-same p v = ap (λ (n : ℕ). ltb v (2 ^ p .k) && leb (p .u) n) (ones-same (p .k) v)
-
-pub usable-small : (p : D.Plan) (v : ℕ) → usable (our-plan p) v ≡ true → v < 2 ^ p .k
-unfolding usable
-usable-small p v h = ltb-true v (2 ^ p .k) (both _ _ h .0)
 
 -- ---- rows of sets
 cond-keep : {a b : Bool} → a ≡ b → (k : ℕ) {l m : List ℕ} → l ≡ m → cond a (k ∷ l) l ≡ keep b k m
@@ -101,11 +98,11 @@ index-rank t n v h e = ap (λ (w : ℕ). D.index-of w (members t n 0)) (sym (zer
 module _ (p : D.Plan) (v : ℕ) (h : usable (our-plan p) v ≡ true) where
   pub usable-index : D.index-of v (D.usable-sets p) ≡ rank (usable (our-plan p)) v
   unfolding usable-sets
-  usable-index = ap (D.index-of v) (usable-sets-same p) ∙ index-rank (usable (our-plan p)) (2 ^ p .k) v (usable-small p v h) h
+  usable-index = ap (D.index-of v) (usable-sets-same p) ∙ index-rank (usable (our-plan p)) (2 ^ p .k) v (usable-below (our-plan p) v h) h
 
   pub holding-index : (k : ℕ) → in-set v k ≡ true → D.index-of v (D.holding k (D.usable-sets p)) ≡ rank (usable-with (our-plan p) k) v
   unfolding sets-with usable-with
-  holding-index k i = ap (D.index-of v) (holding-same p k) ∙ index-rank (usable-with (our-plan p) k) (2 ^ p .k) v (usable-small p v h) (joined h i)
+  holding-index k i = ap (D.index-of v) (holding-same p k) ∙ index-rank (usable-with (our-plan p) k) (2 ^ p .k) v (usable-below (our-plan p) v h) (joined h i)
 
   pub reply-start-same : (k : ℕ) → in-set v k ≡ true → D.reply-start p k v ≡ reply-start (our-plan p) k v
   unfolding D.reply-start reply-start

@@ -7,9 +7,9 @@
 -- Assumes nothing.
 use mathlib.Core.Path.{_≡_, refl, sym, ap, ap₂, _∙_}
 use mathlib.Core.Bool.{Bool, true, false, _&&_, cond}
-use mathlib.Core.List.{List, [], _∷_, _++_, map}
+use mathlib.Core.List.{List, _∷_, map}
 use Prim.Native.Nat.{ℕ, zero, suc, _+_, _*_, _-_, _%_, _≤_, _<_}
-use native.Mathlib.Nat.{zero-add, add-assoc, mod-eq-of-lt, mod-lt, zero-lt-suc, mod-add-mod, add-mod-mod}
+use native.Mathlib.Nat.{zero-add, mod-eq-of-lt}
 use native.Mathlib.Decide.{ℕ-discrete}
 use native.Mathlib.Omega.{arith}
 use borrow.Author.Tests.{eqb-true, le-leb, lt-leb}
@@ -20,6 +20,8 @@ use Rattle.scheme.specs.Scheme.{span, keep, members, q, sixteen, sum, items, pl
 use Rattle.scheme.specs.Good.{Good}
 use Rattle.scheme.proofs.Tests.{both}
 use Rattle.scheme.proofs.Lists.{span-append}
+use Rattle.scheme.proofs.Sums.{sum-small, sum-append}
+use Rattle.scheme.proofs.Modular.{sixteen-sums}
 use Rattle.document03.specs.Ours.{our-plan}
 use Rattle.document03.specs.Scheme as D
 use Rattle.document03.proofs.Sets.{places-same, in-set-same, usable-index}
@@ -51,21 +53,11 @@ unfolding D.coefficient
 coefficient-same k j = inverse-same (k + j)
 
 -- ---- sums
-sum-small : (l : List ℕ) (f : ℕ → ℕ) → sum sixteen l f < q
-unfolding sum
-sum-small [] f = omega arith
-sum-small (k ∷ l) f = mod-lt (f k + sum sixteen l f) (zero-lt-suc 65520)
-
-sum-append : (l m : List ℕ) (f : ℕ → ℕ) → sum sixteen (l ++ m) f ≡ (sum sixteen l f + sum sixteen m f) % q
-unfolding sum
-sum-append [] m f = sym (ap (λ (n : ℕ). n % q) (zero-add (sum sixteen m f)) ∙ mod-eq-of-lt (sum-small m f))
-sum-append (k ∷ l) m f = ap (λ (n : ℕ). (f k + n) % q) (sum-append l m f) ∙ simp (mod-add-mod, add-mod-mod, add-assoc)
-
 sum-span : (m n : ℕ) (f : ℕ → ℕ) → (sum sixteen (span m 1) f + sum sixteen (span n (suc m)) f) % q ≡ sum sixteen (span (m + n) 1) f
 sum-span m n f =
     let e : suc m ≡ 1 + m = omega arith in
     ap (λ (j : ℕ). (sum sixteen (span m 1) f + sum sixteen (span n j) f) % q) e
-    ∙ sym (ap (λ (l : List ℕ). sum sixteen l f) (span-append m n 1) ∙ sum-append (span m 1) (span n (1 + m)) f)
+    ∙ sym (ap (λ (l : List ℕ). sum sixteen l f) (span-append m n 1) ∙ sum-append sixteen 0 0 sixteen-sums (span m 1) (span n (1 + m)) f)
 
 pub sum-set-same : (n k v : ℕ) (f : ℕ → ℕ) → D.sum-set n k v f ≡ sum sixteen (members (in-set v) n k) f
 unfolding D.sum-set sum
@@ -75,7 +67,7 @@ sum-set-same (suc n) k v f =
   where
     step : (b : Bool) (l : List ℕ) → (cond b (f k) 0 + sum sixteen l f) % q ≡ sum sixteen (keep b k l) f
     step true l = refl
-    step false l = ap (λ (s : ℕ). s % q) (zero-add (sum sixteen l f)) ∙ mod-eq-of-lt (sum-small l f)
+    step false l = ap (λ (s : ℕ). s % q) (zero-add (sum sixteen l f)) ∙ mod-eq-of-lt (sum-small sixteen 0 0 sixteen-sums l f)
 
 pub sum-S-same : (p : D.Plan) (xs : List ℕ) (v i : ℕ) → D.sum-S p xs v i ≡ sum sixteen (users-in (our-plan p) v) (λ k. mask (our-plan p) xs k i)
 unfolding D.sum-S D.S D.places D.items mask places items users-in

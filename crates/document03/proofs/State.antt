@@ -16,6 +16,7 @@ use lib.Dec.{ltb, leb, eqb}
 use Rattle.scheme.specs.Scheme.{span, q, sixteen, places, ones, _then_, unless}
 use Rattle.scheme.specs.Totals.{all-of}
 use Rattle.scheme.specs.Service.{has-plan, is-gathering, is-replying, is-held, element-of, with-element, set-of, complete-set, gathered, replied, refusal}
+use Rattle.scheme.proofs.Tests.{not-not}
 use Rattle.document03.specs.Ours.{our-plan, our-phase, our-held, our-state, our-record}
 use Rattle.document03.specs.Scheme as D
 use Rattle.document03.specs.Service as S
@@ -112,12 +113,8 @@ leb-not a b = pick (decLe a b)
     pick (yes h) = le-leb a b h ∙ sym (ap not (le-ltb b a h))
     pick (no h) = lt-leb a b (omega arith) ∙ sym (ap not (lt-ltb b a (omega arith)))
 
-not-not : (b : Bool) → b ≡ not (not b)
-not-not true = refl
-not-not false = refl
-
 ltb-not : (a b : ℕ) → ltb a b ≡ not (leb b a)
-ltb-not a b = not-not (ltb a b) ∙ sym (ap not (leb-not b a))
+ltb-not a b = sym (not-not (ltb a b)) ∙ sym (ap not (leb-not b a))
 
 refuse-if : (n : ℕ) {a : Bool} (b : Bool) {x y : ℕ} → a ≡ not b → x ≡ y → cond a (suc n) x ≡ (unless b (suc n) then y)
 refuse-if n b {x} e d = ap (λ (t : Bool). cond t (suc n) x) e ∙ refuse n {a = b} refl d
@@ -140,7 +137,7 @@ refusal-same (S.first-element k i x) s =
     (refuse 11 (gathering-same (s .phase))
     (refuse-user (s .plan-of) k
     (refuse-if 7 _ (ap (λ (n : ℕ). leb n i) (places-same (s .plan-of)) ∙ leb-not _ i)
-    (refuse-if 2 _ (leb-not q x) (refuse-if-last 12 _ (held-same k i (s .firsts) ∙ not-not _))))))
+    (refuse-if 2 _ (leb-not q x) (refuse-if-last 12 _ (held-same k i (s .firsts) ∙ sym (not-not _)))))))
 refusal-same S.close-round s =
     refuse-if 10 _ (planned-same (s .phase))
     (refuse 11 (gathering-same (s .phase)) (refuse-if-last 14 _ (few-same (s .plan-of .k) (s .plan-of .u) (gathered-same s))))
@@ -149,7 +146,7 @@ refusal-same (S.reply-element k b x) s =
     (refuse 11 (replying-same (s .phase))
     (refuse-user (s .plan-of) k
     (refuse-if 7 _ (leb-not (s .plan-of .m) b)
-    (refuse-if 2 _ (leb-not q x) (refuse 13 (in-set-same (s .survivors) k) (refuse-if-last 12 _ (held-same k b (s .replies) ∙ not-not _)))))))
+    (refuse-if 2 _ (leb-not q x) (refuse 13 (in-set-same (s .survivors) k) (refuse-if-last 12 _ (held-same k b (s .replies) ∙ sym (not-not _))))))))
 refusal-same S.finish-round s =
     refuse-if 10 _ (planned-same (s .phase))
     (refuse 11 (replying-same (s .phase)) (refuse-if-last 14 _ (few-same (s .plan-of .k) (s .plan-of .u) (replied-same s))))

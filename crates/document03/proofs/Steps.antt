@@ -4,15 +4,14 @@
 --   steps-ours               a step of ours, from a state that stands for one of document 03's, is a step there
 -- Assumes nothing.
 use mathlib.Core.Path.{_≡_, refl, sym, ap, ap₂, _∙_, subst}
-use mathlib.Core.Bool.{Bool, true, false, not}
+use mathlib.Core.Bool.{true, not}
 use mathlib.Core.List.{List}
 use Prim.Native.Nat.{ℕ, suc}
 use native.Mathlib.Omega.{arith}
-use borrow.Author.Tests.{eqb-true}
+use borrow.Author.Tests.{not-true, eqb-true}
 use Rattle.scheme.specs.Scheme.{sixteen}
 use Rattle.scheme.specs.Good.{Good}
 use Rattle.scheme.specs.Service.{replying, State, nothing, Record, finish-record, Answer, closed, totalled, refused, refusal, planned-state, opened-state, idle-state, next-state, answer-of, is-finish, explained-by, totals-by, Steps, refuses, accepts, totals-up, disagrees}
-use Rattle.scheme.proofs.Tests.{holds}
 use Rattle.scheme.proofs.Good.{good}
 use Rattle.scheme.proofs.Well.{finishing}
 use Rattle.document03.specs.Ours.{our-plan, our-phase, our-held, our-state, our-record, our-answer}
@@ -54,10 +53,6 @@ quick-same S.close-round = refl
 quick-same (S.reply-element k b x) = refl
 quick-same S.finish-round = refl
 
-not-true : {b : Bool} → not b ≡ true → b ≡ false
-not-true {b = true} e = absurd (holds e)
-not-true {b = false} e = refl
-
 -- ---- finish
 pub finish-good : (s : S.State) → Sound s → S.finish-refusal s ≡ 0 → Good (our-plan (s .plan-of))
 finish-good s h e =
@@ -76,7 +71,7 @@ pub steps-same : Steps-same
 unfolding Steps-same our-record our-answer our-phase our-held S.idle-again idle-state
 steps-same _ _ _ _ h (S.turned-away r s n e) = refuses (our-record r) (our-state s) n (sym (refusal-same r s) ∙ e)
 steps-same _ _ _ _ h (S.taken r s quick e) =
-    rw (line-same r s, changed-same r s) (accepts (our-record r) (our-state s) (not-true (sym (quick-same r) ∙ quick)) (sym (refusal-same r s) ∙ e))
+    rw (line-same r s, changed-same r s) (accepts (our-record r) (our-state s) (not-true _ (sym (quick-same r) ∙ quick)) (sym (refusal-same r s) ∙ e))
 steps-same _ _ _ _ h (S.summed s f e d) =
     let a : explained-by sixteen (our-state s) f ≡ true = sym (explained s h e f) ∙ d in
     rw (totals-same s (finish-good s h e) f a) (totals-up (our-state s) f (finish-same s e) a)

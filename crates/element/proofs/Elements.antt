@@ -14,6 +14,7 @@ use lib.ListN.{length, getD, drop, drop-of-length-le}
 use lib.Seq.{drop-cons}
 use borrow.Author.Tests.{ltb-true, ltb-false, ne-eqb}
 use Rattle.scheme.specs.Scheme.{q, sixteen, elements}
+use Rattle.scheme.proofs.Tests.{and-false}
 
 module _ (xs : List ℕ) (i : ℕ) where
   left : i < length xs → elements sixteen (drop i xs) ≡ (ltb (getD xs i 0) q && elements sixteen (drop (i + 1) xs))
@@ -33,10 +34,6 @@ module _ (xs : List ℕ) (i : ℕ) where
         let x : ℕ = getD xs i 0 - 65520 in
         let n : bitOr past x ≡ 0 → ⊥ = λ z. omega (arith, ltb-false (getD xs i 0) q e, z, or-add-and past x, and-le-l past x) in
         ap (λ (b : Bool). b && elements sixteen (drop (i + 1) xs)) (ne-eqb _ _ n) ∙ sym (and-false (eqb past 0))
-      where
-        and-false : (b : Bool) → (b && false) ≡ false
-        and-false true = refl
-        and-false false = refl
 
     pub elements-step : (eqb (bitOr past (getD xs i 0 - 65520)) 0 && elements sixteen (drop (i + 1) xs)) ≡ (eqb past 0 && elements sixteen (drop i xs))
     elements-step = tested (ltb (getD xs i 0) q) refl ∙ ap (λ (b : Bool). eqb past 0 && b) (sym (left h))

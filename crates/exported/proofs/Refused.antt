@@ -12,11 +12,11 @@ use Rattle.client.specs.declared.Stage.the-variants.{Sent, Answered}
 use Rattle.client.specs.declared.Client.{Client}
 use Rattle.client.specs.Client.{begun-with, first-refusal}
 use Rattle.client.proofs.Laws.{moved-number}
-use Rattle.service.specs.declared.Service.{Service}
 use Rattle.service.specs.Calls.{first-left, reply-left}
 use Rattle.capi.specs.Ends.{end-at, start-left, part-by}
-use Rattle.capi.specs.Lent.{Arrays, arrays, left, plan-left, open-left, close-left, finish-left, finish-totals}
+use Rattle.capi.specs.Lent.{Arrays, arrays, plan-left, open-left, close-left, finish-left, finish-totals}
 use Rattle.capi.proofs.Laws.{kept-refused}
+use Rattle.capi.proofs.Lent.{left-refused}
 use Rattle.exported.specs.Runs.{Call, plan-call, open-call, first-call, close-call, reply-call, finish-call, number-of, leaves}
 use Rattle.exported.specs.Refused.{Refused-unchanged}
 
@@ -29,11 +29,6 @@ no-part : (n : ℕ) (c : Client) (v : ℕ) → part-by n c v .number ≢ 0 → (
 unfolding part-by
 no-part zero c v h = absurd (h refl)
 no-part (suc n) c v h = (λ e. h e, refl, refl)
-
-left-refused : (n : ℕ) (s : Service) (a : Arrays) → n ≢ 0 → left n s a ≡ a
-unfolding left
-left-refused zero s a h = absurd (h refl)
-left-refused (suc n) s a h = refl
 
 arrays-same : (c : Call) (a : Arrays) → number-of c a ≢ 0 → leaves c a ≡ a
 unfolding number-of leaves plan-left open-left close-left finish-left first-left reply-left

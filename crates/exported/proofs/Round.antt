@@ -28,6 +28,7 @@ use Rattle.service.specs.View.{phase-of, view, Formed}
 use Rattle.service.specs.Calls.{after, opened, open-step}
 use Rattle.service.proofs.Same.{opened-view}
 use Rattle.finish.specs.Finish.{choice, finish-refusal, finish-answer, finish-step}
+use Rattle.finish.proofs.Answers.{answer-number}
 use Rattle.capi.specs.Lent.{Arrays, state, finish-totals}
 use Rattle.capi.proofs.Stands.{calls-stand}
 use Rattle.round.specs.Round as round
@@ -44,11 +45,6 @@ passes : (b : Bool) (n m : ℕ) → (unless b (suc n) then m) ≢ suc n → (b �
 unfolding unless _then_
 passes true n m h = (refl, refl)
 passes false n m h = absurd (h refl)
-
-answer-number : (n : ℕ) (s : Service) → finish-answer n s .number ≡ n
-unfolding finish-answer
-answer-number zero s = refl
-answer-number (suc n) s = refl
 
 record Finishes (s : Service) : Type 0 where
   replying : is-replying (view s .phase) ≡ true

@@ -2,6 +2,7 @@
 --   prepared-own, solved-same        the system by the plan and the set that it holds
 --   refused-right, given-right       the answer, refused and taken
 --   left-refused, left-taken         the answer with the state
+--   answer-number                    the number that it answers
 --   finish-refuses, finish-kept      a refused finish
 --   Ripe, ripe-refusal               the tests before 16 are passed
 --   totalled-right                   the totals of the code, where its set is that of the complete replies
@@ -62,6 +63,11 @@ left-taken s g h e = (λ i. record { number = e i .number; totals = e i .totals;
     left : (m : ℕ) → finish-answer m s .number ≡ 0 → record { number = finish-answer m s .number; totals = finish-answer m s .totals; service = finished (s .head) } ≡ finish-answer m s
     left zero z = refl
     left (suc m) z = absurd (omega arith)
+
+pub answer-number : (n : ℕ) (s : Service) → finish-answer n s .number ≡ n
+unfolding finish-answer
+answer-number zero s = refl
+answer-number (suc n) s = refl
 
 pub finish-refuses : (s : Service) {n : ℕ} → (n ≡ 0 → ⊥) → finish-refusal s ≡ n → finish-refused n s ≡ finish-step s
 unfolding finish-step finish-answer

@@ -10,13 +10,12 @@ use native.Mathlib.Nat.{zero-add}
 use native.Mathlib.Omega.{arith}
 use lib.Dec.{eqb, lit<}
 use lib.ListN.{length, getD}
-use Rattle.algebra.specs.Sums.{In}
 use Rattle.scheme.specs.Scheme.{span, sixteen, q, elements, Plan, users-in}
 use Rattle.scheme.specs.Totals.{all-of, explains-all}
 use Rattle.scheme.proofs.Lists.{map-span-at, span-in, in-span}
 use Rattle.scheme.proofs.Keys.{whole-list, elements-at, elements-map}
 use Rattle.scheme.proofs.Tests.{is-false, holds}
-use Rattle.scheme.proofs.Totals.{all-of-in, at-all-of, in-at}
+use Rattle.scheme.proofs.Totals.{all-of-in, at-all-of, all-of-same, in-at}
 use Rattle.plan.specs.Plan.{plan-of}
 use Rattle.solve.specs.Solve.{Points, Ready, unknown-at, solution-of, dot-of, fits-of, cell, block, unknowns-of, row-fits}
 use Rattle.solve.proofs.Filled.{padded-at, filled-at}
@@ -30,11 +29,6 @@ use Rattle.finish.proofs.Blocks.{same-test, users-few, enough-rows, row
 -- ---- tests of a list
 elements-every : (l : List ℕ) → ((k : ℕ) → getD l k 0 < q) → elements sixteen l ≡ true
 elements-every l h = ap (elements sixteen) (sym (whole-list l)) ∙ elements-map sixteen (λ k. getD l k 0) (span (length l) 0) (λ k m. h k)
-
-all-same : (s t : ℕ → Bool) (l : List ℕ) → ((k : ℕ) → In k l → s k ≡ t k) → all-of s l ≡ all-of t l
-all-same s t l e =
-    same-test _ _ (λ h. at-all-of t l (λ a i. sym (e _ (in-at l a i)) ∙ all-of-in s l h _ (in-at l a i)))
-    (λ h. at-all-of s l (λ a i. e _ (in-at l a i) ∙ all-of-in t l h _ (in-at l a i)))
 
 -- a test of every pair of two lists, by either first
 all-swap : (s : (a b : ℕ) → Bool) (ks bs : List ℕ) → all-of (λ a. all-of (s a) bs) ks ≡ all-of (λ b. all-of (λ a. s a b) ks) bs
@@ -117,9 +111,9 @@ module _ (s : System) (h : Prepared (s .plan) (s .users .set) s) where
         let ks : List ℕ = span (m - n) n in
         let bs : List ℕ = span (s .plan .blocks) 0 in
         ap (λ (k : ℕ). all-of (row-fits (s .users .list) cs g ws n (s .plan .blocks)) (span (k - n) n)) (h .listed .count-right)
-        ∙ all-same _ _ ks (λ a i. all-same _ _ bs (λ b j. tested a b (omega (arith, span-in (m - n) n a i)) (omega (arith, span-in (s .plan .blocks) 0 b j))))
+        ∙ all-of-same _ _ ks (λ a i. all-of-same _ _ bs (λ b j. tested a b (omega (arith, span-in (m - n) n a i)) (omega (arith, span-in (s .plan .blocks) 0 b j))))
         ∙ all-swap passes ks bs
-        ∙ all-same _ _ bs (λ b j.
+        ∙ all-of-same _ _ bs (λ b j.
         fits-same p r (h .good) (h .enough) y b (λ a l.
         subst (λ (z : ℕ). z < q) (cell-at a b l (omega (arith, span-in (s .plan .blocks) 0 b j))) (elements-at sixteen (lit< tt) g (a * 16 + b) ok)))
 

@@ -15,10 +15,9 @@ use lib.Seq.{sets}
 use Rattle.algebra.proofs.Residue.{mods}
 use Rattle.scheme.specs.Scheme.{span, keep, members, q, sixteen, sum}
 use Rattle.scheme.specs.Service.{element-of}
-use Rattle.scheme.proofs.Lists.{members-append}
+use Rattle.scheme.proofs.Lists.{span-start, span-next, span-end, members-append}
 use Rattle.scheme.proofs.Sums.{sum-small}
 use Rattle.solve.specs.Solve.{laws16, padded}
-use Rattle.solve.proofs.Turns.{span-start, span-next, span-end}
 use Rattle.solve.proofs.Filled.{padded-next}
 use Rattle.service.specs.View.{stored, slot}
 use Rattle.service.proofs.View.{look-at}

@@ -1,7 +1,6 @@
 -- Rows of numbers.
 --   Rising                                  numbers added to a row, one place a turn: the first i are new, the others old
 --   rising-none, rising-more, rising-done   before the first turn, one turn, after the last
---   none-below, zeros-at                    no number is below 0; a row of zeros
 --   row-before, row-at                      a row put into a list: what lies before it, and its numbers
 -- Assumes nothing.
 use mathlib.Core.Path.{_≡_, refl, ap, _∙_}
@@ -10,9 +9,10 @@ use mathlib.Core.List.{List, [], _∷_, map}
 use Prim.Native.Nat.{ℕ, zero, suc, _+_, _≤_, _<_}
 use native.Mathlib.Nat.{le-refl, eq-or-lt-of-le, add-zero, zero-add}
 use native.Mathlib.Omega.{arith}
-use lib.ListN.{length, getD, set, replicate, length-set}
+use lib.ListN.{length, getD, set, length-set}
 use lib.Seq.{sets, getD-set-same, getD-set-other}
 use Rattle.scheme.specs.Scheme.{span}
+use Rattle.scheme.proofs.Tests.{none-below}
 use Rattle.scheme.proofs.Lists.{map-span-length, map-span-at}
 use Rattle.keys.specs.Parts.{Raised}
 
@@ -20,9 +20,6 @@ pub record Rising (f : ℕ → ℕ) (most n : ℕ) (old new : List ℕ) (i : ℕ
   pub below : i ≤ n
   pub raised : Raised f most i old new
   pub rest : (j : ℕ) → i ≤ j → getD new j 0 ≡ getD old j 0
-
-pub none-below : (i : ℕ) → i < 0 → ⊥
-none-below i h = omega arith
 
 pub rising-none : (f : ℕ → ℕ) (most n : ℕ) (old : List ℕ) → Rising f most n old old 0
 rising-none f most n old =
@@ -52,11 +49,6 @@ module _ {f : ℕ → ℕ} {most n : ℕ} {old new : List ℕ} {i : ℕ} (g : Ri
   rising-done h =
       let e : i ≡ n = omega (arith, g .below) in
       rw (← e) (g .raised)
-
-pub zeros-at : (n i : ℕ) → _≡_ {A = ℕ} (getD (replicate n 0) i 0) 0
-zeros-at zero i = refl
-zeros-at (suc n) zero = refl
-zeros-at (suc n) (suc i) = zeros-at n i
 
 -- ---- a row put into a list
 sets-before : (vs l : List ℕ) (i j : ℕ) → j < i → _≡_ {A = ℕ} (getD (sets l i vs) j 0) (getD l j 0)

@@ -5,28 +5,18 @@
 -- Assumes nothing.
 use mathlib.Core.Path.{_≡_, refl, sym, ap, ap₂, _∙_}
 use mathlib.Core.Bool.{Bool, true, false}
-use mathlib.Core.List.{List, [], _∷_, _++_}
-use Prim.Native.Nat.{ℕ, zero, suc, _+_, _*_, _%_, _≤_, _<_}
-use native.Mathlib.Nat.{add-comm, add-zero, zero-add, add-suc, add-assoc, mul-zero, mul-add, mod-mod, add-mod, mod-add-mod, add-mod-mod, mod-eq-of-lt, mod-lt}
+use mathlib.Core.List.{List, [], _∷_}
+use Prim.Native.Nat.{ℕ, _+_, _*_, _%_, _≤_, _<_}
+use native.Mathlib.Nat.{add-comm, add-zero, zero-add, mul-zero, mul-add, mod-mod, add-mod, mod-add-mod, add-mod-mod}
 use native.Mathlib.Omega.{arith}
-use lib.Dec.{lit<}
 use lib.ListN.{getD}
 use Rattle.algebra.specs.Sums.{In}
 use Rattle.algebra.proofs.Residue.{mul-mod}
 use Rattle.scheme.specs.Scheme.{span, keep, members, q, sixteen, sum, row-value}
 use Rattle.scheme.proofs.Lists.{span-append, span-in, members-append}
-use Rattle.scheme.proofs.Sums.{sum-same}
+use Rattle.scheme.proofs.Sums.{sum-same, sum-shift, sum-small, sum-append}
+use Rattle.scheme.proofs.Modular.{sixteen-sums}
 use Rattle.keys.specs.Parts.{most-product, dot, Coefficients, weighed, Dotted, part-at}
-
-sum-small : (l : List ℕ) (f : ℕ → ℕ) → sum sixteen l f < q
-unfolding sum
-sum-small [] f = lit< tt
-sum-small (k ∷ l) f = mod-lt _ (lit< tt)
-
-sum-append : (l m : List ℕ) (f : ℕ → ℕ) → sum sixteen (l ++ m) f ≡ (sum sixteen l f + sum sixteen m f) % q
-unfolding sum
-sum-append [] m f = sym (ap (λ (n : ℕ). n % q) (zero-add _) ∙ mod-eq-of-lt (sum-small m f))
-sum-append (k ∷ l) m f = rw (sum-append l m f, add-mod-mod, mod-add-mod, add-assoc)
 
 -- summands count modulo q
 sum-reduced : (l : List ℕ) (f : ℕ → ℕ) → sum sixteen l (λ i. f i % q) ≡ sum sixteen l f
@@ -48,12 +38,6 @@ unfolding sum
 sum-zero [] f = refl
 sum-zero (k ∷ l) f = rw (sum-zero l f, mul-zero)
 
-sum-shift : (n s k : ℕ) (f : ℕ → ℕ) → sum sixteen (span n (s + k)) f ≡ sum sixteen (span n k) (λ i. f (s + i))
-unfolding sum
-sum-shift zero s k f = refl
-sum-shift (suc n) s k f =
-    ap (λ (x : ℕ). (f (s + k) + x) % q) (ap (λ (j : ℕ). sum sixteen (span n j) f) (sym (add-suc s k)) ∙ sum-shift n s (suc k) f)
-
 -- ---- those that pass a test: acc is the sum so far
 sum-one : (k : ℕ) (f : ℕ → ℕ) → sum sixteen (k ∷ []) f ≡ f k % q
 unfolding sum
@@ -62,7 +46,7 @@ sum-one k f = ap (λ (x : ℕ). x % q) (add-zero (f k))
 module _ (t : ℕ → Bool) (n : ℕ) (f : ℕ → ℕ) (acc : ℕ) (so-far : acc % q ≡ sum sixteen (members t n 1) f) where
   more : sum sixteen (members t (n + 1) 1) f ≡ (acc + sum sixteen (keep (t (n + 1)) (n + 1) []) f) % q
   more =
-      ap (λ (l : List ℕ). sum sixteen l f) (members-append t n 1 1) ∙ sum-append (members t n 1) _ f
+      ap (λ (l : List ℕ). sum sixteen l f) (members-append t n 1 1) ∙ sum-append sixteen 0 0 sixteen-sums (members t n 1) _ f
       ∙ rw (← so-far, mod-add-mod, add-comm 1 n)
 
   pub members-take : t (n + 1) ≡ true → (acc + f (n + 1)) % q ≡ sum sixteen (members t (n + 1) 1) f
@@ -80,7 +64,7 @@ dotted-none cs f = record { small = omega arith; right = refl }
 weighed-more : (cs : List ℕ) (i : ℕ) (f : ℕ → ℕ) → weighed cs (i + 1) f ≡ (weighed cs i f + getD cs i 0 * f i) % q
 unfolding weighed
 weighed-more cs i f =
-    ap (λ (l : List ℕ). sum sixteen l (λ j. getD cs j 0 * f j)) (span-append i 1 0) ∙ sum-append (span i 0) _ _
+    ap (λ (l : List ℕ). sum sixteen l (λ j. getD cs j 0 * f j)) (span-append i 1 0) ∙ sum-append sixteen 0 0 sixteen-sums (span i 0) _ _
     ∙ rw (sum-one, add-mod-mod, zero-add i)
 
 pub dotted-more : {cs : List ℕ} {i : ℕ} {f : ℕ → ℕ} {total x : ℕ} → Dotted cs i f total → (x ≡ getD cs i 0 * f i) × (x ≤ most-product) → Dotted cs (i + 1) f (total + x)
@@ -102,7 +86,7 @@ dotted-part cs xs start from n b total e d = d .right ∙ weighed-same cs n (λ 
 
 pub weighed-small : (cs : List ℕ) (n : ℕ) (f : ℕ → ℕ) → weighed cs n f < q
 unfolding weighed
-weighed-small cs n f = sum-small (span n 0) (λ i. getD cs i 0 * f i)
+weighed-small cs n f = sum-small sixteen 0 0 sixteen-sums (span n 0) (λ i. getD cs i 0 * f i)
 
 -- ---- columns
 pub weighed-dot : {k s n : ℕ} {cs : List ℕ} → Coefficients k s n cs → (f : ℕ → ℕ) → weighed cs n f ≡ dot k s n f
@@ -151,5 +135,5 @@ pub dot-join : (k n m : ℕ) (f : ℕ → ℕ) → row-value sixteen (n + m) k f
 unfolding dot row-value
 dot-join k n m f =
     let g : ℕ → ℕ = λ j. sixteen .coefficient k j * f j in
-    ap (λ (l : List ℕ). sum sixteen l g) (span-append n m 1) ∙ sum-append (span n 1) (span m (1 + n)) g
-    ∙ ap₂ (λ (x y : ℕ). (x + y) % q) (sum-shift n 1 0 g) (ap (λ (s : ℕ). sum sixteen (span m s) g) (sym (add-zero (1 + n))) ∙ sum-shift m (1 + n) 0 g)
+    ap (λ (l : List ℕ). sum sixteen l g) (span-append n m 1) ∙ sum-append sixteen 0 0 sixteen-sums (span n 1) (span m (1 + n)) g
+    ∙ ap₂ (λ (x y : ℕ). (x + y) % q) (sum-shift sixteen n 1 0 g) (ap (λ (s : ℕ). sum sixteen (span m s) g) (sym (add-zero (1 + n))) ∙ sum-shift sixteen m (1 + n) 0 g)

@@ -2,7 +2,7 @@
 --   ones-same                                the machine's count of ones is the definition's, of a number of k bits
 --   Counting, counting-start, counting-yes, counting-no, counting-end   a loop that counts the numbers that pass a test
 --   sets-le, places-le, masks-le, shares-le, noise-le   bounds, of a good plan
---   usable-small, usable-le, with-usable     a usable set is below 2 ^ K, and at most 256
+--   usable-le, with-usable                   a usable set is at most 256
 --   list-parts, key-parts                    the lengths of the random list and of a key
 --   masks-inside, reply-inside               the masks and a reply lie inside the key
 -- Assumes nothing.
@@ -14,10 +14,10 @@ use native.Mathlib.Omega.{arith}
 use lib.Count as machine
 use lib.ListN.{length}
 use lib.Pow.{pow-mono}
-use borrow.Author.Tests.{ltb-true}
 use Rattle.scheme.specs.Scheme.{Plan, items, places, rank, ones, usable, usable-with, usable-sets, sets-with, list-length, key-length, reply-start}
 use Rattle.scheme.specs.Good.{Good}
 use Rattle.scheme.proofs.Tests.{both}
+use Rattle.scheme.proofs.Sets.{usable-below}
 use Rattle.scheme.proofs.Lists.{rank-zero, rank-step, rank-lt}
 
 pub ones-same : (k v : ℕ) → v < 2 ^ k → machine.ones v ≡ ones k v
@@ -67,12 +67,8 @@ module _ {p : Plan} (g : Good p) where
   noise-le {n} h = mul-le-mul {m₂ = 6} (shares-le h) (omega arith)
 
 -- ---- usable sets
-pub usable-small : (p : Plan) (v : ℕ) → usable p v ≡ true → v < 2 ^ p .users
-unfolding usable
-usable-small p v e = ltb-true _ _ (both _ _ e .0)
-
 pub usable-le : (p : Plan) (v : ℕ) → Good p → usable p v ≡ true → v ≤ 256
-usable-le p v g e = omega (arith, usable-small p v e, sets-le p g)
+usable-le p v g e = omega (arith, usable-below p v e, sets-le p g)
 
 pub with-usable : (p : Plan) (k v : ℕ) → usable-with p k v ≡ true → usable p v ≡ true
 unfolding usable-with
@@ -94,5 +90,5 @@ masks-inside p k = omega arith
 pub reply-inside : (p : Plan) (k v : ℕ) → usable-with p k v ≡ true → reply-start p k v + p .blocks ≤ key-length p k
 unfolding key-length reply-start sets-with
 reply-inside p k v e =
-    let l = rank-lt (usable-with p k) (2 ^ p .users) v (usable-small p v (with-usable p k v e)) e in
+    let l = rank-lt (usable-with p k) (2 ^ p .users) v (usable-below p v (with-usable p k v e)) e in
     omega (arith, mul-le-mul-right (p .blocks) l, suc-mul (rank (usable-with p k) v) (p .blocks))

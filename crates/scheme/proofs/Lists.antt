@@ -1,10 +1,12 @@
 -- Laws of span, members, rank and rows.
 --   span-append, span-in, in-span, span-once, span-length       the n numbers from k on
+--   span-start, span-next, span-end                             those from i on, of n: all, one and the others, none
 --   map-same, map-span-length, map-span-at                      maps over them
 --   members-append, members-in, in-members, members-once, members-fewer, members-le     those that pass a test
 --   rank-zero, rank-step, rank-at, rank-lt                      how many below v pass
 --   rows-same, rows-append, rows-length, rows-at                        one list for each number
 --   sets-append, sets-more, sets-whole                          lists written one behind the other; one word more of a map; all of a list
+--   zeros-at                                                    a list of zeros
 --   high, low, digits-lt                                        a number of two digits
 -- Assumes nothing.
 use mathlib.Core.Path.{_≡_, refl, sym, ap, ap₂, _∙_}
@@ -13,9 +15,10 @@ use mathlib.Core.Bool.{Bool, true, false, _&&_, cond}
 use mathlib.Core.List.{List, [], _∷_, _++_, map, map-append, append-assoc, append-nil}
 use Prim.Native.Nat.{ℕ, zero, suc, _+_, _*_, _-_, _/_, _%_, _≤_, _<_}
 use native.Mathlib.Nat.{add-zero, zero-add, add-suc, suc-add, suc-mul, zero-mul, mul-le-mul-right, mul-add-div-right, mul-add-mod-self-right, mod-eq-of-lt, div-eq-of-lt}
+use native.Mathlib.Numerals.{add-one}
 use native.Mathlib.Decide.{ℕ-discrete}
 use native.Mathlib.Omega.{arith}
-use lib.ListN.{length, getD, take, drop, set, length-append, drop-of-length-le}
+use lib.ListN.{length, getD, take, drop, set, replicate, length-append, drop-of-length-le}
 use lib.Seq.{sets, sets-eq, take-at, drop-at, getD-at}
 use Rattle.algebra.specs.Sums.{In, Distinct}
 use Rattle.scheme.specs.Scheme.{span, keep, members, rank, rows}
@@ -48,6 +51,15 @@ span-once (suc n) k = (λ h. let s = span-in n (suc k) k h in omega arith, span-
 pub span-length : (n k : ℕ) → length (span n k) ≡ n
 span-length zero k = refl
 span-length (suc n) k = ap suc (span-length n (suc k))
+
+pub span-start : (n : ℕ) → span (n - 0) 0 ≡ span n 0
+span-start n = let e : n - 0 ≡ n = omega arith in rw e
+
+pub span-next : (n i : ℕ) → i < n → span (n - i) i ≡ i ∷ span (n - (i + 1)) (i + 1)
+span-next n i h = let e : n - i ≡ suc (n - (i + 1)) = omega arith in rw (e, add-one)
+
+pub span-end : (n i : ℕ) → n ≤ i → span (n - i) i ≡ []
+span-end n i h = let e : n - i ≡ 0 = omega arith in rw e
 
 -- ---- maps
 pub map-same : {A : Type 0} (f g : ℕ → A) (l : List ℕ) → ((k : ℕ) → In k l → f k ≡ g k) → map f l ≡ map g l
@@ -201,6 +213,11 @@ sets-more o at i f =
 pub sets-whole : (o ws : List ℕ) → length ws ≡ length o → sets o 0 ws ≡ ws
 sets-whole o ws e =
     sets-eq ws o 0 (omega arith) ∙ ap (λ (l : List ℕ). ws ++ l) (drop-of-length-le o {i = 0 + length ws} (omega arith)) ∙ append-nil ws
+
+pub zeros-at : (n i : ℕ) → _≡_ {A = ℕ} (getD (replicate n 0) i 0) 0
+zeros-at zero i = refl
+zeros-at (suc n) zero = refl
+zeros-at (suc n) (suc i) = zeros-at n i
 
 -- ---- a number a * n + b with b below n
 pub high : (a b n : ℕ) → b < n → (a * n + b) / n ≡ a

@@ -2,19 +2,21 @@
 --   el-same                     elements with the same residue are the same
 --   sum-el, sum-small           a sum
 --   sum-same                    the same terms
+--   sum-append, sum-shift       over two lists; over numbers that start further on
 --   coefficient-el              a coefficient
 --   row-value-el, row-value-small    a row times its columns
 -- Assumes nothing.
 use mathlib.Core.Path.{_≡_, refl, sym, ap, ap₂, _∙_}
 use mathlib.Core.Logic.{inl, inr}
-use mathlib.Core.List.{List, [], _∷_}
-use Prim.Native.Nat.{ℕ, _≤_, _<_}
+use mathlib.Core.List.{List, [], _∷_, _++_}
+use Prim.Native.Nat.{ℕ, zero, suc, _+_, _≤_, _<_}
+use native.Mathlib.Nat.{add-suc}
 use native.Mathlib.Omega.{arith}
 use Rattle.algebra.specs.Field.{Field}
 use Rattle.algebra.specs.Sums.{In, sum as field-sum}
 use Rattle.algebra.specs.Cauchy.{value}
 use Rattle.algebra.proofs.Field.{mul-cancel}
-use Rattle.algebra.proofs.Sums.{sum-same as field-sum-same}
+use Rattle.algebra.proofs.Sums.{sum-same as field-sum-same, sum-append as field-sum-append}
 use Rattle.scheme.specs.Scheme.{span, Arithmetic, sum, row-value}
 use Rattle.scheme.specs.Laws.{Laws}
 use Rattle.scheme.proofs.Lists.{span-in}
@@ -23,6 +25,11 @@ pub sum-same : (A : Arithmetic) (l : List ℕ) (f g : ℕ → ℕ) → ((k : ℕ
 unfolding sum
 sum-same A [] f g h = refl
 sum-same A (k ∷ l) f g h = ap₂ (A .add) (h k (inl refl)) (sum-same A l f g (λ i m. h i (inr m)))
+
+pub sum-shift : (A : Arithmetic) (n s k : ℕ) (f : ℕ → ℕ) → sum A (span n (s + k)) f ≡ sum A (span n k) (λ i. f (s + i))
+unfolding sum
+sum-shift A zero s k f = refl
+sum-shift A (suc n) s k f = ap (A .add (f (s + k))) (ap (λ (j : ℕ). sum A (span n j) f) (sym (add-suc s k)) ∙ sum-shift A n s (suc k) f)
 
 module _ (A : Arithmetic) (n m : ℕ) (L : Laws A n m) where
   open Laws L using (K, el, val, row, col)
@@ -45,6 +52,12 @@ module _ (A : Arithmetic) (n m : ℕ) (L : Laws A n m) where
   unfolding sum
   sum-small [] f = zero-small
   sum-small (k ∷ l) f = L .add-small (f k) (sum A l f)
+
+  pub sum-append : (l r : List ℕ) (f : ℕ → ℕ) → sum A (l ++ r) f ≡ A .add (sum A l f) (sum A r f)
+  sum-append l r f =
+      el-same (sum-small (l ++ r) f) (L .add-small (sum A l f) (sum A r f))
+      (sum-el (l ++ r) f ∙ field-sum-append K l r (λ k. el (f k))
+      ∙ sym (L .el-add (sum A l f) (sum A r f) ∙ ap₂ _⊕_ (sum-el l f) (sum-el r f)))
 
   pub coefficient-el : (k j : ℕ) → (1 ≤ k) × (k ≤ n) → (1 ≤ j) × (j ≤ m) → el (A .coefficient k j) ≡ inv (row k ⊕ col j)
   coefficient-el k j h l =

@@ -1,5 +1,6 @@
 -- Demand 2 of one round: U replies settle the sums and the noise, and with them the total.
---   all-of-in, at-all-of               a test of each number of a list
+--   all-of-in, at-all-of, all-of-same  a test of each number of a list
+--   all-of-pass, all-of-stop, all-of-end     of the numbers from i on: i passes, i does not, none is left
 --   in-at, at-apart                    the number at a place
 --   Enough, enough                     rows of at least U users
 --   Explained, explained, explained-back     what `explains` says, for the first rows of a list
@@ -30,7 +31,7 @@ use Rattle.scheme.specs.Promise.{Table, list-good}
 use Rattle.scheme.specs.Totals.{all-of, explains, explains-all, total-of, totals, Follows, One-choice, Totals-right, Some-choice, Rules-explain}
 use Rattle.scheme.specs.Laws.{Laws}
 use Rattle.scheme.proofs.Tests.{both, joined}
-use Rattle.scheme.proofs.Lists.{span-in, in-span, span-once, span-length, map-same, map-span-length, map-span-at, members-once}
+use Rattle.scheme.proofs.Lists.{span-in, in-span, span-once, span-length, span-next, span-end, map-same, map-span-length, map-span-at, members-once}
 use Rattle.scheme.proofs.Sums.{el-same, zero-small, sum-same, sum-el, sum-small, row-value-el, row-value-small}
 use Rattle.scheme.proofs.Sets.{users-in-in, users-in-size}
 use Rattle.scheme.proofs.Keys.{each-at, key-mask, key-reply, elements-at, elements-map}
@@ -46,6 +47,24 @@ pub at-all-of : (t : ℕ → Bool) (l : List ℕ) → ((a : ℕ) → a < length 
 unfolding all-of
 at-all-of t [] h = refl
 at-all-of t (k ∷ l) h = joined (h 0 (omega arith)) (at-all-of t l (λ a i. h (suc a) (omega arith)))
+
+pub all-of-same : (s t : ℕ → Bool) (l : List ℕ) → ((k : ℕ) → In k l → s k ≡ t k) → all-of s l ≡ all-of t l
+unfolding all-of
+all-of-same s t [] h = refl
+all-of-same s t (k ∷ l) h = ap₂ (λ (a b : Bool). a && b) (h k (inl refl)) (all-of-same s t l (λ i m. h i (inr m)))
+
+module _ (t : ℕ → Bool) (n i : ℕ) where
+  pub all-of-pass : i < n → t i ≡ true → all-of t (span (n - (i + 1)) (i + 1)) ≡ all-of t (span (n - i) i)
+  unfolding all-of
+  all-of-pass h e = rw (span-next n i h, e)
+
+  pub all-of-stop : i < n → t i ≡ false → all-of t (span (n - i) i) ≡ false
+  unfolding all-of
+  all-of-stop h e = rw (span-next n i h, e)
+
+  pub all-of-end : n ≤ i → all-of t (span (n - i) i) ≡ true
+  unfolding all-of
+  all-of-end h = rw (span-end n i h)
 
 pub in-at : (l : List ℕ) (a : ℕ) → a < length l → In (getD l a 0) l
 in-at [] a i = absurd (omega arith)

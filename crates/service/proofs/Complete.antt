@@ -1,40 +1,23 @@
--- Who is complete: laws of `all-of` and `set-of`, and one turn of each loop.
---   all-of-next, all-of-end, all-of-same      a test of each of n numbers
+-- Who is complete: a row that is held, and one turn of the loop over the users.
 --   look-row                                  a row that is held, as the view sees it
 --   Gathering, gathering-start ..             the loop over the users
 -- Assumes nothing.
-use mathlib.Core.Path.{_≡_, refl, sym, ap, ap₂, _∙_}
-use mathlib.Core.Bool.{Bool, true, false, _&&_, cond}
-use mathlib.Core.List.{List, [], _∷_}
-use mathlib.Core.Logic.{inl, inr}
+use mathlib.Core.Path.{_≡_, refl, sym, ap, _∙_}
+use mathlib.Core.Bool.{Bool, true, false, cond}
+use mathlib.Core.List.{List}
 use Prim.Native.Nat.{ℕ, suc, _+_, _*_, _-_, _^_, _≤_, _<_}
 use native.Mathlib.Nat.{add-zero, zero-add, sub-zero, pow-suc, suc-mul, mul-le-mul-right}
 use native.Mathlib.Numerals.{add-one}
 use native.Mathlib.Omega.{arith}
 use lib.Pow.{pow-mono}
 use borrow.Author.Tests.{le-leb, lt-ltb}
-use Rattle.algebra.specs.Sums.{In}
 use Rattle.scheme.specs.Scheme.{span}
 use Rattle.scheme.specs.Totals.{all-of}
 use Rattle.scheme.specs.Service.{is-held, set-of}
 use Rattle.scheme.proofs.Lists.{span-in}
+use Rattle.scheme.proofs.Totals.{all-of-same}
 use Rattle.service.specs.View.{look, row-held}
 use Rattle.service.proofs.View.{stored-held}
-
--- ---- a test of each
-module _ (t : ℕ → Bool) (n i : ℕ) where
-  pub all-of-next : i < n → all-of t (span (n - i) i) ≡ (t i && all-of t (span (n - (i + 1)) (i + 1)))
-  unfolding all-of
-  all-of-next h = let e : n - i ≡ suc (n - (i + 1)) = omega arith in rw (e, add-one i)
-
-  pub all-of-end : n ≤ i → all-of t (span (n - i) i) ≡ true
-  unfolding all-of
-  all-of-end h = let e : n - i ≡ 0 = omega arith in rw e
-
-pub all-of-same : (s t : ℕ → Bool) (l : List ℕ) → ((k : ℕ) → In k l → s k ≡ t k) → all-of s l ≡ all-of t l
-unfolding all-of
-all-of-same s t [] h = refl
-all-of-same s t (k ∷ l) h = ap₂ (λ (a b : Bool). a && b) (h k (inl refl)) (all-of-same s t l (λ i m. h i (inr m)))
 
 -- ---- a row, as the view sees it
 pub look-row : (w n k : ℕ) (xs : List ℕ) → k < 8 → n ≤ w → row-held xs (k * w) n ≡ all-of (λ i. is-held (look w xs (k + 1) i)) (span n 0)

@@ -17,8 +17,8 @@ use lib.ListN.{length, getD, set, replicate}
 use lib.Seq.{getD-set-same, getD-set-other}
 use borrow.Author.Tests.{le-leb, lt-ltb, eq-eqb, ne-eqb, eqb-true, eqb-false, leb-true, ltb-true}
 use Rattle.scheme.specs.Service.{is-held, with-element}
-use Rattle.scheme.proofs.Tests.{both}
-use Rattle.scheme.proofs.Lists.{high, low}
+use Rattle.scheme.proofs.Tests.{both, not-not}
+use Rattle.scheme.proofs.Lists.{zeros-at, high, low}
 use Rattle.service.specs.View.{stored, slot, look}
 
 by-test : {P : Type 0} (b : Bool) → (b ≡ true → P) → (b ≡ false → P) → P
@@ -30,11 +30,6 @@ unfolding is-held stored
 stored-held zero = refl
 stored-held (suc n) = simp (ne-eqb (suc n) 0 (λ z. omega arith))
 
-nothing-at : (n i : ℕ) → _≡_ {A = ℕ} (getD (replicate n 0) i 0) 0
-nothing-at zero i = refl
-nothing-at (suc n) zero = refl
-nothing-at (suc n) (suc i) = nothing-at n i
-
 abbrev inside : (w k i : ℕ) → Bool
 inside w k i = leb 1 k && (leb k 8 && ltb i w)
 
@@ -44,15 +39,11 @@ module _ (w : ℕ) (xs : List ℕ) (k i : ℕ) where
   look-at a b c = simp (le-leb _ _ a, le-leb _ _ b, lt-ltb _ _ c)
 
   pub look-free : 1 ≤ k → k ≤ 8 → i < w → not (is-held (look w xs k i)) ≡ eqb (getD xs (slot w k i) 0) 0
-  look-free a b c = ap (λ (o : Option ℕ). not (is-held o)) (look-at a b c) ∙ ap not (stored-held (getD xs (slot w k i) 0)) ∙ twice (eqb (getD xs (slot w k i) 0) 0)
-    where
-      twice : (b : Bool) → not (not b) ≡ b
-      twice true = refl
-      twice false = refl
+  look-free a b c = ap (λ (o : Option ℕ). not (is-held o)) (look-at a b c) ∙ ap not (stored-held (getD xs (slot w k i) 0)) ∙ not-not (eqb (getD xs (slot w k i) 0) 0)
 
 pub look-nothing : (w n k i : ℕ) → look w (replicate n 0) k i ≡ none
 unfolding look stored
-look-nothing w n k i = rw (nothing-at n (slot w k i)) (either (inside w k i))
+look-nothing w n k i = rw (zeros-at n (slot w k i)) (either (inside w k i))
   where
     either : (b : Bool) → cond {A = Option ℕ} b none none ≡ none
     either true = refl

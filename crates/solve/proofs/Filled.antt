@@ -3,17 +3,17 @@
 --   span-more                                            one entry more of a rule
 --   Filling, filling-start, filling-more, filling-end    a loop that writes eight entries in order
 --   filled-at, filled-behind                             the entry at a position; 0 behind n
---   zeros-at, padded-behind                              a list of zeros; behind the list
+--   padded-behind                                        behind the list
 -- Assumes nothing.
 use mathlib.Core.Path.{_≡_, refl, sym, ap, ap₂, _∙_}
 use mathlib.Core.List.{List, [], _∷_, _++_, map, map-append, append-assoc}
-use Prim.Native.Nat.{ℕ, zero, suc, _+_, _-_, _≤_, _<_}
+use Prim.Native.Nat.{ℕ, suc, _+_, _-_, _≤_, _<_}
 use native.Mathlib.Nat.{zero-add}
 use native.Mathlib.Omega.{arith}
 use lib.ListN.{length, getD, take, set, replicate, length-append, length-replicate, List·getD-append}
 use lib.Seq.{getD-append-add, set-append-seam, take-append-seam}
 use Rattle.scheme.specs.Scheme.{span}
-use Rattle.scheme.proofs.Lists.{span-append, map-span-length, map-span-at}
+use Rattle.scheme.proofs.Lists.{span-append, map-span-length, map-span-at, zeros-at}
 use Rattle.solve.specs.Solve.{padded, filled}
 
 module _ (n : ℕ) (l : List ℕ) where
@@ -64,11 +64,6 @@ module _ (f : ℕ → ℕ) (n : ℕ) where
 pub filled-at : (f : ℕ → ℕ) (n i : ℕ) → i < n → getD (filled n f) i 0 ≡ f i
 unfolding filled
 filled-at f n i h = padded-at 8 (map f (span n 0)) i (omega (arith, map-span-length f n 0)) ∙ map-span-at f n 0 i h ∙ ap f (zero-add i)
-
-pub zeros-at : (m i : ℕ) → _≡_ {A = ℕ} (getD (replicate m 0) i 0) 0
-zeros-at zero i = refl
-zeros-at (suc m) zero = refl
-zeros-at (suc m) (suc i) = zeros-at m i
 
 pub padded-behind : (n : ℕ) (l : List ℕ) (i : ℕ) → length l ≤ i → getD (padded n l) i 0 ≡ 0
 unfolding padded

@@ -13,9 +13,10 @@ use native.Mathlib.Omega.{arith}
 use lib.ListN.{length, getD, set, replicate, length-set, length-replicate}
 use lib.Seq.{getD-set-same, getD-set-other, ext-getD}
 use Rattle.scheme.specs.Scheme.{span}
-use Rattle.scheme.proofs.Lists.{map-span-length, map-span-at}
+use Rattle.scheme.proofs.Tests.{none-below}
+use Rattle.scheme.proofs.Lists.{map-span-length, map-span-at, zeros-at}
 use Rattle.solve.specs.Solve.{unknown-at, cell, grid, block, Put, unknowns-of}
-use Rattle.solve.proofs.Filled.{padded-at, padded-length, padded-behind, zeros-at}
+use Rattle.solve.proofs.Filled.{padded-at, padded-length, padded-behind}
 
 -- ---- b of n numbers are written from `at` on
 pub record Putting (f : ℕ → ℕ) (n at : ℕ) (old : List ℕ) (b : ℕ) (new : List ℕ) : Type 0 where
@@ -26,11 +27,8 @@ module _ (f : ℕ → ℕ) (n at : ℕ) (old : List ℕ) where
   pub putting-start : Putting f n at old 0 old
   putting-start = record {
     inside = omega arith;
-    put = record { long = refl; each = λ b h. absurd (none b h); kept = λ i h. refl; rest = λ i h. refl };
+    put = record { long = refl; each = λ b h. absurd (none-below b h); kept = λ i h. refl; rest = λ i h. refl };
   }
-    where
-      none : (b : ℕ) → b < 0 → ⊥
-      none b h = omega arith
 
   pub putting-more : (b x : ℕ) (new : List ℕ) → b < n → at + n ≤ length old → x ≡ f b → Putting f n at old b new → Putting f n at old (b + 1) (set new (at + b) x)
   putting-more b x new h l e s = record {
@@ -69,10 +67,13 @@ pub record Rows (f : (a b : ℕ) → ℕ) (m i at : ℕ) (g : List ℕ) : Type 0
 
 module _ (f : (a b : ℕ) → ℕ) (m : ℕ) where
   pub rows-start : Rows f m 0 0 (replicate 128 0)
-  rows-start = record { place = refl; long = length-replicate {A = ℕ} 128 0; each = λ a b h. absurd (none a h); behind = λ k h. zeros-at 128 k; small = λ s h l k. rw (zeros-at 128 k) h }
-    where
-      none : (a : ℕ) → a < 0 → ⊥
-      none a h = omega arith
+  rows-start = record {
+    place = refl;
+    long = length-replicate {A = ℕ} 128 0;
+    each = λ a b h. absurd (none-below a h);
+    behind = λ k h. zeros-at 128 k;
+    small = λ s h l k. rw (zeros-at 128 k) h;
+  }
 
   pub rows-more : (h : ℕ → ℕ) (i at : ℕ) (g new : List ℕ) → m ≤ 16 → Rows f m i at g → ((b : ℕ) → b < m → h b ≡ f i b) → Put h m at g new
       → Rows f m (i + 1) (at + 16) new

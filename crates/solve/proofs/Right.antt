@@ -5,7 +5,7 @@
 use mathlib.Core.Path.{_≡_, refl, sym, ap, ap₂, _∙_}
 use mathlib.Core.Logic.{_≢_}
 use mathlib.Core.List.{List}
-use Prim.Native.Nat.{ℕ, zero, suc, _+_, _-_, _%_, _≤_, _<_}
+use Prim.Native.Nat.{ℕ, _+_, _-_, _%_, _≤_, _<_}
 use native.Mathlib.Nat.{mod-lt, mod-eq-of-lt}
 use native.Mathlib.Omega.{arith}
 use lib.Dec.{lit<}
@@ -15,10 +15,10 @@ use Rattle.algebra.specs.Sums.{In}
 use Rattle.algebra.specs.Cauchy.{System, solution}
 use Rattle.algebra.proofs.Sums.{sum-same as field-sum-same}
 use Rattle.algebra.proofs.Cauchy.{solves}
-use Rattle.scheme.specs.Scheme.{span, q, Arithmetic, sixteen, sum, row-value}
+use Rattle.scheme.specs.Scheme.{span, q, sixteen, row-value}
 use Rattle.scheme.specs.Laws.{Laws}
 use Rattle.scheme.proofs.Lists.{in-span, span-once}
-use Rattle.scheme.proofs.Sums.{sum-same, el-same}
+use Rattle.scheme.proofs.Sums.{sum-same, sum-shift, el-same}
 use Rattle.solve.specs.Solve.{laws16, point, Points, Square, unknown-at, solution-of, dot-of}
 use Rattle.solve.proofs.Numbers.{el-plus, el-rest}
 use Rattle.solve.proofs.Filled.{filled-at}
@@ -71,17 +71,12 @@ module _ (rs cs vs : List ℕ) (n : ℕ) where
   solve-right square a h small = solve-mod square a h ∙ mod-eq-of-lt small
 
 -- ---- IN THE WORDS OF THE SCHEME
-shift : (A : Arithmetic) (n k : ℕ) (f : ℕ → ℕ) → sum A (span n (suc k)) f ≡ sum A (span n k) (λ i. f (suc i))
-unfolding sum
-shift A zero k f = refl
-shift A (suc n) k f = ap (A .add (f (suc k))) (shift A n (suc k) f)
-
 pub dot-row : (x : ℕ) (cs vs : List ℕ) (n : ℕ) → ((i : ℕ) → i < n → getD cs i 0 ≡ i + 1)
     → dot-of x cs vs n ≡ row-value sixteen n x (λ j. getD vs (j - 1) 0)
 unfolding dot-of row-value
 dot-row x cs vs n columns =
     sum-same sixteen (span n 0) _ _ (λ i m.
-    let e : getD cs i 0 ≡ suc i = omega (arith, columns i (below n i m)) in
-    let f : i ≡ suc i - 1 = omega arith in
+    let e : getD cs i 0 ≡ 1 + i = omega (arith, columns i (below n i m)) in
+    let f : i ≡ 1 + i - 1 = omega arith in
     ap₂ (λ (c k : ℕ). sixteen .multiply (sixteen .coefficient x c) (getD vs k 0)) e f)
-    ∙ sym (shift sixteen n 0 (λ j. sixteen .multiply (sixteen .coefficient x j) (getD vs (j - 1) 0)))
+    ∙ sym (sum-shift sixteen n 1 0 (λ j. sixteen .multiply (sixteen .coefficient x j) (getD vs (j - 1) 0)))

@@ -1,12 +1,10 @@
 -- One turn of each loop.
---   span-start, span-next, span-end                           what is left of the positions
 --   Weighing, weighing-start, weighing-more, weighing-end     a weight, factor by factor
 --   sum-two, sum-both, sum-short                              sums that are reduced at their end; summands that are 0
---   fits-next, fits-stop, fits-end                            a test of each further row
 -- Assumes nothing.
 use mathlib.Core.Path.{_≡_, refl, sym, ap, ap₂, _∙_}
-use mathlib.Core.Bool.{Bool, true, false, cond}
-use mathlib.Core.List.{List, [], _∷_, _++_}
+use mathlib.Core.Bool.{cond}
+use mathlib.Core.List.{List, _++_}
 use Prim.Native.Nat.{ℕ, zero, suc, _+_, _*_, _-_, _%_, _≤_, _<_}
 use native.Mathlib.Nat.{add-zero, add-mod, mod-lt}
 use native.Mathlib.Numerals.{add-one}
@@ -18,24 +16,13 @@ use lib.ListN.{getD}
 use Rattle.algebra.specs.Field.{Field, sub}
 use Rattle.algebra.specs.Cauchy.{gap, weight}
 use Rattle.algebra.proofs.Field.{expand, one-mul}
-use Rattle.algebra.proofs.Sums.{sum-append as field-sum-append}
 use Rattle.algebra.proofs.Residue.{mods}
 use Rattle.scheme.specs.Scheme.{span, q, sixteen, sum}
-use Rattle.scheme.specs.Totals.{all-of}
 use Rattle.scheme.specs.Laws.{Laws}
-use Rattle.scheme.proofs.Sums.{el-same, sum-el, sum-small}
+use Rattle.scheme.proofs.Lists.{span-start, span-next, span-end}
+use Rattle.scheme.proofs.Sums.{sum-append}
 use Rattle.solve.specs.Solve.{laws16, point, Points, gap-of, weight-at}
-use Rattle.solve.proofs.Numbers.{el-one, el-plus, el-rest, el-times, val-of, gap-el}
-
-pub span-next : (n i : ℕ) → i < n → span (n - i) i ≡ i ∷ span (n - (i + 1)) (i + 1)
-span-next n i h = let e : n - i ≡ suc (n - (i + 1)) = omega arith in rw (e, add-one)
-
-pub span-end : (n i : ℕ) → n ≤ i → span (n - i) i ≡ []
-span-end n i h = let e : n - i ≡ 0 = omega arith in rw e
-
-pub span-start : (n : ℕ) → span (n - 0) 0 ≡ span n 0
-span-start n = let e : n - 0 ≡ n = omega arith in rw e
-
+use Rattle.solve.proofs.Numbers.{el-one, el-plus, el-times, val-of, gap-el}
 -- ---- WEIGHTS
 open Laws laws16 using (K, el, val)
 open Field K using (F, 𝟙, add as _⊕_, mul as _⊗_, inv)
@@ -103,10 +90,7 @@ module _ (f : ℕ → ℕ) where
   -- the sums over two lists
   pub sum-both : (l m : List ℕ) (s t : ℕ) → s % q ≡ sum sixteen l f → t % q ≡ sum sixteen m f → (s + t) % q ≡ sum sixteen (l ++ m) f
   sum-both l m s t a b =
-      el-same sixteen 8 7 laws16 (mod-lt _ (lit< tt)) (sum-small sixteen 8 7 laws16 (l ++ m) f)
-      (el-rest (s + t) ∙ el-plus s t
-      ∙ ap₂ _⊕_ (sym (el-rest s) ∙ ap el a ∙ sum-el sixteen 8 7 laws16 l f) (sym (el-rest t) ∙ ap el b ∙ sum-el sixteen 8 7 laws16 m f)
-      ∙ sym (field-sum-append K l m (λ k. el (f k))) ∙ sym (sum-el sixteen 8 7 laws16 (l ++ m) f))
+      add-mod s t q ∙ ap₂ (λ (x y : ℕ). (x + y) % q) a b ∙ sym (sum-append sixteen 8 7 laws16 l m f)
 
   -- summands that are 0 do not count
   sum-none : (n k : ℕ) → ((i : ℕ) → k ≤ i → f i ≡ 0) → sum sixteen (span n k) f ≡ 0
@@ -119,17 +103,3 @@ module _ (f : ℕ → ℕ) where
   sum-short m zero k h z = sum-none m k (λ i l. z i (omega arith))
   sum-short zero (suc n) k h z = absurd (omega arith)
   sum-short (suc m) (suc n) k h z = ap (λ (x : ℕ). (f k + x) % q) (sum-short m n (suc k) (omega arith) (λ i l. z i (omega arith)))
-
--- ---- TESTS
-module _ (t : ℕ → Bool) (m i : ℕ) where
-  pub fits-next : i < m → t i ≡ true → all-of t (span (m - (i + 1)) (i + 1)) ≡ all-of t (span (m - i) i)
-  unfolding all-of
-  fits-next h e = rw (span-next m i h, e)
-
-  pub fits-stop : i < m → t i ≡ false → all-of t (span (m - i) i) ≡ false
-  unfolding all-of
-  fits-stop h e = rw (span-next m i h, e)
-
-  pub fits-end : m ≤ i → all-of t (span (m - i) i) ≡ true
-  unfolding all-of
-  fits-end h = rw (span-end m i h)

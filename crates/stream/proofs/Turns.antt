@@ -28,6 +28,7 @@ use Rattle.service.specs.View.{view}
 use Rattle.service.specs.Promise.{told}
 use Rattle.solve.specs.Solve.{padded}
 use Rattle.finish.specs.Finish.{choice, finish-refusal, finish-answer, finish-step}
+use Rattle.finish.proofs.Answers.{answer-number}
 use Rattle.solve.proofs.Filled.{padded-take}
 use Rattle.lines.specs.Text.{decimal, numbers, line}
 use Rattle.lines.specs.Put.{room, Put}
@@ -86,11 +87,6 @@ module _ (b : List ℕ) (at : ℕ) where
       rw (ne-eqb (getD b at 0) 1 p, ne-eqb (getD b at 0) 2 q, ne-eqb (getD b at 0) 3 r, ne-eqb (getD b at 0) 4 s, ne-eqb (getD b at 0) 5 t)
 
 -- ---- a finish
-answer-number : (n : ℕ) (s : Service) → finish-answer n s .number ≡ n
-unfolding finish-answer
-answer-number zero s = refl
-answer-number (suc n) s = refl
-
 pub finish-good : (s : Service) → finish-step s .number ≡ 0 → Good (plan-of (s .head .plan))
 unfolding finish-step finish-refusal
 finish-good s e =

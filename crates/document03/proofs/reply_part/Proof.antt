@@ -7,7 +7,8 @@ use denote.Ref.{now}
 use borrow.Author.Needs.{needs}
 use Rattle.scheme.specs.Scheme.{sixteen, Stage, reply-refusal}
 use Rattle.scheme.proofs.Refusals.{start-taken}
-use Rattle.plan.proofs.Laws.{usable-small, usable-le}
+use Rattle.scheme.proofs.Sets.{usable-below}
+use Rattle.plan.proofs.Laws.{usable-le}
 use Rattle.client.specs.Client.{stage-of-number}
 use Rattle.client.proofs.Laws.{Answers, reply-answers}
 use Rattle.document03.specs.Ours.{plan-of-numbers}
@@ -43,7 +44,7 @@ reply-start-requires : tie.Need-reply-start-requires
 reply-start-requires c κs =
     let t = answers c in
     let g = start-taken _ _ (t .begun) in
-    (g .0, g .1, omega arith, le-of-lt (usable-small _ _ (t .whole)))
+    (g .0, g .1, omega arith, le-of-lt (usable-below _ _ (t .whole)))
 
 cast-t15 : tie.Need-cast-t15
 cast-t15 c = search needs

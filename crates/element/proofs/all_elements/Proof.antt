@@ -1,12 +1,13 @@
 -- `element::all_elements` meets its contract. The loop's invariant: what was tested, and the answer for what is left, are the answer
 -- for the whole list. The measure is what is left of the length. Assumes nothing.
 use mathlib.Core.Path.{_≡_, refl, sym, ap, _∙_}
-use mathlib.Core.Bool.{Bool, true, false, _&&_}
+use mathlib.Core.Bool.{Bool, _&&_}
 use Prim.Native.Nat.{_-_, _≤_}
 use lib.Dec.{eqb}
 use lib.ListN.{length, drop}
 use borrow.Author.Needs.{needs}
 use Rattle.scheme.specs.Scheme.{sixteen, elements}
+use Rattle.scheme.proofs.Tests.{and-true}
 use Rattle.element.proofs.Elements.{elements-step, elements-end}
 use Rattle.element.proofs.all_elements.Statement.{statement}
 use Rattle.element.proofs.all_elements.Tie as tie
@@ -16,10 +17,6 @@ Inv-loop list past₀ i₀ past i = (i ≤ length list) × ((eqb past 0 && eleme
 
 abbrev μ-loop : tie.MeasureT-loop
 μ-loop list past₀ i₀ past i = length list - i
-
-and-true : (b : Bool) → (b && true) ≡ b
-and-true true = refl
-and-true false = refl
 
 loop-holds : tie.Need-loop-holds Inv-loop μ-loop
 loop-holds c = (search needs, refl)

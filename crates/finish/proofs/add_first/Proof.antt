@@ -8,6 +8,7 @@ use native.Mathlib.Nat.{zero-add, eq-or-lt-of-le}
 use native.Mathlib.Omega.{arith}
 use lib.ListN.{getD, set}
 use borrow.Author.Needs.{needs}
+use Rattle.scheme.proofs.Tests.{none-below}
 use Rattle.solve.proofs.Grids.{Putting, putting-start, putting-more, putting-end}
 use Rattle.finish.proofs.add_first.Statement.{statement}
 use Rattle.finish.proofs.add_first.Tie as tie
@@ -25,10 +26,7 @@ abbrev μ-loop : tie.MeasureT-loop
 μ-loop sums₀ first from places i₀ sums i = places - i
 
 loop-holds : tie.Need-loop-holds Inv-loop μ-loop
-loop-holds c = (putting-start _ _ _ _, λ j h. absurd (none j h))
-  where
-    none : (j : ℕ) → j < 0 → ⊥
-    none j h = omega arith
+loop-holds c = (putting-start _ _ _ _, λ j h. absurd (none-below j h))
 
 mul-sums : tie.Need-mul-sums Inv-loop μ-loop
 mul-sums c = search needs

@@ -8,7 +8,7 @@ use native.Mathlib.Omega.{arith}
 use lib.ListN.{length, getD, length-replicate}
 use borrow.Author.Needs.{needs}
 use Rattle.solve.specs.Solve.{Put}
-use Rattle.solve.proofs.Filled.{zeros-at}
+use Rattle.scheme.proofs.Lists.{zeros-at}
 use Rattle.finish.specs.Parts.{held-in, first-of}
 use Rattle.finish.proofs.Turns.{held-at, Summing, summing-start, summing-more, summing-end}
 use Rattle.finish.proofs.first_sums.Statement.{statement}

@@ -9,8 +9,8 @@ use lib.ListN.{set, length-set}
 use lib.Seq.{getD-set-same, getD-set-other}
 use borrow.Author.Needs.{needs}
 use Rattle.scheme.specs.Scheme.{sixteen}
+use Rattle.scheme.proofs.Tests.{none-below}
 use Rattle.keys.specs.Parts.{Coefficients}
-use Rattle.keys.proofs.Rows.{none-below}
 use Rattle.keys.proofs.coefficients.Statement.{statement}
 use Rattle.keys.proofs.coefficients.Tie as tie
 

@@ -9,10 +9,12 @@ use lib.ListN.{length, getD, replicate, length-replicate}
 use lib.Seq.{sets, length-sets}
 use borrow.Author.Needs.{needs}
 use Rattle.scheme.specs.Scheme.{span, q, Plan, items, places}
+use Rattle.scheme.proofs.Tests.{none-below}
+use Rattle.scheme.proofs.Lists.{zeros-at}
 use Rattle.plan.specs.Plan.{plan-of}
 use Rattle.keys.specs.Parts.{Coefficients, weighed, part-at, block-value, dot, Products}
 use Rattle.keys.proofs.Sums.{weighed-dot, weighed-small}
-use Rattle.keys.proofs.Rows.{none-below, zeros-at, row-before, row-at}
+use Rattle.keys.proofs.Rows.{row-before, row-at}
 use Rattle.keys.proofs.Places.{row-in, row-next, rows-in}
 use Rattle.keys.proofs.mask_products.Statement.{statement}
 use Rattle.keys.proofs.mask_products.Tie as tie

@@ -8,9 +8,9 @@ use native.Mathlib.Omega.{arith}
 use lib.ListN.{getD, replicate, length-replicate}
 use borrow.Author.Needs.{needs}
 use Rattle.scheme.specs.Scheme.{q, sum, in-set}
+use Rattle.scheme.proofs.Lists.{zeros-at}
 use Rattle.keys.specs.Parts.{Raised, set-sum, Summed}
 use Rattle.keys.proofs.Sums.{members-take, members-skip}
-use Rattle.keys.proofs.Rows.{zeros-at}
 use Rattle.keys.proofs.sum_rows.Statement.{statement}
 use Rattle.keys.proofs.sum_rows.Tie as tie
 

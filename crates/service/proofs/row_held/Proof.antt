@@ -1,8 +1,8 @@
 -- `service::row_held` meets its contract. The loop's invariant: what was found so far, and the answer for the elements that are left, is the
 -- answer for all. The measure is how many are left. Assumes nothing.
-use mathlib.Core.Path.{_≡_, refl, sym, ap, _∙_}
+use mathlib.Core.Path.{_≡_, sym, ap, _∙_}
 use mathlib.Core.Logic.{⊎-elim}
-use mathlib.Core.Bool.{Bool, true, false, _&&_, not}
+use mathlib.Core.Bool.{Bool, _&&_, not}
 use mathlib.Core.List.{List}
 use Prim.Native.Nat.{ℕ, _+_, _-_, _≤_}
 use native.Mathlib.Nat.{sub-zero}
@@ -13,21 +13,14 @@ use borrow.Author.Needs.{needs}
 use borrow.Author.Tests.{eq-eqb, ne-eqb}
 use Rattle.scheme.specs.Scheme.{span}
 use Rattle.scheme.specs.Totals.{all-of}
+use Rattle.scheme.proofs.Tests.{and-true, and-false}
+use Rattle.scheme.proofs.Totals.{all-of-pass, all-of-stop, all-of-end}
 use Rattle.service.specs.View.{row-held}
-use Rattle.service.proofs.Complete.{all-of-next, all-of-end}
 use Rattle.service.proofs.row_held.Statement.{statement}
 use Rattle.service.proofs.row_held.Tie as tie
 
 abbrev held-at : List ℕ → (start i : ℕ) → Bool
 held-at xs start i = not (eqb (getD xs (start + i) 0) 0)
-
-and-false : (b : Bool) → (b && false) ≡ false
-and-false true = refl
-and-false false = refl
-
-and-true : (b : Bool) → (b && true) ≡ b
-and-true true = refl
-and-true false = refl
 
 abbrev Inv-loop : tie.InvT-loop
 Inv-loop held start each good₀ i₀ good i = (i ≤ each) × ((good && all-of (held-at held start) (span (each - i) i)) ≡ row-held held start each)
@@ -57,11 +50,11 @@ loop-less c = search needs
 loop-again : tie.Need-loop-again Inv-loop μ-loop
 loop-again c =
     let l = c .before .before .before .loop in
-    let n = all-of-next _ _ (l .i) (c .before .before .loop-test .taken) in
+    let h = c .before .before .loop-test .taken in
     let g : Bool → Bool = λ b. l .good && b in (
       omega arith,
-      ⊎-elim (λ w. rw (w .1) (sym (and-false (l .good)) ∙ ap g (sym (n ∙ simp (eq-eqb _ _ (w .0 .taken)))) ∙ l .inv .1))
-          (λ w. rw (w .1) (ap g (sym (n ∙ simp (ne-eqb _ _ (w .0 .left)))) ∙ l .inv .1)) (c .if1 .came),
+      ⊎-elim (λ w. rw (w .1) (sym (and-false (l .good)) ∙ ap g (sym (all-of-stop _ _ (l .i) h (ap not (eq-eqb _ _ (w .0 .taken))))) ∙ l .inv .1))
+          (λ w. rw (w .1) (ap g (all-of-pass _ _ (l .i) h (ap not (ne-eqb _ _ (w .0 .left)))) ∙ l .inv .1)) (c .if1 .came),
     )
 
 returns : tie.Need-returns Inv-loop μ-loop

@@ -7,8 +7,8 @@ use borrow.Author.Needs.{needs}
 use borrow.Author.Tests.{not-true, not-false}
 use Rattle.scheme.specs.Scheme.{span}
 use Rattle.scheme.specs.Totals.{all-of}
+use Rattle.scheme.proofs.Totals.{all-of-pass, all-of-stop, all-of-end}
 use Rattle.solve.specs.Solve.{row-fits}
-use Rattle.solve.proofs.Turns.{fits-next, fits-stop, fits-end}
 use Rattle.solve.proofs.Solution.{near, filled-factors, row-same}
 use Rattle.solve.proofs.fits.Statement.{statement}
 use Rattle.solve.proofs.fits.Tie as tie
@@ -49,7 +49,7 @@ returns : tie.Need-returns Inv-loop μ-loop
 returns c =
     let l = c .before .before .before .before .before .before .loop in
     let e = row-same _ _ _ _ _ _ _ (l .a) _ (omega arith) (c .before .before .before .factors .ensures) (l .inv .2) in
-    sym (sym (l .inv .3) ∙ fits-stop _ _ (l .a) (c .before .before .before .before .before .loop-test .taken) (sym e ∙ sym (c .before .same-row .ensures) ∙ not-true _ (c .if1 .taken)))
+    sym (sym (l .inv .3) ∙ all-of-stop _ _ (l .a) (c .before .before .before .before .before .loop-test .taken) (sym e ∙ sym (c .before .same-row .ensures) ∙ not-true _ (c .if1 .taken)))
 
 add-at : tie.Need-add-at Inv-loop μ-loop
 add-at c = search needs
@@ -64,10 +64,10 @@ loop-again : tie.Need-loop-again Inv-loop μ-loop
 loop-again c =
     let l = c .before .before .before .before .before .before .loop in
     let e = row-same _ _ _ _ _ _ _ (l .a) _ (omega arith) (c .before .before .before .factors .ensures) (l .inv .2) in
-    (omega arith, omega arith, omega (arith, l .inv .2), fits-next _ _ (l .a) (c .before .before .before .before .before .loop-test .taken) (sym e ∙ sym (c .before .same-row .ensures) ∙ not-false _ (c .if1 .left)) ∙ l .inv .3)
+    (omega arith, omega arith, omega (arith, l .inv .2), all-of-pass _ _ (l .a) (c .before .before .before .before .before .loop-test .taken) (sym e ∙ sym (c .before .same-row .ensures) ∙ not-false _ (c .if1 .left)) ∙ l .inv .3)
 
 returns-2 : tie.Need-returns-2 Inv-loop μ-loop
-returns-2 c = sym (sym (c .before .loop .inv .3) ∙ fits-end _ _ _ (c .loop-test .left))
+returns-2 c = sym (sym (c .before .loop .inv .3) ∙ all-of-end _ _ _ (c .loop-test .left))
 
 pub fits-spec : {M : Type 1} → statement M
 fits-spec =

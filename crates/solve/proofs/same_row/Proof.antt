@@ -1,8 +1,8 @@
 -- `solve::same_row` meets its contract. The loop's invariant: what was found so far, and the answer for the blocks that are left, is the
 -- answer for all. The measure is how many are left. Assumes nothing.
-use mathlib.Core.Path.{_≡_, refl, sym, ap, _∙_}
+use mathlib.Core.Path.{_≡_, sym, ap, _∙_}
 use mathlib.Core.Logic.{⊎-elim}
-use mathlib.Core.Bool.{Bool, true, false, _&&_}
+use mathlib.Core.Bool.{Bool, _&&_}
 use mathlib.Core.List.{List}
 use Prim.Native.Nat.{ℕ, _+_, _-_, _≤_}
 use native.Mathlib.Omega.{arith}
@@ -12,21 +12,15 @@ use borrow.Author.Needs.{needs}
 use borrow.Author.Tests.{eq-eqb, ne-eqb}
 use Rattle.scheme.specs.Scheme.{span}
 use Rattle.scheme.specs.Totals.{all-of}
+use Rattle.scheme.proofs.Tests.{and-true, and-false}
+use Rattle.scheme.proofs.Lists.{span-start}
+use Rattle.scheme.proofs.Totals.{all-of-pass, all-of-stop, all-of-end}
 use Rattle.solve.specs.Solve.{combined}
-use Rattle.solve.proofs.Turns.{span-start, fits-next, fits-stop, fits-end}
 use Rattle.solve.proofs.same_row.Statement.{statement}
 use Rattle.solve.proofs.same_row.Tie as tie
 
 abbrev passes : (list grid : List ℕ) → (n : ℕ) → (values : List ℕ) → (at b : ℕ) → Bool
 passes cs g n vs at b = eqb (combined cs g n b) (getD vs (at + b) 0)
-
-and-false : (b : Bool) → (b && false) ≡ false
-and-false true = refl
-and-false false = refl
-
-and-true : (b : Bool) → (b && true) ≡ b
-and-true true = refl
-and-true false = refl
 
 abbrev Inv-loop : tie.InvT-loop
 Inv-loop list grid n values at blocks good₀ b₀ good b = (b ≤ blocks) × ((good && all-of (passes list grid n values at) (span (blocks - b) b)) ≡ all-of (passes list grid n values at) (span blocks 0))
@@ -62,17 +56,18 @@ loop-again : tie.Need-loop-again Inv-loop μ-loop
 loop-again c =
     let l = c .before .before .before .before .before .loop in
     let h = c .before .before .before .before .loop-test .taken in
-    let e = c .before .before .reduce .ensures ∙ c .before .before .before .dot .ensures .0 in (
+    let e = c .before .before .reduce .ensures ∙ c .before .before .before .dot .ensures .0 in
+    let g : Bool → Bool = λ b. l .good && b in (
       search needs,
       ⊎-elim
-          (λ w. rw (w .1) (sym (and-false (l .good)) ∙ ap (λ (b : Bool). l .good && b) (sym (fits-stop _ _ (l .b) h (ne-eqb _ _ (λ d. w .0 .taken (e ∙ d))))) ∙ l .inv .1))
-          (λ w. rw (w .1) (ap (λ (b : Bool). l .good && b) (fits-next _ _ (l .b) h (eq-eqb _ _ (sym e ∙ w .0 .left))) ∙ l .inv .1)) (c .if1 .came),
+          (λ w. rw (w .1) (sym (and-false (l .good)) ∙ ap g (sym (all-of-stop _ _ (l .b) h (ne-eqb _ _ (λ d. w .0 .taken (e ∙ d))))) ∙ l .inv .1))
+          (λ w. rw (w .1) (ap g (all-of-pass _ _ (l .b) h (eq-eqb _ _ (sym e ∙ w .0 .left))) ∙ l .inv .1)) (c .if1 .came),
     )
 
 returns : tie.Need-returns Inv-loop μ-loop
 returns c =
     let l = c .before .loop in
-    sym (and-true (l .good)) ∙ ap (λ (b : Bool). l .good && b) (sym (fits-end _ _ _ (c .loop-test .left))) ∙ l .inv .1
+    sym (and-true (l .good)) ∙ ap (λ (b : Bool). l .good && b) (sym (all-of-end _ _ _ (c .loop-test .left))) ∙ l .inv .1
 
 pub same-row-spec : {M : Type 1} → statement M
 same-row-spec =

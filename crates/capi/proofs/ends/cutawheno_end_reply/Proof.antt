@@ -9,7 +9,8 @@ use borrow.Author.Needs.{needs}
 use Rattle.scheme.specs.Scheme.{sixteen, reply-start}
 use Rattle.scheme.proofs.Refusals.{start-taken}
 use Rattle.plan.specs.Plan.{plan-of}
-use Rattle.plan.proofs.Laws.{usable-small, usable-le, reply-inside}
+use Rattle.scheme.proofs.Sets.{usable-below}
+use Rattle.plan.proofs.Laws.{usable-le, reply-inside}
 use Rattle.client.specs.declared.Client.{Client}
 use Rattle.client.specs.Client.{stage-of, stage-number, answer-refusal}
 use Rattle.client.proofs.Laws.{Answers, reply-answers, answers-held}
@@ -45,7 +46,7 @@ reply-start-requires : tie.Need-reply-start-requires
 reply-start-requires c κs =
     let t = answers (c .before) in
     let g = start-taken _ _ (t .begun) in
-    (g .0, g .1, omega arith, le-of-lt (usable-small _ _ (t .whole)))
+    (g .0, g .1, omega arith, le-of-lt (usable-below _ _ (t .whole)))
 
 cast-start : tie.Need-cast-start
 cast-start c = search needs

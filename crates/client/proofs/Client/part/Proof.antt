@@ -9,7 +9,8 @@ use borrow.Author.Needs.{needs}
 use Rattle.scheme.specs.Scheme.{sixteen, reply}
 use Rattle.scheme.proofs.Refusals.{start-taken}
 use Rattle.plan.specs.Plan.{plan-of}
-use Rattle.plan.proofs.Laws.{usable-small, reply-inside}
+use Rattle.scheme.proofs.Sets.{usable-below}
+use Rattle.plan.proofs.Laws.{reply-inside}
 use Rattle.client.specs.Client.{answer-refusal}
 use Rattle.client.proofs.Laws.{Answers, reply-answers, answers-held, part-given, part-refused}
 use Rattle.client.proofs.Client.part.Statement.{statement}
@@ -42,7 +43,7 @@ reply-start-requires : tie.Need-reply-start-requires
 reply-start-requires c κs =
     let t = answers (c .before) in
     let g = start-taken _ _ (t .begun) in
-    (g .0, g .1, omega arith, le-of-lt (usable-small _ _ (t .whole)))
+    (g .0, g .1, omega arith, le-of-lt (usable-below _ _ (t .whole)))
 
 cast-end : tie.Need-cast-end
 cast-end c = search needs
