@@ -26,7 +26,8 @@ module _ (xs : List ℕ) (i : ℕ) where
   elements-end h = rw (drop-of-length-le xs h)
 
   module _ (past : ℕ) (h : i < length xs) where
-    tested : (t : Bool) → ltb (getD xs i 0) q ≡ t → (eqb (bitOr past (getD xs i 0 - 65520)) 0 && elements sixteen (drop (i + 1) xs)) ≡ (eqb past 0 && (t && elements sixteen (drop (i + 1) xs)))
+    tested : (t : Bool) → ltb (getD xs i 0) q ≡ t
+        → (eqb (bitOr past (getD xs i 0 - 65520)) 0 && elements sixteen (drop (i + 1) xs)) ≡ (eqb past 0 && (t && elements sixteen (drop (i + 1) xs)))
     tested true e =
         let d : getD xs i 0 - 65520 ≡ 0 = omega (arith, ltb-true (getD xs i 0) q e) in
         ap (λ (n : ℕ). eqb n 0 && elements sixteen (drop (i + 1) xs)) (ap (bitOr past) d ∙ or-zero-r past)

@@ -111,7 +111,8 @@ module _ (s : System) (h : Prepared (s .plan) (s .users .set) s) where
         let ks : List ℕ = span (m - n) n in
         let bs : List ℕ = span (s .plan .blocks) 0 in
         ap (λ (k : ℕ). all-of (row-fits (s .users .list) cs g ws n (s .plan .blocks)) (span (k - n) n)) (h .listed .count-right)
-        ∙ all-of-same _ _ ks (λ a i. all-of-same _ _ bs (λ b j. tested a b (omega (arith, span-in (m - n) n a i)) (omega (arith, span-in (s .plan .blocks) 0 b j))))
+        ∙ all-of-same _ _ ks (λ a i.
+        all-of-same _ _ bs (λ b j. tested a b (omega (arith, span-in (m - n) n a i)) (omega (arith, span-in (s .plan .blocks) 0 b j))))
         ∙ all-swap passes ks bs
         ∙ all-of-same _ _ bs (λ b j.
         fits-same p r (h .good) (h .enough) y b (λ a l.

@@ -58,7 +58,8 @@ sets-before (v ∷ vs) l i j h = sets-before vs (set l i v) (suc i) j (omega ari
 sets-at : (vs l : List ℕ) (i b : ℕ) → b < length vs → i + length vs ≤ length l → _≡_ {A = ℕ} (getD (sets l i vs) (i + b) 0) (getD vs b 0)
 sets-at [] l i b h m = absurd (none-below b h)
 sets-at (v ∷ vs) l i zero h m =
-    ap (λ (n : ℕ). getD (sets (set l i v) (suc i) vs) n 0) (add-zero i) ∙ sets-before vs (set l i v) (suc i) i (omega arith) ∙ getD-set-same l i v 0 (omega arith)
+    ap (λ (n : ℕ). getD (sets (set l i v) (suc i) vs) n 0) (add-zero i) ∙ sets-before vs (set l i v) (suc i) i (omega arith)
+    ∙ getD-set-same l i v 0 (omega arith)
 sets-at (v ∷ vs) l i (suc b) h m =
     ap (λ (n : ℕ). getD (sets (set l i v) (suc i) vs) n 0) (omega arith) ∙ sets-at vs (set l i v) (suc i) b (omega arith) (omega (arith, length-set l i v))
 

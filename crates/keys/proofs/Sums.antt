@@ -67,7 +67,8 @@ weighed-more cs i f =
     ap (λ (l : List ℕ). sum sixteen l (λ j. getD cs j 0 * f j)) (span-append i 1 0) ∙ sum-append sixteen 0 0 sixteen-sums (span i 0) _ _
     ∙ rw (sum-one, add-mod-mod, zero-add i)
 
-pub dotted-more : {cs : List ℕ} {i : ℕ} {f : ℕ → ℕ} {total x : ℕ} → Dotted cs i f total → (x ≡ getD cs i 0 * f i) × (x ≤ most-product) → Dotted cs (i + 1) f (total + x)
+pub dotted-more : {cs : List ℕ} {i : ℕ} {f : ℕ → ℕ} {total x : ℕ} → Dotted cs i f total → (x ≡ getD cs i 0 * f i) × (x ≤ most-product)
+    → Dotted cs (i + 1) f (total + x)
 dotted-more {cs} {i} {f} {total} d h =
     record {
       small = omega (arith, d .small);
@@ -79,7 +80,8 @@ unfolding weighed
 weighed-same cs n f g h = sum-same sixteen (span n 0) (λ i. getD cs i 0 * f i) (λ i. getD cs i 0 * g i) (λ i m. ap (λ (x : ℕ). getD cs i 0 * x) (h i))
 
 -- the numbers of block b
-pub dotted-part : (cs xs : List ℕ) (start from n b total : ℕ) → from ≡ start + b * n → Dotted cs n (λ i. getD xs (from + i) 0) total → total % q ≡ weighed cs n (part-at xs start n b)
+pub dotted-part : (cs xs : List ℕ) (start from n b total : ℕ) → from ≡ start + b * n → Dotted cs n (λ i. getD xs (from + i) 0) total
+    → total % q ≡ weighed cs n (part-at xs start n b)
 dotted-part cs xs start from n b total e d = d .right ∙ weighed-same cs n (λ i. getD xs (from + i) 0) (part-at xs start n b) (λ i.
     let same : from + i ≡ start + (b * n + i) = omega arith in
     ap (λ (j : ℕ). getD xs j 0) same)
@@ -136,4 +138,5 @@ unfolding dot row-value
 dot-join k n m f =
     let g : ℕ → ℕ = λ j. sixteen .coefficient k j * f j in
     ap (λ (l : List ℕ). sum sixteen l g) (span-append n m 1) ∙ sum-append sixteen 0 0 sixteen-sums (span n 1) (span m (1 + n)) g
-    ∙ ap₂ (λ (x y : ℕ). (x + y) % q) (sum-shift sixteen n 1 0 g) (ap (λ (s : ℕ). sum sixteen (span m s) g) (sym (add-zero (1 + n))) ∙ sum-shift sixteen m (1 + n) 0 g)
+    ∙ ap₂ (λ (x y : ℕ). (x + y) % q) (sum-shift sixteen n 1 0 g)
+    (ap (λ (s : ℕ). sum sixteen (span m s) g) (sym (add-zero (1 + n))) ∙ sum-shift sixteen m (1 + n) 0 g)

@@ -39,7 +39,8 @@ module _ (w : ℕ) (xs : List ℕ) (k i : ℕ) where
   look-at a b c = simp (le-leb _ _ a, le-leb _ _ b, lt-ltb _ _ c)
 
   pub look-free : 1 ≤ k → k ≤ 8 → i < w → not (is-held (look w xs k i)) ≡ eqb (getD xs (slot w k i) 0) 0
-  look-free a b c = ap (λ (o : Option ℕ). not (is-held o)) (look-at a b c) ∙ ap not (stored-held (getD xs (slot w k i) 0)) ∙ not-not (eqb (getD xs (slot w k i) 0) 0)
+  look-free a b c =
+      ap (λ (o : Option ℕ). not (is-held o)) (look-at a b c) ∙ ap not (stored-held (getD xs (slot w k i) 0)) ∙ not-not (eqb (getD xs (slot w k i) 0) 0)
 
 pub look-nothing : (w n k i : ℕ) → look w (replicate n 0) k i ≡ none
 unfolding look stored

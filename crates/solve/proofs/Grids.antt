@@ -30,7 +30,8 @@ module _ (f : ℕ → ℕ) (n at : ℕ) (old : List ℕ) where
     put = record { long = refl; each = λ b h. absurd (none-below b h); kept = λ i h. refl; rest = λ i h. refl };
   }
 
-  pub putting-more : (b x : ℕ) (new : List ℕ) → b < n → at + n ≤ length old → x ≡ f b → Putting f n at old b new → Putting f n at old (b + 1) (set new (at + b) x)
+  pub putting-more : (b x : ℕ) (new : List ℕ) → b < n → at + n ≤ length old → x ≡ f b → Putting f n at old b new
+      → Putting f n at old (b + 1) (set new (at + b) x)
   putting-more b x new h l e s = record {
     inside = omega arith;
     put = record {
@@ -80,7 +81,10 @@ module _ (f : (a b : ℕ) → ℕ) (m : ℕ) where
   rows-more h i at g new few r same p = record {
     place = omega (arith, r .place);
     long = p .long ∙ r .long;
-    each = λ a b l k. ⊎-elim (λ (d : a ≡ i). here a b d k) (λ (d : a < i). p .kept (a * 16 + b) (omega (arith, r .place)) ∙ r .each a b d k) (eq-or-lt-of-le (omega arith));
+    each = λ a b l k. ⊎-elim
+        (λ (d : a ≡ i). here a b d k)
+        (λ (d : a < i). p .kept (a * 16 + b) (omega (arith, r .place)) ∙ r .each a b d k)
+        (eq-or-lt-of-le (omega arith));
     behind = λ k l. p .rest k (omega (arith, r .place)) ∙ r .behind k (omega arith);
     small = λ s z low. put-small p s (λ b k. rw (same b k) (low i b (omega arith) k)) (r .small s z (λ a b l. low a b (omega arith)));
   }
@@ -107,7 +111,8 @@ module _ (f : (a b : ℕ) → ℕ) (n : ℕ) where
 
   pub rows-end : (at : ℕ) (g : List ℕ) → n ≤ 8 → Rows f 16 n at g → g ≡ grid n f
   unfolding grid
-  rows-end at g few r = ext-getD 0 g (grid n f) (r .long ∙ sym (padded-length 128 (map entry (span (n * 16) 0)) (omega (arith, all)))) (λ k h. go k (decLt k (n * 16)))
+  rows-end at g few r =
+      ext-getD 0 g (grid n f) (r .long ∙ sym (padded-length 128 (map entry (span (n * 16) 0)) (omega (arith, all)))) (λ k h. go k (decLt k (n * 16)))
     where
       all : length (map entry (span (n * 16) 0)) ≡ n * 16
       all = map-span-length entry (n * 16) 0

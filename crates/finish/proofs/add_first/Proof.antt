@@ -52,7 +52,8 @@ cast-sums c = search needs
 add-sums : tie.Need-add-sums Inv-loop μ-loop
 add-sums c =
     let l = c .before .before .before .before .loop in
-    omega (arith, l .inv .0 .put .rest (l .i) (omega arith), c .before .before .before .before .before .pre .1 (l .i) (c .before .before .before .loop-test .taken))
+    let t = c .before .before .before in
+    omega (arith, l .inv .0 .put .rest (l .i) (omega arith), t .before .before .pre .1 (l .i) (t .loop-test .taken))
 
 mul-sums-2 : tie.Need-mul-sums-2 Inv-loop μ-loop
 mul-sums-2 c = search needs
@@ -70,7 +71,8 @@ loop-again : tie.Need-loop-again Inv-loop μ-loop
 loop-again c =
     let l = c .before .before .before .before .loop in
     let e = ap₂ (λ (x y : ℕ). x + y) (l .inv .0 .put .rest (l .i) (omega arith)) (c .element-in .ensures) in (
-      next _ _ _ (l .sums) (l .i) (getD (l .sums) (l .i) 0 + c .element-in .result) (putting-more _ _ _ _ (l .i) _ _ (c .before .before .before .loop-test .taken) (omega arith) e (l .inv .0)),
+      next _ _ _ (l .sums) (l .i) (getD (l .sums) (l .i) 0 + c .element-in .result)
+          (putting-more _ _ _ _ (l .i) _ _ (c .before .before .before .loop-test .taken) (omega arith) e (l .inv .0)),
       λ j h.
           ⊎-elim (λ (d : j ≡ l .i). rw d (omega (arith, c .element-in .ensures))) (λ (d : j < l .i). l .inv .1 j d) (eq-or-lt-of-le (omega arith)),
     )

@@ -18,7 +18,8 @@ put-first : {f : ℕ → ℕ} {n : ℕ} {old new : List ℕ} → Put f n 0 old n
 put-first {new = new} d i h = ap (λ (k : ℕ). getD new k 0) (sym (zero-add i)) ∙ d .each i h
 
 abbrev Inv-loop : tie.InvT-loop
-Inv-loop first rows count places sums₀ i₀ sums i = (i ≤ count) × (length sums ≡ 96) × ((p : ℕ) → p < places → Summing (λ a. held-in 96 first (getD rows a 0) p) count i (getD sums p 0))
+Inv-loop first rows count places sums₀ i₀ sums i =
+    (i ≤ count) × (length sums ≡ 96) × ((p : ℕ) → p < places → Summing (λ a. held-in 96 first (getD rows a 0) p) count i (getD sums p 0))
 
 abbrev μ-loop : tie.MeasureT-loop
 μ-loop first rows count places sums₀ i₀ sums i = count - i
@@ -36,14 +37,19 @@ element-copy-out-start-of : tie.Need-element-copy-out-start-of Inv-loop μ-loop
 element-copy-out-start-of c = search needs
 
 start-of-requires : tie.Need-start-of-requires Inv-loop μ-loop
-start-of-requires c κs = let x = c .before .before .before .before .pre .2 .inside (c .before .before .loop .i) (c .before .loop-test .taken) in (x .0, x .1, omega arith)
+start-of-requires c κs =
+    let l = c .before .before in
+    let x = l .before .before .pre .2 .inside (l .loop .i) (c .before .loop-test .taken) in
+    (x .0, x .1, omega arith)
 
 add-first-requires : tie.Need-add-first-requires Inv-loop μ-loop
 add-first-requires c κs =
-    let l = c .before .before .before .before .loop in
-    let s = c .before .before .before .before .before .before in
-    let x = s .pre .2 .inside (l .i) (c .before .before .before .loop-test .taken) in
-    ((s .pre .1, omega (arith, x .0, x .1, c .before .start-of .ensures), l .inv .1), λ p h. omega (arith, l .inv .2 p h .low, c .before .before .before .loop-test .taken))
+    let t = c .before .before .before in
+    let l = t .before .loop in
+    let s = t .before .before .before in
+    let h = t .loop-test .taken in
+    let x = s .pre .2 .inside (l .i) h in
+    ((s .pre .1, omega (arith, x .0, x .1, c .before .start-of .ensures), l .inv .1), λ p m. omega (arith, l .inv .2 p m .low, h))
 
 add-i : tie.Need-add-i Inv-loop μ-loop
 add-i c = search needs
@@ -53,9 +59,10 @@ loop-less c = search needs
 
 loop-again : tie.Need-loop-again Inv-loop μ-loop
 loop-again c =
-    let l = c .before .before .before .before .before .loop in
-    let s = c .before .before .before .before .before .before .before in
-    let t = c .before .before .before .before .loop-test .taken in
+    let u = c .before .before .before .before in
+    let l = u .before .loop in
+    let s = u .before .before .before in
+    let t = u .loop-test .taken in
     let x = s .pre .2 .inside (l .i) t in
     let y = s .args .first .now in
     let d = c .add-first .ensures .0 in (
@@ -63,7 +70,9 @@ loop-again c =
       d .long ∙ l .inv .1,
       λ p h.
           rw (put-first d p h)
-          (summing-more _ _ (l .i) _ _ t (ap (λ (f : ℕ). getD y (f + p) 0 - 1) (c .before .before .start-of .ensures) ∙ sym (held-at 96 y _ p (x .0) (x .1) (omega arith))) (c .add-first .ensures .1 p h) (l .inv .2 p h)),
+          (summing-more _ _ (l .i) _ _ t
+          (ap (λ (f : ℕ). getD y (f + p) 0 - 1) (c .before .before .start-of .ensures) ∙ sym (held-at 96 y _ p (x .0) (x .1) (omega arith)))
+          (c .add-first .ensures .1 p h) (l .inv .2 p h)),
     )
 
 returns : tie.Need-returns Inv-loop μ-loop

@@ -23,14 +23,15 @@ none : (p : Plan) (u : ℕ) (xs : List ℕ) → Products p u xs 0 (replicate 128
 none p u xs = record { long = length-replicate {A = ℕ} 128 0; each = λ i b h l. absurd (none-below i h) }
 
 -- the value of a block on a row of zeros
-alone : {k w : ℕ} {cs : List ℕ} → Coefficients k 1 w cs → (xs : List ℕ) (from b : ℕ) → block-value (replicate 16 0) cs w xs from b ≡ dot k 1 w (part-at xs from w b)
+alone : {k w : ℕ} {cs : List ℕ} → Coefficients k 1 w cs → (xs : List ℕ) (from b : ℕ)
+    → block-value (replicate 16 0) cs w xs from b ≡ dot k 1 w (part-at xs from w b)
 unfolding block-value
 alone {k} {w} {cs} c xs from b =
     ap (λ (n : ℕ). (n + weighed cs w (part-at xs from w b)) % q) (zeros-at 16 b)
     ∙ ap (λ (n : ℕ). n % q) (zero-add _) ∙ mod-eq-of-lt (weighed-small cs w _) ∙ weighed-dot c (part-at xs from w b)
 
-more : {p : Plan} {u : ℕ} {xs : List ℕ} {k : ℕ} {old : List ℕ} {cs : List ℕ} → Products p u xs k old → Coefficients u 1 (items p) cs → p .blocks ≤ 16 → k < 8 →
-    (from at : ℕ) → from ≡ k * places p → at ≡ k * 16 →
+more : {p : Plan} {u : ℕ} {xs : List ℕ} {k : ℕ} {old : List ℕ} {cs : List ℕ} → Products p u xs k old → Coefficients u 1 (items p) cs →
+    p .blocks ≤ 16 → k < 8 → (from at : ℕ) → from ≡ k * places p → at ≡ k * 16 →
     Products p u xs (k + 1) (sets old at (map (block-value (replicate 16 0) cs (items p) xs from) (span (p .blocks) 0)))
 more {p} {u} {xs} {k} {old} {cs} z c few h from at e d =
     let f : ℕ → ℕ = block-value (replicate 16 0) cs (items p) xs from in
@@ -76,12 +77,25 @@ loop-holds : tie.Need-loop-holds Inv-loop μ-loop
 loop-holds c = (search needs, sym (zero-mul _), refl, rw (c .no-products .ensures) (none _ _ _))
 
 -- in a turn: the user's masks lie in the list
-inside : (c : tie.Then1 Inv-loop μ-loop) → let a = c .before .before .before .before .before .before .before .before .before .args in c .before .before .loop .from + a .row ≤ length (a .list .now)
+inside : (c : tie.Then1 Inv-loop μ-loop)
+    → let l = c .before .before in
+    let m = l .before .before .before in
+    let a = m .before .before .before .before .args in
+    l .loop .from + a .row ≤ length (a .list .now)
 inside c =
-    let s = c .before .before .before .before .before .before .before .before .before in
+    let l = c .before .before in
+    let m = l .before .before .before in
+    let s = m .before .before .before .before in
     let a = s .args in
-    let i = c .before .before .loop in
-    omega (arith, i .inv .1, row-in (i .k) (a .plan .users) (a .row) (c .if1 .taken), rows-in (plan-of (a .plan)), ap (λ (x : ℕ). a .plan .users * x) (s .pre .1 .0), s .pre .0 .long)
+    let i = l .loop in
+    omega (
+      arith,
+      i .inv .1,
+      row-in (i .k) (a .plan .users) (a .row) (c .if1 .taken),
+      rows-in (plan-of (a .plan)),
+      ap (λ (x : ℕ). a .plan .users * x) (s .pre .1 .0),
+      s .pre .0 .long,
+    )
 
 slice-aggregate-put-by : tie.Need-slice-aggregate-put-by Inv-loop μ-loop
 slice-aggregate-put-by c = search needs
@@ -91,11 +105,15 @@ unfolding items places
 put-by-requires c κs =
     let t = c .before .before .before in
     let i = t .before .before .loop in
-    let s = t .before .before .before .before .before .before .before .before .before in
+    let m = t .before .before .before .before in
+    let s = m .before .before .before .before .before in
     (omega arith, omega arith, omega arith, omega (arith, inside t, s .pre .1 .0), omega (arith, i .inv .2, i .inv .3 .long, t .if1 .taken))
 
 add-from : tie.Need-add-from Inv-loop μ-loop
-add-from c = omega (arith, inside (c .before .before .before .before .before), c .before .before .before .before .before .before .before .before .before .before .before .before .before .before .good)
+add-from c =
+    let t = c .before .before .before .before .before in
+    let m = t .before .before .before .before in
+    omega (arith, inside t, m .before .before .before .before .before .good)
 
 add-at : tie.Need-add-at Inv-loop μ-loop
 add-at c = search needs
@@ -111,18 +129,21 @@ unfolding items
 loop-again c =
     let t = c .before .before .before .before .before in
     let i = t .before .before .loop in
-    let s = t .before .before .before .before .before .before .before .before .before in (
+    let m = t .before .before .before .before in
+    let s = m .before .before .before .before .before in (
       omega (arith, t .if1 .taken),
       ap (λ (n : ℕ). n + s .args .row) (i .inv .1) ∙ row-next (i .k) (s .args .row),
       omega (arith, i .inv .2),
-      rw (c .before .put-by .ensures, t .before .before .before .before .no-sums .ensures)
-          (more (i .inv .3) (t .before .before .before .before .before .before .coefficients .ensures) (s .pre .0 .good .blocks-high) (omega (arith, t .if1 .taken)) _ _ (i .inv .1 ∙ ap (λ (n : ℕ). i .k * n) (s .pre .1 .0)) (i .inv .2)),
+      rw (c .before .put-by .ensures, m .no-sums .ensures)
+          (more (i .inv .3) (m .before .before .coefficients .ensures) (s .pre .0 .good .blocks-high) (omega (arith, t .if1 .taken)) _ _
+          (i .inv .1 ∙ ap (λ (n : ℕ). i .k * n) (s .pre .1 .0)) (i .inv .2)),
     )
 
 returns : tie.Need-returns Inv-loop μ-loop
 returns c =
     let i = c .before .before .loop in
-    let e : i .k ≡ c .before .before .before .before .before .before .before .before .before .args .plan .users = omega (arith, c .if1 .left, i .inv .0) in
+    let m = c .before .before .before .before in
+    let e : i .k ≡ m .before .before .before .before .before .args .plan .users = omega (arith, c .if1 .left, i .inv .0) in
     done e (i .inv .3)
 
 pub mask-products-spec : {M : Type 1} → statement M

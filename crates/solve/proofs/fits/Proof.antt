@@ -41,15 +41,17 @@ factors-requires c κs =
 
 same-row-requires : tie.Need-same-row-requires Inv-loop μ-loop
 same-row-requires c κs =
-    let l = c .before .before .before .before .loop in
-    let s = c .before .before .before .before .before in
-    (s .pre .2, omega (arith, l .inv .2, c .before .before .before .loop-test .taken), filled-factors _ _ _ (omega arith) (c .before .factors .ensures))
+    let t = c .before .before .before in
+    let l = t .before .loop in
+    (t .before .before .pre .2, omega (arith, l .inv .2, t .loop-test .taken), filled-factors _ _ _ (omega arith) (c .before .factors .ensures))
 
 returns : tie.Need-returns Inv-loop μ-loop
 returns c =
-    let l = c .before .before .before .before .before .before .loop in
-    let e = row-same _ _ _ _ _ _ _ (l .a) _ (omega arith) (c .before .before .before .factors .ensures) (l .inv .2) in
-    sym (sym (l .inv .3) ∙ all-of-stop _ _ (l .a) (c .before .before .before .before .before .loop-test .taken) (sym e ∙ sym (c .before .same-row .ensures) ∙ not-true _ (c .if1 .taken)))
+    let f = c .before .before .before in
+    let t = f .before .before in
+    let l = t .before .loop in
+    let e = row-same _ _ _ _ _ _ _ (l .a) _ (omega arith) (f .factors .ensures) (l .inv .2) in
+    sym (sym (l .inv .3) ∙ all-of-stop _ _ (l .a) (t .loop-test .taken) (sym e ∙ sym (c .before .same-row .ensures) ∙ not-true _ (c .if1 .taken)))
 
 add-at : tie.Need-add-at Inv-loop μ-loop
 add-at c = search needs
@@ -62,9 +64,15 @@ loop-less c = search needs
 
 loop-again : tie.Need-loop-again Inv-loop μ-loop
 loop-again c =
-    let l = c .before .before .before .before .before .before .loop in
-    let e = row-same _ _ _ _ _ _ _ (l .a) _ (omega arith) (c .before .before .before .factors .ensures) (l .inv .2) in
-    (omega arith, omega arith, omega (arith, l .inv .2), all-of-pass _ _ (l .a) (c .before .before .before .before .before .loop-test .taken) (sym e ∙ sym (c .before .same-row .ensures) ∙ not-false _ (c .if1 .left)) ∙ l .inv .3)
+    let f = c .before .before .before in
+    let t = f .before .before in
+    let l = t .before .loop in
+    let e = row-same _ _ _ _ _ _ _ (l .a) _ (omega arith) (f .factors .ensures) (l .inv .2) in (
+      omega arith,
+      omega arith,
+      omega (arith, l .inv .2),
+      all-of-pass _ _ (l .a) (t .loop-test .taken) (sym e ∙ sym (c .before .same-row .ensures) ∙ not-false _ (c .if1 .left)) ∙ l .inv .3,
+    )
 
 returns-2 : tie.Need-returns-2 Inv-loop μ-loop
 returns-2 c = sym (sym (c .before .loop .inv .3) ∙ all-of-end _ _ _ (c .loop-test .left))

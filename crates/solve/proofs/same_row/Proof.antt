@@ -23,7 +23,8 @@ abbrev passes : (list grid : List ℕ) → (n : ℕ) → (values : List ℕ) →
 passes cs g n vs at b = eqb (combined cs g n b) (getD vs (at + b) 0)
 
 abbrev Inv-loop : tie.InvT-loop
-Inv-loop list grid n values at blocks good₀ b₀ good b = (b ≤ blocks) × ((good && all-of (passes list grid n values at) (span (blocks - b) b)) ≡ all-of (passes list grid n values at) (span blocks 0))
+Inv-loop list grid n values at blocks good₀ b₀ good b =
+    (b ≤ blocks) × ((good && all-of (passes list grid n values at) (span (blocks - b) b)) ≡ all-of (passes list grid n values at) (span blocks 0))
 
 abbrev μ-loop : tie.MeasureT-loop
 μ-loop list grid n values at blocks good₀ b₀ good b = blocks - b
@@ -54,9 +55,10 @@ loop-less c = search needs
 
 loop-again : tie.Need-loop-again Inv-loop μ-loop
 loop-again c =
-    let l = c .before .before .before .before .before .loop in
-    let h = c .before .before .before .before .loop-test .taken in
-    let e = c .before .before .reduce .ensures ∙ c .before .before .before .dot .ensures .0 in
+    let d = c .before .before .before in
+    let l = d .before .before .loop in
+    let h = d .before .loop-test .taken in
+    let e = c .before .before .reduce .ensures ∙ d .dot .ensures .0 in
     let g : Bool → Bool = λ b. l .good && b in (
       search needs,
       ⊎-elim
