@@ -5,16 +5,20 @@
 --   ends-none, ends-some                             one step where the input ends
 -- Assumes nothing.
 use mathlib.Core.Path.{_≡_, refl, sym, ap, _∙_, subst}
-use mathlib.Core.Bool.{Bool, true, false}
+use mathlib.Core.Bool.{Bool, true, false, cond}
 use mathlib.Core.List.{List, [], _∷_, _++_}
 use Prim.Native.Nat.{ℕ, _+_, _-_, _^_, _≤_, _<_}
 use native.Mathlib.Nat.{zero-add}
 use native.Mathlib.Decide.{decLe, ℕ-discrete}
 use native.Mathlib.Omega.{arith}
+use lib.Dec.{eqb}
+use lib.IntN.{pos, negsuc}
+use lib.Signed.{ltZ}
 use lib.ListN.{length, take, drop, take-append-drop, length-append, length-drop}
 use lib.Seq.{sets, sets-eq, take-take, length-take-le, length-sets}
 use borrow.Author.Tests.{eq-eqb, ne-eqb, le-leb}
 use borrow.Rule.Slice.PartMut.{putMid, take-put}
+use Rattle.io.specs.Counts.{clamped}
 use Rattle.scheme.specs.Service.{refused}
 use Rattle.service.specs.declared.Service.{Service}
 use Rattle.lines.specs.Text.{numbers, line}
@@ -34,7 +38,8 @@ use Rattle.pool.specs.declared.Next.{Next}
 use Rattle.pool.specs.declared.Next.the-variants.{Await, Refuse, Over}
 use Rattle.pool.specs.declared.Live.{Live}
 use Rattle.pool.specs.Turns.{again, Turn, comes, fed-turn, at-end, silent, step-by}
-use Rattle.pool.specs.Pool.{quieted, Leaves, brought, Untouched, read-as, Fills, step-of, stepped}
+use Rattle.pool.specs.Pool.{quieted, Leaves, brought, Untouched, interrupted, read-as, Fills, step-of, stepped}
+use Rattle.pool.proofs.Answers.{clamped-inside}
 
 -- ---- one read
 pub front-kept : (a k : ℕ) (xs ys : List ℕ) → a < length xs → take a (putMid a k xs ys) ≡ take a xs
@@ -44,25 +49,29 @@ front-kept a k xs ys h = take-put a k xs ys (omega arith)
 module _ (b b′ : List ℕ) (have : ℕ) (r : Read) (g : Fills b b′ have r) (n : ℕ) (e : r ≡ Bytes n) where
   pub fills-inside : (have < n) × (n ≤ length b)
   unfolding read-as
-  fills-inside = pick (g .fails) (g .retry) (ℕ-discrete (g .count) 0) (sym (g .result) ∙ e)
+  fills-inside = pick (ltZ (g .got) (pos 0)) (interrupted (g .error)) (ℕ-discrete count 0) (sym (g .result) ∙ e)
     where
-      pick : (f y : Bool) → Dec (g .count ≡ 0) → read-as have (g .count) f y ≡ Bytes n → (have < n) × (n ≤ length b)
+      count : ℕ
+      count = clamped (g .got) (length b - have)
+
+      pick : (f y : Bool) → Dec (count ≡ 0) → cond f (cond y Again Failed) (cond (eqb count 0) End (Bytes (have + count))) ≡ Bytes n
+          → (have < n) × (n ≤ length b)
       pick true true d x = let z : _≡_ {A = ℕ} 0 1 = cc in absurd (omega arith)
       pick true false d x = let z : _≡_ {A = ℕ} 0 1 = cc in absurd (omega arith)
       pick false y (yes d) x =
-          let u : End ≡ Bytes n = rw (eq-eqb (g .count) 0 d) at x in
+          let u : End ≡ Bytes n = rw (eq-eqb count 0 d) at x in
           let z : _≡_ {A = ℕ} 0 1 = cc in
           absurd (omega arith)
       pick false y (no d) x =
-          let u : Bytes (have + g .count) ≡ Bytes n = rw (ne-eqb (g .count) 0 d) at x in
-          let k : have + g .count ≡ n = cc in
-          (omega (arith, d), omega (arith, g .inside))
+          let u : Bytes (have + count) ≡ Bytes n = rw (ne-eqb count 0 d) at x in
+          let k : have + count ≡ n = cc in
+          (omega (arith, d), omega (arith, g .inside, clamped-inside (g .got) (length b - have)))
 
 -- where none is due
 pub asked : (x y : Next) {b : List ℕ} {have : ℕ} → have ≤ length b → x ≡ y → Untouched y Again b b → Fills b b have Again × Untouched x Again b b
-unfolding read-as
+unfolding read-as interrupted
 asked x y {b} h e u =
-    (record { count = 0; fails = true; retry = true; front = refl; inside = omega arith; result = refl }, subst (λ (z : Next). Untouched z Again b b) (sym e) u)
+    (record { got = negsuc 0; error = pos 4; front = refl; inside = h; moved = refl; result = refl }, subst (λ (z : Next). Untouched z Again b b) (sym e) u)
 
 pub asked-due : (x : Next) (r : Read) (b b′ : List ℕ) → x ≡ Await → Untouched x r b b′
 unfolding Untouched

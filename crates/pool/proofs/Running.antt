@@ -10,9 +10,12 @@ use Prim.Native.Nat.{ℕ, _+_, _-_, _^_, _≤_, _<_}
 use native.Mathlib.Decide.{decLe, ℕ-discrete}
 use native.Mathlib.Omega.{arith}
 use lib.Dec.{eqb}
+use lib.IntN.{pos}
+use lib.Signed.{ltZ}
 use lib.ListN.{length, getD, take, length-take}
 use lib.Seq.{sets, length-take-le, length-sets}
 use borrow.Author.Tests.{eq-eqb, ne-eqb, le-leb, lt-leb}
+use Rattle.io.specs.Counts.{clamped}
 use Rattle.service.specs.declared.Service.{Service}
 use Rattle.service.specs.Calls.{new-service}
 use Rattle.lines.specs.Put.{room}
@@ -24,19 +27,29 @@ use Rattle.pool.specs.declared.Next.the-variants.{Await, Feed, Refuse, O
 use Rattle.pool.specs.declared.Live.{Live}
 use Rattle.pool.specs.declared.Wrote.{Wrote}
 use Rattle.pool.specs.Turns.{Came, Turn, first-turn, step-by, step, sent, Due, Turns, none, more}
-use Rattle.pool.specs.Pool.{live-of, Leaves, brought, Untouched, Fills, stepped, write-as, Goes-on, Writes, settled, longest, Sound, Turned, is-over, Ran}
+use Rattle.pool.specs.Pool.{live-of, Leaves, brought, Untouched, Fills, stepped, interrupted, write-as, Goes-on, Writes, settled, longest, Sound, Turned, is-over, Ran}
 use Rattle.pool.specs.Promise.{Unfinished, Stands, So-far, Run-right}
+use Rattle.pool.proofs.Answers.{clamped-inside}
 use Rattle.pool.proofs.Promise.{run-right}
 use Rattle.pool.proofs.Leaving.{front-sets}
 
 -- ---- one write
 pub goes-inside : (at n : ℕ) (w : Wrote) → Goes-on at n w → w .at ≤ n
 unfolding write-as
-goes-inside at n w g = pick (ℕ-discrete (g .count) 0) (ap (λ (x : Wrote). x .at) (g .result))
+goes-inside at n w g = pick (ltZ (g .put) (pos 0)) (ℕ-discrete count 0) (ap (λ (x : Wrote). x .at) (g .result))
   where
-    pick : Dec (g .count ≡ 0) → w .at ≡ write-as at (g .count) (g .retry) .at → w .at ≤ n
-    pick (yes d) x = let u : w .at ≡ at = rw (eq-eqb (g .count) 0 d) at x in omega (arith, g .inside)
-    pick (no d) x = let u : w .at ≡ at + g .count = rw (ne-eqb (g .count) 0 d) at x in omega (arith, g .inside)
+    count : ℕ
+    count = clamped (g .put) (n - at)
+
+    behind : Wrote
+    behind = cond (eqb count 0) (record { at = at; ok = false }) (record { at = at + count; ok = true })
+
+    pick : (f : Bool) → Dec (count ≡ 0) → w .at ≡ cond f (record { at = at; ok = interrupted (g .error) }) behind .at → w .at ≤ n
+    pick true d x = omega (arith, x, g .inside)
+    pick false (yes d) x = let u : w .at ≡ at = rw (eq-eqb count 0 d) at x in omega (arith, g .inside)
+    pick false (no d) x =
+        let u : w .at ≡ at + count = rw (ne-eqb count 0 d) at x in
+        omega (arith, g .inside, clamped-inside (g .put) (n - at))
 
 -- ---- one turn
 settle-sent : (t : Turn) (w : Wrote) → Writes (length (t .text)) w → settled (live-of t) w ≡ live-of (sent (w .at) t)

@@ -3,14 +3,15 @@
 --   quieted, is-over        nothing to write; the run is over
 --   Leaves                  what a step leaves: its value, and both buffers whole
 --   brought, Untouched      what a read brings; no read is made where none is due
+--   interrupted             what errno tells behind a call that failed
 --   read-as, Fills, Ready   one read: the bytes that waited stay in front; there is room for what was read, and for a line
 --   step-of, stepped        one step of the code's value
---   write-as, Goes-on       one write
+--   write-as, Goes-on       one write of the bytes that are left
 --   Writes, settled         how far a text is written; the value behind that
 --   longest, Sound          there is room for a read where one is due, and for a line
 --   Turned                  one turn: a read, its step, and how far its text was written
 --   Ran                     a run from the start on
--- Of what is read and written no contract of the C library speaks. Assumes nothing: these are definitions.
+-- Of the bytes read and written, and of errno, no contract of the C library speaks. Assumes nothing: these are definitions.
 use mathlib.Core.Path.{_≡_}
 use mathlib.Core.Bool.{Bool, true, false, cond}
 use mathlib.Core.List.{List}
@@ -18,6 +19,10 @@ use Prim.Native.Nat.{ℕ, _+_, _-_, _^_, _≤_, _<_}
 use lib.Dec.{eqb, leb}
 use lib.ListN.{length, take, drop}
 use lib.Seq.{sets}
+use lib.IntN.{ℤ, pos, negsuc}
+use lib.Signed.{ltZ}
+use Rattle.libc.specs.Io.{Moved}
+use Rattle.io.specs.Counts.{clamped}
 use Rattle.lines.specs.Put.{room}
 use Rattle.pool.specs.declared.Read.{Read}
 use Rattle.pool.specs.declared.Read.the-variants.{Bytes, End, Again, Failed}
@@ -62,18 +67,23 @@ Untouched Feed r b b′ = (r ≡ Again) × (b′ ≡ b)
 Untouched (Refuse y) r b b′ = (r ≡ Again) × (b′ ≡ b)
 Untouched (Over y) r b b′ = (r ≡ Again) × (b′ ≡ b)
 
--- an answer of read that counts n more bytes: a failure or an interruption, the end, or that many bytes are there
-unfoldable pub read-as : (have n : ℕ) → (fails retry : Bool) → Read
-read-as h n f g = cond f (cond g Again Failed) (cond (eqb n 0) End (Bytes (h + n)))
+-- errno where a call was interrupted before it moved a byte
+unfoldable pub interrupted : (error : ℤ) → Bool
+interrupted (pos e) = eqb e 4
+interrupted (negsuc e) = false
 
--- a read leaves in front what waited, and counts no more than there is room for
+-- an answer of read that counts n more bytes: below 0 an interruption or a failure, as errno tells; the end; or that many bytes are there
+unfoldable pub read-as : (have n : ℕ) → (got error : ℤ) → Read
+read-as h n g e = cond (ltZ g (pos 0)) (cond (interrupted e) Again Failed) (cond (eqb n 0) End (Bytes (h + n)))
+
+-- a read leaves in front what waited; `got` and `error` are its answer and errno behind it, and it counts no more than there is room for
 pub record Fills (b b-now : List ℕ) (have : ℕ) (r : Read) : Type 0 where
-  pub count : ℕ
-  pub fails : Bool
-  pub retry : Bool
+  pub got : ℤ
+  pub error : ℤ
   pub front : take have b-now ≡ take have b
-  pub inside : have + count ≤ length b
-  pub result : r ≡ read-as have count fails retry
+  pub inside : have ≤ length b
+  pub moved : Moved (length b - have) got
+  pub result : r ≡ read-as have (clamped got (length b - have)) got error
 
 pub record Ready (l : Live) (r : Read) (b out : List ℕ) : Type 0 where
   pub have : l .have ≤ length b
@@ -89,15 +99,18 @@ abbrev pub stepped : (n : ℕ) → Live → Read → (b : List ℕ) → Turn
 stepped n l r b = step-of n (l .next) (brought r (l .have) b) l b
 
 -- ---- ONE TURN
--- an answer of write that counts n more bytes: it goes on behind them, or where it was interrupted
-unfoldable pub write-as : (at n : ℕ) → (retry : Bool) → Wrote
-write-as i n g = cond (eqb n 0) (record { at = i; ok = g }) (record { at = i + n; ok = true })
+-- an answer of write that counts n more bytes: below 0 it goes on where it was, if errno tells an interruption; none; or it goes on behind them
+unfoldable pub write-as : (at n : ℕ) → (put error : ℤ) → Wrote
+write-as i n p e =
+    cond (ltZ p (pos 0)) (record { at = i; ok = interrupted e }) (cond (eqb n 0) (record { at = i; ok = false }) (record { at = i + n; ok = true }))
 
+-- of n bytes those behind the first `at` are lent; `put` and `error` are the answer and errno behind it
 pub record Goes-on (at n : ℕ) (w : Wrote) : Type 0 where
-  pub count : ℕ
-  pub retry : Bool
-  pub inside : at + count ≤ n
-  pub result : w ≡ write-as at count retry
+  pub put : ℤ
+  pub error : ℤ
+  pub inside : at ≤ n
+  pub moved : Moved (n - at) put
+  pub result : w ≡ write-as at (clamped put (n - at)) put error
 
 -- of n bytes: all, or fewer where a write failed
 pub record Writes (n : ℕ) (w : Wrote) : Type 0 where

@@ -64,13 +64,13 @@ pub struct Wrote {
     pub ok: bool,
 }
 
-// What an answer of read means that counts so many more bytes.
-fn read_as(have: usize, more: usize, fails: bool, retry: bool) -> Read
+// What an answer of read means that counts so many more bytes, where errno is that behind it.
+fn read_as(have: usize, more: usize, got: isize, error: i32) -> Read
     requires { ⌜ have + more < 2 ^ 64 ⌝ }
-    ensures { λ r. ⌜ r ≡ read-as have more fails retry ⌝ }
+    ensures { λ r. ⌜ r ≡ read-as have more got error ⌝ }
 {
-    if fails {
-        if retry {
+    if got < 0 {
+        if error == libc::EINTR {
             return Read::Again;
         }
         return Read::Failed;
@@ -88,8 +88,8 @@ fn fill(buf: &mut [u8], have: usize) -> Read
 {
     let got = libc::read(STDIN_FILENO, &mut buf[have..]);
     let n = io::count(got, &buf[have..]);
-    let retry = os::errno() == libc::EINTR;
-    read_as(have, n, got < 0, retry)
+    let error = os::errno();
+    read_as(have, n, got, error)
 }
 
 // A read where one is due.
@@ -220,13 +220,20 @@ fn step(live: Live, read: Read, buf: &mut [u8], out: &mut [u8]) -> Live
     }
 }
 
-// How far a text is written, and whether to go on, behind an answer of write that counts n more bytes.
-fn write_as(at: usize, n: usize, retry: bool) -> Wrote
+// How far a text is written, and whether to go on, behind an answer of write that counts n more bytes: a failure goes on only where errno
+// tells an interruption, and an answer that counts none does not.
+fn write_as(at: usize, n: usize, put: isize, error: i32) -> Wrote
     requires { ⌜ at + n < 2 ^ 64 ⌝ }
-    ensures { λ r. ⌜ r ≡ write-as at n retry ⌝ }
+    ensures { λ r. ⌜ r ≡ write-as at n put error ⌝ }
 {
+    if put < 0 {
+        return Wrote {
+            at,
+            ok: error == libc::EINTR,
+        };
+    }
     if n == 0 {
-        return Wrote { at, ok: retry };
+        return Wrote { at, ok: false };
     }
     Wrote {
         at: at + n,
@@ -241,8 +248,8 @@ fn write_from(text: &[u8], at: usize) -> Wrote
 {
     let put = libc::write(STDOUT_FILENO, &text[at..]);
     let n = io::count(put, &text[at..]);
-    let retry = os::errno() == libc::EINTR;
-    write_as(at, n, retry)
+    let error = os::errno();
+    write_as(at, n, put, error)
 }
 
 // Writes all of text, and answers how far it is written, and whether that is all.

@@ -1,9 +1,14 @@
 -- `pool::fill` meets its contract: only bytes behind those that waited are lent to the read.
 -- Assumes nothing.
-use Prim.Native.Nat.{_-_}
+use mathlib.Core.Path.{subst}
+use Prim.Native.Nat.{ℕ, _-_}
 use native.Mathlib.Omega.{arith}
 use lib.ListN.{length}
 use borrow.Author.Needs.{needs}
+use borrow.Rule.Slice.PartMut.{mid-len}
+use Rattle.libc.specs.Io.{Moved}
+use Rattle.pool.specs.Pool.{read-as}
+use Rattle.pool.proofs.Answers.{answered}
 use Rattle.pool.proofs.Leaving.{front-kept}
 use Rattle.pool.proofs.fill.Statement.{statement}
 use Rattle.pool.proofs.fill.Tie as tie
@@ -45,15 +50,19 @@ returns : tie.Need-returns
 returns c =
     let a = c .before .before .before .before .before .before .before .before .before .before .args in
     let n = c .before .before .count in
+    let error = c .before .errno in
+    let got = c .before .before .before .before .before .before .before .read in
     let read = c .before .before .before .before .before .before .before .read .last .1 .0 in
     let h = c .before .before .before .before .before .before .before .before .before .before .pre in
     record {
-      count = n .result;
-      fails = _;
-      retry = _;
+      got = got .result;
+      error = error .result;
       front = front-kept (a .have) (length (a .buf .now) - a .have) (a .buf .now) read h;
-      inside = omega (arith, n .ensures);
-      result = c .read-as .ensures;
+      inside = omega arith;
+      moved = subst (λ (i : ℕ). Moved i (got .result)) (mid-len (a .have) (length (a .buf .now)) (a .buf .now) (omega arith)) (got .ensures);
+      result =
+          answered (read-as (a .have)) (got .result) (error .result) (record { sfits = got .ok }) (record { sfits = error .ok }) (c .read-as .ensures)
+          (n .ensures .1) (omega arith);
     }
 
 pub fill-spec : {M : Type 1} → statement M

@@ -1,7 +1,14 @@
 -- `pool::write_from` meets its contract: no more is counted than was lent.
 -- Assumes nothing.
+use mathlib.Core.Path.{subst}
+use Prim.Native.Nat.{ℕ}
 use native.Mathlib.Omega.{arith}
+use lib.ListN.{length}
 use borrow.Author.Needs.{needs}
+use borrow.Rule.Slice.PartMut.{mid-len}
+use Rattle.libc.specs.Io.{Moved}
+use Rattle.pool.specs.Pool.{write-as}
+use Rattle.pool.proofs.Answers.{answered}
 use Rattle.pool.proofs.write_from.Statement.{statement}
 use Rattle.pool.proofs.write_from.Tie as tie
 
@@ -37,8 +44,19 @@ write-as-requires c κs = search needs
 
 returns : tie.Need-returns
 returns c =
+    let a = c .before .before .before .before .before .before .before .args in
     let n = c .before .before .count in
-    record { count = n .result; retry = _; inside = omega (arith, n .ensures); result = c .write-as .ensures }
+    let error = c .before .errno in
+    let put = c .before .before .before .before .write in
+    record {
+      put = put .result;
+      error = error .result;
+      inside = omega arith;
+      moved = subst (λ (i : ℕ). Moved i (put .result)) (mid-len (a .at) (length (a .text .now)) (a .text .now) (omega arith)) (put .ensures);
+      result =
+          answered (write-as (a .at)) (put .result) (error .result) (record { sfits = put .ok }) (record { sfits = error .ok }) (c .write-as .ensures)
+          (n .ensures .1) (omega arith);
+    }
 
 pub write-from-spec : {M : Type 1} → statement M
 write-from-spec =
