@@ -36,7 +36,7 @@ fn a_round_gives_the_survivors_total() {
     assert_eq!(run(&stream), "plan 4 3 1 2\nopen 1\nsurvivors 1 13\ntotal 1 21 1 10 389\n");
 }
 
-/// Shows that lists are drawn anew, within the range, and that keys are those of the second implementation.
+/// Shows that lists are drawn anew, and that keys are those of the second implementation.
 #[test]
 fn lists_and_keys_are_those_of_the_plan() {
     let folder = Folder::new("keys");
@@ -50,6 +50,30 @@ fn lists_and_keys_are_those_of_the_plan() {
     let mut key = [0; 2048];
     make_key([8, 2, 1, 16], 8, &list, &mut key).unwrap();
     assert_eq!(folder.numbers("end", "key"), key.map(u32::from));
+}
+
+/// Shows that identity and elements are the bytes of the system's source, each byte used once and in order, numbers that are no element
+/// left out; and that nothing is made where the source fails.
+#[test]
+fn a_list_is_what_the_source_gave() {
+    let folder = Folder::new("source");
+    let identity: Vec<u8> = (0..16).map(|at| at * 17).collect();
+    let drawn = [65520, 65521, 7, 65535, 65522, 0, 256, 65519, 40000, 7, 65530, 300];
+    let source = [identity, drawn.iter().flat_map(|number: &u16| number.to_le_bytes()).collect()].concat();
+    folder.write("source", &source, 0o600);
+    let list = |source: &str| {
+        let words = ["list", "3", "2", "1", "1", "list"];
+        common::Said::from(folder.shimmed(&words, "none", "0").env("SHIM_RANDOM", folder.at(source)).output().unwrap())
+    };
+    list("source").done();
+    assert!(String::from_utf8(folder.read("list")).unwrap().contains("\nlist 00112233445566778899aabbccddeeff\n"));
+    assert_eq!(folder.numbers("list", "elements"), [65520, 7, 0, 256, 65519, 40000, 7]);
+    folder.airfield(&["destroy", "list"]).done();
+    for length in [0, 15, 16, 17, 34, 35] {
+        folder.write("short", &source[..length], 0o600);
+        list("short").failed(&["the system's source of randomness"]);
+        assert_eq!(folder.names(), ["short", "source"]);
+    }
 }
 
 /// Shows that a list makes one end for each airfield: a second one would send a second message under the same key.

@@ -1,6 +1,7 @@
 /* Loaded before the C library (LD_PRELOAD), it counts the steps that change files or print: creating, changing a mode, writing,
  * syncing, renaming, removing. SHIM_LOG names a file that gets a line for each step. At step number SHIM_STEP, or at the first step of
- * the name SHIM_STEP, before it is taken, SHIM_DO says what happens: kill, stop (until the process is continued) or fail. */
+ * the name SHIM_STEP, before it is taken, SHIM_DO says what happens: kill, stop (until the process is continued) or fail.
+ * SHIM_RANDOM names a file that stands for the system's source of randomness: its bytes in order, one a call, then a failure. */
 #define _GNU_SOURCE
 #include <dlfcn.h>
 #include <errno.h>
@@ -10,6 +11,7 @@
 #include <stdio.h>
 #include <stdlib.h>
 #include <string.h>
+#include <sys/random.h>
 #include <sys/stat.h>
 #include <sys/syscall.h>
 #include <unistd.h>
@@ -101,4 +103,18 @@ int rename(const char *from, const char *to)
 int unlink(const char *path)
 {
     return step("remove", path) ? -1 : REAL(unlink)(path);
+}
+
+ssize_t getrandom(void *buffer, size_t count, unsigned flags)
+{
+    static off_t drawn = 0;
+    const char *source = getenv("SHIM_RANDOM");
+    if (source == NULL)
+        return REAL(getrandom)(buffer, count, flags);
+    int file = (int)syscall(SYS_openat, AT_FDCWD, source, O_RDONLY);
+    ssize_t got = count > 0 ? pread(file, buffer, 1, drawn) : 0;
+    syscall(SYS_close, file);
+    drawn += got;
+    errno = EIO;
+    return count > 0 && got != 1 ? -1 : got;
 }
