@@ -2,11 +2,13 @@
 //!
 //! - `input`, `output`: as files, whose every fault is told
 //! - `write`: all bytes to standard output
+//! - `is_output`: whether a file is the one that standard output leads to
 //! - `complain`: a line on standard error, if that is possible
 
 use crate::system::was_closed;
-use std::fs::File;
+use std::fs::{File, Metadata};
 use std::io::{self, Write};
+use std::os::unix::fs::MetadataExt;
 use std::os::unix::io::AsFd;
 
 const INPUT: usize = 0;
@@ -29,6 +31,11 @@ fn opened(number: usize, handle: impl AsFd, name: &str) -> Result<File, String> 
 
 pub fn write(output: &mut File, bytes: &[u8]) -> Result<(), String> {
     output.write_all(bytes).map_err(|fault| format!("standard output: {fault}"))
+}
+
+pub fn is_output(found: &Metadata) -> bool {
+    let output = output().ok().and_then(|output| output.metadata().ok());
+    output.map_or(false, |output| (output.dev(), output.ino()) == (found.dev(), found.ino()))
 }
 
 /// What cannot be printed is escaped. A fault of standard error itself leaves nobody to tell; the exit status still does.

@@ -132,6 +132,35 @@ fn what_stands_in_the_way_of_a_new_version_is_refused() {
     folder.airfield(&["first", "end1", "10"]).done();
 }
 
+/// Shows that an end does not take the name that the list's new version needs: it would be removed as a leftover.
+#[test]
+fn an_end_does_not_take_the_name_of_the_lists_new_version() {
+    let folder = Folder::new("own");
+    folder.airfield(&["list", "3", "2", "1", "1", "list"]).done();
+    folder.link(".", "here");
+    folder.link("list", "link");
+    let before = folder.read("list");
+    for (list, end) in [("list", "list.new"), ("list", "./list.new"), ("list", "here/list.new"), ("link", "list.new")] {
+        folder.airfield(&["key", list, "1", end]).failed(&[end, "the list's own new version"]);
+        assert_eq!((folder.read("list"), folder.names()), (before.clone(), ["here", "link", "list"].map(String::from).to_vec()));
+    }
+    folder.airfield(&["key", "link", "1", "link.new"]).done();
+    folder.airfield(&["status", "link.new"]).done();
+}
+
+/// Shows that a message does not vanish in a file that the tool replaces or removes.
+#[test]
+fn output_into_the_end_or_its_new_version_is_refused() {
+    let folder = Folder::with_ends("into");
+    let before = folder.read("end1");
+    let said = folder.shell("umask 077; $AIRFIELD first end1 5 > end1.new");
+    said.failed(&["end1.new: standard output leads there"]);
+    assert_eq!((folder.read("end1"), folder.read("end1.new")), (before.clone(), vec![]));
+    folder.shell("$AIRFIELD first end1 5 >> end1").failed(&["end1: standard output leads into it"]);
+    assert_eq!(folder.read("end1"), before);
+    assert_eq!(folder.shell("$AIRFIELD first end1 5 > out; cat out").done(), folder.message("end1", 5));
+}
+
 /// Shows that what a killed run leaves is overwritten and removed, and the command works.
 #[test]
 fn leftovers_of_a_killed_run_are_destroyed() {

@@ -2,6 +2,7 @@
 mod common;
 
 use common::{end_of, send, wait_for_stop, Folder, AIRFIELD};
+use std::fs;
 use std::io::Read;
 use std::process::{Child, ChildStderr};
 use std::time::Duration;
@@ -87,7 +88,7 @@ fn what_comes_in_the_way_meanwhile_is_refused() {
         send(&run, "-CONT");
         end_of(run).failed(&["end1.new: File exists"]);
         assert_eq!((folder.read("end1"), folder.read("elsewhere")), (end.clone(), b"elsewhere".to_vec()));
-        std::fs::remove_file(folder.at("end1.new")).unwrap();
+        fs::remove_file(folder.at("end1.new")).unwrap();
     }
 }
 
@@ -115,7 +116,51 @@ fn two_keys_at_once_make_one_end() {
     assert_eq!(folder.names(), ["end", "list"]);
 }
 
-/// Shows the same without any shim: many runs, each with its own figure.
+/// Shows that success is told only of a file that has its name, alone: whatever else happens to it meanwhile is told, and whatever took
+/// its place is left alone.
+#[test]
+fn a_name_that_is_lost_meanwhile_is_told() {
+    let happens: [(&str, &dyn Fn(&Folder, &str)); 3] = [
+        ("its name was removed meanwhile", &|folder, name| fs::remove_file(folder.at(name)).unwrap()),
+        ("another file was put in its place meanwhile", &|folder, name| {
+            folder.write("other", b"other", 0o600);
+            fs::rename(folder.at("other"), folder.at(name)).unwrap();
+        }),
+        ("it was given a second name", &|folder, name| fs::hard_link(folder.at(name), folder.at(&format!("{name}.second"))).unwrap()),
+    ];
+    for (told, happen) in happens {
+        let folder = Folder::new("lost");
+        let list = stopped(&folder, &["list", "3", "2", "1", "1", "list"], "write list");
+        happen(&folder, "list");
+        send(&list, "-CONT");
+        end_of(list).failed(&["list: ", told]);
+        assert!(fs::read(folder.at("list")).map_or(true, |bytes| bytes == b"other"));
+        folder.airfield(&["list", "3", "2", "1", "1", "spare"]).done();
+        let key = stopped(&folder, &["key", "spare", "1", "end"], "write end");
+        happen(&folder, "end");
+        send(&key, "-CONT");
+        end_of(key).failed(&["end: ", told, "spare counts the end as made, so draw a new list"]);
+        assert!(fs::read(folder.at("end")).map_or(true, |bytes| bytes == b"other"));
+        folder.airfield(&["key", "spare", "2", "end2"]).done();
+        let first = stopped(&folder, &["first", "end2", "5"], "sync lost");
+        happen(&folder, "end2");
+        send(&first, "-CONT");
+        end_of(first).failed(&["end2: ", told]);
+    }
+}
+
+/// Shows that a list that is destroyed while it is made is not told as made.
+#[test]
+fn a_list_that_is_destroyed_before_it_is_written_is_told() {
+    let folder = Folder::new("unmade");
+    let list = stopped(&folder, &["list", "3", "2", "1", "1", "list"], "write list");
+    folder.airfield(&["destroy", "list"]).done();
+    send(&list, "-CONT");
+    end_of(list).failed(&["list: its name was removed meanwhile; nothing is left of the new file"]);
+    assert!(folder.names().is_empty());
+}
+
+/// Many runs, each with its own figure, and no shim.
 #[test]
 fn of_many_runs_one_sends() {
     let folder = Folder::with_ends("many");

@@ -7,7 +7,7 @@
 //! refused, and the lock is on the file itself: a run that has waited looks whether the name still leads to the file it has locked.
 
 use cutawheno_tools::command::shown;
-use cutawheno_tools::standard::complain;
+use cutawheno_tools::standard::{complain, is_output};
 use cutawheno_tools::system::{self, NOFOLLOW, NONBLOCK};
 use std::ffi::OsString;
 use std::fs::{self, File, Metadata, OpenOptions, Permissions};
@@ -32,8 +32,12 @@ pub struct New {
 }
 
 impl New {
-    pub fn create(path: &Path) -> Result<New, String> {
+    /// Not under a name that a new version of a held file would take.
+    pub fn create(path: &Path, held: Option<&Held>) -> Result<New, String> {
         let folder = folder_of(path)?;
+        if held.map_or(false, |held| resolved(path).map_or(false, |path| path == held.beside())) {
+            return Err(format!("{}: that is the name of the list's own new version; another is wanted", shown(path)));
+        }
         let file = create_private(path).map_err(|fault| match fault.kind() {
             io::ErrorKind::AlreadyExists => {
                 format!(
@@ -46,10 +50,11 @@ impl New {
         Ok(New { file, folder, path: path.to_path_buf() })
     }
 
-    /// Writes it and has it on the disk, or leaves none.
+    /// Writes it and has it on the disk under its name, or leaves none.
     pub fn write(mut self, bytes: &[u8]) -> Result<(), String> {
         let written = self.file.write_all(bytes).and_then(|()| self.file.sync_all()).and_then(|()| self.folder.sync_all());
-        written.map_err(|fault| format!("{}; {}", told(&self.path, &fault), self.remove()))
+        let stands = written.and_then(|()| stands(&self.file, &self.path));
+        stands.map_err(|fault| format!("{}; {}", told(&self.path, &fault), self.remove()))
     }
 
     /// Removes it again, and says so.
@@ -85,6 +90,9 @@ impl Held {
             let found = file.metadata().map_err(|fault| told(given, &fault))?;
             if fs::symlink_metadata(&path).map_or(false, |named| same_file(&named, &found)) {
                 check(&found, purpose).map_err(|fault| format!("{}: {fault}", shown(given)))?;
+                if is_output(&found) {
+                    return Err(format!("{}: standard output leads into it; lead it elsewhere", shown(given)));
+                }
                 return Ok(Held { file, given: given.to_path_buf(), path });
             }
         }
@@ -120,7 +128,7 @@ impl Held {
         if let Err(fault) = erase(&self.file) {
             complain(&format!("{}: its old bytes could not be overwritten: {fault}", shown(&self.given)));
         }
-        Ok(())
+        stands(&file, &self.path).map_err(|fault| format!("{}; nothing was printed", told(&self.given, &fault)))
     }
 
     /// Overwrites the file and removes it, and what a killed run may have left beside it if that begins with `head`; all on the disk.
@@ -152,6 +160,9 @@ impl Held {
         }
         let file = open_existing(new).map_err(|fault| in_the_way(&fault))?;
         let found = file.metadata().map_err(|fault| told(new, &fault))?;
+        if is_output(&found) {
+            return Err(format!("{}: standard output leads there, where the new version is to come; lead it elsewhere", shown(new)));
+        }
         check(&found, Purpose::Use).map_err(|fault| in_the_way(&fault))?;
         let bytes = read_all(&file).map_err(|fault| in_the_way(&fault))?;
         if !(is_erased(&bytes) || bytes.starts_with(head) || head.starts_with(&bytes)) {
@@ -246,8 +257,12 @@ fn read_all(mut file: &File) -> Result<Vec<u8>, String> {
 
 /// The folder that a file's name stands in, to be synced.
 fn folder_of(path: &Path) -> Result<File, String> {
-    let folder = path.parent().filter(|folder| !folder.as_os_str().is_empty()).unwrap_or(Path::new("."));
+    let folder = folder_name(path);
     File::open(folder).map_err(|fault| told(folder, &fault))
+}
+
+fn folder_name(path: &Path) -> &Path {
+    path.parent().filter(|folder| !folder.as_os_str().is_empty()).unwrap_or(Path::new("."))
 }
 
 /// Overwrites a file with zeros where it lies, on the disk.
@@ -263,10 +278,32 @@ fn erase(mut file: &File) -> io::Result<()> {
     file.sync_all()
 }
 
-/// Overwrites a file and removes its name, even where it cannot be overwritten.
+/// Overwrites a file and removes its name, even where it cannot be overwritten. Another file that has that name by now is left alone.
 fn remove(file: &File, path: &Path) -> io::Result<()> {
     let erased = erase(file);
-    fs::remove_file(path).and(erased)
+    match fs::symlink_metadata(path) {
+        Err(fault) if fault.kind() == io::ErrorKind::NotFound => erased,
+        Err(fault) => Err(fault),
+        Ok(named) if same_file(&named, &file.metadata()?) => fs::remove_file(path).and(erased),
+        Ok(_) => Err(io::Error::new(io::ErrorKind::Other, "another file has its name now")),
+    }
+}
+
+/// Whether a file has its name, and no other.
+fn stands(file: &File, path: &Path) -> io::Result<()> {
+    let lost = |why| io::Error::new(io::ErrorKind::Other, why);
+    let found = file.metadata()?;
+    match fs::symlink_metadata(path) {
+        Ok(named) if !same_file(&named, &found) => Err(lost("another file was put in its place meanwhile")),
+        Ok(_) if found.nlink() == 1 => Ok(()),
+        Ok(_) => Err(lost("it was given a second name (hard link) meanwhile")),
+        Err(_) => Err(lost("its name was removed meanwhile")),
+    }
+}
+
+/// The name in its folder, which is resolved; the name itself is not.
+fn resolved(path: &Path) -> Option<PathBuf> {
+    fs::canonicalize(folder_name(path)).ok().and_then(|folder| Some(folder.join(path.file_name()?)))
 }
 
 fn told(path: &Path, fault: &io::Error) -> String {

@@ -65,7 +65,7 @@ fn draw_list(plan: Plan, file: &Path) -> Result<String, String> {
         elements.extend(Some(u16::from_le_bytes(bytes)).filter(|&element| u32::from(element) <= LARGEST));
     }
     let list = List { identity: Identity(identity), plan, ends: 0, elements };
-    New::create(file)?.write(list.text().as_bytes())?;
+    New::create(file, None)?.write(list.text().as_bytes())?;
     Ok(String::new())
 }
 
@@ -86,7 +86,7 @@ fn make_key(file: &Path, airfield: u32, end: &Path) -> Result<String, String> {
     if list.ends & member != 0 {
         return Err(format!("{}: the end of airfield {airfield} was made from it already, and a key serves one end", shown(file)));
     }
-    let new = New::create(end)?;
+    let new = New::create(end, Some(&held))?;
     list.ends |= member;
     if let Err(fault) = held.replace(list.text().as_bytes(), list.head().len()) {
         return Err(format!("{fault}; {}", new.remove()));
