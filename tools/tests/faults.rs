@@ -190,6 +190,7 @@ fn a_failed_print_costs_nothing() {
     assert_eq!(folder.airfield(&["first", "end1", "10"]).done(), message);
     folder.shell("$AIRFIELD reply end1 5 > /dev/full").failed(&["end1 has kept the message"]);
     assert!(folder.airfield(&["reply", "end1", "5"]).done().contains("reply 1 0 "));
+    folder.shell("$AIRFIELD destroy end3 > /dev/full").failed(&["No space left", "overwritten and removed: end3"]);
     for command in ["status end1", "first end2 5", "destroy end2"] {
         folder.shell(&format!("$AIRFIELD {command} >&-")).failed(&["standard output is closed"]);
     }

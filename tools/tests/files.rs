@@ -154,7 +154,7 @@ fn output_into_the_end_or_its_new_version_is_refused() {
     let folder = Folder::with_ends("into");
     let before = folder.read("end1");
     let said = folder.shell("umask 077; $AIRFIELD first end1 5 > end1.new");
-    said.failed(&["end1.new: standard output leads there"]);
+    said.failed(&["end1.new stands in the way: standard output leads there; lead it elsewhere"]);
     assert_eq!((folder.read("end1"), folder.read("end1.new")), (before.clone(), vec![]));
     folder.shell("$AIRFIELD first end1 5 >> end1").failed(&["end1: standard output leads into it"]);
     assert_eq!(folder.read("end1"), before);
@@ -200,17 +200,80 @@ fn destroy_overwrites_and_removes() {
     folder.write("list.new", &folder.read("list"), 0o600);
     let mut files = ["end1", "end1.new", "end2", "list", "list.new"].map(|name| File::open(folder.at(name)).unwrap());
     assert!(folder.airfield(&["destroy", "end1", "list"]).done().contains("not covered: copies"));
-    let said = folder.airfield(&["destroy", "end2"]);
-    assert!(said.status == Some(0) && said.error.contains("end2.new"));
+    folder.airfield(&["destroy", "end2"]).failed(&["end2 is destroyed, but", "end2.new remains: it is no earlier version"]);
     assert!(files.iter_mut().all(all_zero));
     assert_eq!(folder.names(), ["end2.new", "end3"]);
     folder.write("damaged", &folder.read("end3")[..60], 0o644);
     folder.write("empty", b"", 0o600);
     folder.write("other", b"cutawheno", 0o600);
     let said = folder.airfield(&["destroy", "other", "none", "damaged", "empty"]);
-    said.failed(&["2 of 4", "other: it is neither a list nor an end", "none: No such file"]);
+    said.failed(&["2 of 4", "other: it is neither a list nor an end", "none: No such file", "overwritten and removed: damaged empty"]);
     assert_eq!(folder.names(), ["end2.new", "end3", "other"]);
     assert_eq!(folder.read("other"), b"cutawheno");
+}
+
+/// Shows that no key stays behind unsaid: whatever remains beside a file is named, with status 1 and advice that works.
+#[test]
+fn destroy_names_what_remains() {
+    let folder = Folder::with_ends("remains");
+    let end = folder.read("end1");
+    let damaged = [&end[..], b"x"].concat();
+    let put: [(&str, &dyn Fn()); 5] = [
+        ("its mode is 0644", &|| folder.write("end1.new", &end, 0o644)),
+        ("it is no earlier version", &|| folder.write("end1.new", &folder.read("end2"), 0o600)),
+        ("a link", &|| folder.link("end2", "end1.new")),
+        ("a folder", &|| fs::create_dir(folder.at("end1.new")).unwrap()),
+        ("2 names", &|| fs::hard_link(folder.at("end2"), folder.at("end1.new")).unwrap()),
+    ];
+    for (told, put) in put {
+        put();
+        folder.airfield(&["destroy", "end1"]).failed(&["end1 is destroyed, but", "end1.new remains: ", told]);
+        assert!(!folder.names().contains(&"end1".to_string()) && folder.names().contains(&"end2".to_string()));
+        if told.contains("mode") {
+            folder.airfield(&["destroy", "end1.new"]).done();
+        } else {
+            fs::remove_file(folder.at("end1.new")).or_else(|_| fs::remove_dir(folder.at("end1.new"))).unwrap();
+        }
+        folder.write("end1", &end, 0o600);
+    }
+    folder.shell("umask 077; $AIRFIELD destroy end1 > end1.new").failed(&["end1.new remains: standard output leads there"]);
+    // beside a damaged end
+    for (left, mode, told) in [(&end[..], 0o600, ""), (&damaged, 0o600, ""), (&end, 0o640, "0640"), (b"mine", 0o600, "no earlier")] {
+        folder.write("end1", &damaged, 0o600);
+        folder.write("end1.new", left, mode);
+        let said = folder.airfield(&["destroy", "end1"]);
+        if told.is_empty() {
+            said.done();
+            assert_eq!(folder.names(), ["end2", "end3", "list"]);
+        } else {
+            said.failed(&["end1.new remains: ", told]);
+            assert_eq!(folder.read("end1.new"), left);
+        }
+    }
+}
+
+#[test]
+fn status_tells_what_stands_beside() {
+    let folder = Folder::with_ends("beside");
+    let told = "end1.new, which a killed run may have left";
+    assert!(!folder.airfield(&["status", "end1"]).done().contains(".new"));
+    folder.link("nowhere", "end1.new");
+    assert!(folder.airfield(&["status", "end1"]).done().contains(told));
+    folder.write("end1", b"cutawheno end 1", 0o600);
+    folder.airfield(&["status", "end1"]).failed(&["end1: it is", told]);
+}
+
+/// Shows that `destroy *` takes no empty or zero file that is not as the tool makes them.
+#[test]
+fn destroy_leaves_other_empty_files() {
+    let folder = Folder::new("empty");
+    for (name, bytes, mode) in [("a", &b""[..], 0o644), ("b", &[0; 10], 0o644), ("c", b"", 0o400), ("d", b"", 0o600), ("e", &[0; 9], 0o600)]
+    {
+        folder.write(name, bytes, mode);
+    }
+    let told = &["3 of 5", "a: it is empty", "b: it is empty", "c: ", "overwritten and removed: d e"];
+    folder.airfield(&["destroy", "a", "b", "c", "d", "e"]).failed(told);
+    assert_eq!(folder.names(), ["a", "b", "c"]);
 }
 
 /// Shows that nothing hangs or is read without bound: pipes, folders, devices and huge files are refused by name.

@@ -1,7 +1,8 @@
 //! Files that hold secrets. Whatever is said to be done is on the disk, folder included, before anything is said.
 //!
 //! - `New`: a new private file, never over another: `create`, `write`, `remove`
-//! - `Held`: an existing file, locked for the whole call: `open`, `read`, `sync`, `replace`, `destroy`
+//! - `Held`: an existing file, locked for the whole call: `open`, `read`, `sync`, `replace`, `destroy`,
+//!   `is_private`, `leftover`
 //!
 //! A file that serves as one end must not serve as two. So a name is resolved first, a file with a second name (a hard link) is
 //! refused, and the lock is on the file itself: a run that has waited looks whether the name still leads to the file it has locked.
@@ -40,10 +41,7 @@ impl New {
         }
         let file = create_private(path).map_err(|fault| match fault.kind() {
             io::ErrorKind::AlreadyExists => {
-                format!(
-                    "{}: something stands there already, and nothing is written over it (airfield status tells what it is)",
-                    shown(path)
-                )
+                format!("{}: something stands there already, and nothing is written over it", shown(path))
             }
             _ => told(path, &fault),
         })?;
@@ -115,7 +113,12 @@ impl Held {
     pub fn replace(&self, bytes: &[u8], head: usize) -> Result<(), String> {
         let folder = folder_of(&self.path)?;
         let new = self.beside();
-        self.remove_leftover(&new, &bytes[..head])?;
+        let head = &bytes[..head];
+        self.remove_leftover(|left| left.starts_with(head) || head.starts_with(left)).map_err(|why| {
+            let to_output = fs::symlink_metadata(&new).map_or(false, |found| is_output(&found));
+            let advice = if to_output { "lead it elsewhere" } else { "move it and run the same command again" };
+            format!("{} stands in the way: {why}; {advice}", shown(&new))
+        })?;
         let mut file = create_private(&new).map_err(|fault| told(&new, &fault))?;
         let replaced = file.write_all(bytes).and_then(|()| file.sync_all()).and_then(|()| fs::rename(&new, &self.path));
         if let Err(fault) = replaced {
@@ -131,14 +134,32 @@ impl Held {
         stands(&file, &self.path).map_err(|fault| format!("{}; nothing was printed", told(&self.given, &fault)))
     }
 
-    /// Overwrites the file and removes it, and what a killed run may have left beside it if that begins with `head`; all on the disk.
-    pub fn destroy(self, head: Option<String>) -> Result<(), String> {
+    /// Overwrites the file and removes it, and what a killed run may have left beside it if its bytes are `ours`; all on the disk. What
+    /// remains is told.
+    pub fn destroy(self, ours: impl Fn(&[u8]) -> bool) -> Result<(), String> {
         let folder = folder_of(&self.path)?;
-        if let Some(Err(fault)) = head.map(|head| self.remove_leftover(&self.beside(), head.as_bytes())) {
-            complain(&format!("airfield: {fault}"));
-        }
+        let left = self.remove_leftover(ours);
         let removed = remove(&self.file, &self.path).and_then(|()| folder.sync_all());
-        removed.map_err(|fault| told(&self.given, &fault))
+        let removed = removed.map_err(|fault| told(&self.given, &fault));
+        let left = left.map_err(|why| {
+            let new = shown(self.beside());
+            format!("{new} remains: {why}; if it is a list or an end, run airfield destroy {new}, else move it or remove it")
+        });
+        match (removed, left) {
+            (Err(fault), Err(left)) => Err(format!("{fault}; {left}")),
+            (Ok(()), Err(left)) => Err(format!("{} is destroyed, but {left}", shown(&self.given))),
+            (removed, Ok(())) => removed,
+        }
+    }
+
+    /// Whether it is as this tool makes files: for its owner alone, who runs it.
+    pub fn is_private(&self) -> bool {
+        self.file.metadata().map_or(false, |found| found.mode() & MODE == PRIVATE && found.uid() == system::user())
+    }
+
+    /// What stands under the name that a new version has until it is whole.
+    pub fn leftover(&self) -> Option<PathBuf> {
+        Some(self.beside()).filter(|new| fs::symlink_metadata(new).is_ok())
     }
 
     /// The name that a new version has until it is whole.
@@ -148,27 +169,25 @@ impl Held {
         PathBuf::from(name)
     }
 
-    fn remove_leftover(&self, new: &Path, head: &[u8]) -> Result<(), String> {
-        let in_the_way = |why: &str| format!("{} stands in the way: {why}; move it and run the same command again", shown(new));
-        match fs::symlink_metadata(new) {
+    /// Destroys what stands beside it, if it is private and its bytes are `ours`, or erased; else says why not.
+    fn remove_leftover(&self, ours: impl Fn(&[u8]) -> bool) -> Result<(), String> {
+        let new = self.beside();
+        match fs::symlink_metadata(&new) {
             Err(fault) if fault.kind() == io::ErrorKind::NotFound => return Ok(()),
-            Err(fault) => return Err(told(new, &fault)),
+            Err(fault) => return Err(fault.to_string()),
+            Ok(found) if is_output(&found) => return Err("standard output leads there".to_string()),
             Ok(found) if found.is_file() && found.mode() & MODE != PRIVATE => {
-                return Err(in_the_way(&format!("its mode is {:04o} and not {PRIVATE:04o}", found.mode() & MODE)))
+                return Err(format!("its mode is {:04o} and not {PRIVATE:04o}", found.mode() & MODE))
             }
             Ok(_) => (),
         }
-        let file = open_existing(new).map_err(|fault| in_the_way(&fault))?;
-        let found = file.metadata().map_err(|fault| told(new, &fault))?;
-        if is_output(&found) {
-            return Err(format!("{}: standard output leads there, where the new version is to come; lead it elsewhere", shown(new)));
+        let file = open_existing(&new)?;
+        check(&file.metadata().map_err(|fault| fault.to_string())?, Purpose::Use)?;
+        let bytes = read_all(&file)?;
+        if !is_erased(&bytes) && !ours(&bytes) {
+            return Err("it is no earlier version of this file".to_string());
         }
-        check(&found, Purpose::Use).map_err(|fault| in_the_way(&fault))?;
-        let bytes = read_all(&file).map_err(|fault| in_the_way(&fault))?;
-        if !(is_erased(&bytes) || bytes.starts_with(head) || head.starts_with(&bytes)) {
-            return Err(in_the_way("it is no earlier version of this file"));
-        }
-        remove(&file, new).map_err(|fault| told(new, &fault))
+        remove(&file, &new).map_err(|fault| fault.to_string())
     }
 }
 

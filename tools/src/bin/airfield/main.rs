@@ -12,6 +12,7 @@ use cutawheno_tools::command::{finish, shown, Fault, VERSION};
 use cutawheno_tools::{standard, system};
 use files::{is_erased, Held, New, Purpose};
 use format::{numbers, End, Identity, List, Stage};
+use std::ffi::OsStr;
 use std::io::Read;
 use std::path::{Path, PathBuf};
 use std::process::ExitCode;
@@ -31,20 +32,24 @@ fn run() -> Result<(), Fault> {
     let words: Vec<_> = std::env::args_os().skip(1).collect();
     let command = words::read(&words).map_err(Fault::usage)?;
     let mut output = standard::output().map_err(|fault| format!("{fault}; nothing was done"))?;
-    let (text, kept) = match command {
+    let (text, done) = match command {
         Command::Help => (HELP.to_string(), None),
         Command::Version => (format!("airfield {VERSION}\n"), None),
         Command::List { plan, list } => (draw_list(plan, &list)?, None),
         Command::Key { list, airfield, end } => (make_key(&list, airfield, &end)?, None),
-        Command::First { end, figures } => (first(&end, figures)?, Some(end)),
-        Command::Reply { end, set } => (reply(&end, set)?, Some(end)),
+        Command::First { end, figures } => (first(&end, figures)?, Some(kept(&end))),
+        Command::Reply { end, set } => (reply(&end, set)?, Some(kept(&end))),
         Command::Status { file } => (status(&file)?, None),
-        Command::Destroy { files } => (destroy(&files)?, None),
+        Command::Destroy { files } => (destroy(&files)? + NOT_COVERED, Some(destroyed(&files))),
     };
-    standard::write(&mut output, text.as_bytes()).map_err(|fault| match kept {
-        Some(end) => format!("{fault}; {} has kept the message: the same command prints it again", shown(end)).into(),
+    standard::write(&mut output, text.as_bytes()).map_err(|fault| match done {
+        Some(done) => format!("{fault}; {done}").into(),
         None => fault.into(),
     })
+}
+
+fn kept(end: &Path) -> String {
+    format!("{} has kept the message: the same command prints it again", shown(end))
 }
 
 fn draw_list(plan: Plan, file: &Path) -> Result<String, String> {
@@ -213,13 +218,19 @@ fn records(end: &End, kind: &str, elements: &[u16]) -> String {
 }
 
 fn status(file: &Path) -> Result<String, String> {
-    let bytes = Held::open(file, Purpose::Use)?.read()?;
-    let told = match List::read(&bytes) {
-        Ok(list) => status_of_list(&list),
-        Err(fault) if !bytes.starts_with(b"cutawheno end ") => return Err(format!("{}: {fault}", shown(file))),
-        Err(_) => status_of_end(&End::read(&bytes).map_err(|fault| format!("{}: {fault}", shown(file)))?),
+    let held = Held::open(file, Purpose::Use)?;
+    let bytes = held.read()?;
+    let read = match List::read(&bytes) {
+        Err(_) if bytes.starts_with(b"cutawheno end ") => End::read(&bytes).map(|end| status_of_end(&end)),
+        list => list.map(|list| status_of_list(&list)),
     };
-    Ok(told)
+    let left = held.leftover().map(|left| format!("beside it stands {}, which a killed run may have left", shown(left)));
+    match (read, left) {
+        (Ok(told), None) => Ok(told),
+        (Ok(told), Some(left)) => Ok(format!("{told}{left}\n")),
+        (Err(fault), None) => Err(format!("{}: {fault}", shown(file))),
+        (Err(fault), Some(left)) => Err(format!("{}: {fault}; {left}", shown(file))),
+    }
 }
 
 fn status_of_list(list: &List) -> String {
@@ -258,21 +269,43 @@ fn members(set: u32) -> String {
 
 /// Tries every file, also behind one that fails.
 fn destroy(files: &[PathBuf]) -> Result<String, String> {
-    let faults = files.iter().filter_map(|file| destroy_one(file).err());
-    match faults.collect::<Vec<_>>()[..] {
-        [] => Ok(format!("overwritten and removed: {}\n{NOT_COVERED}", files.iter().map(shown).collect::<Vec<_>>().join(" "))),
-        ref faults => Err(format!("{} of {} files not destroyed: {}", faults.len(), files.len(), faults.join("; "))),
+    let (mut done, mut faults) = (Vec::new(), Vec::new());
+    for file in files {
+        match destroy_one(file) {
+            Ok(()) => done.push(file),
+            Err(fault) => faults.push(fault),
+        }
+    }
+    match faults[..] {
+        [] => Ok(destroyed(files) + "\n"),
+        _ => {
+            let others = if done.is_empty() { String::new() } else { format!("; {}", destroyed(&done)) };
+            let (count, faults) = (faults.len(), faults.join("; "));
+            Err(format!("{count} of {} files not destroyed, or not with what stands beside: {faults}{others}", files.len()))
+        }
     }
 }
 
+fn destroyed(files: &[impl AsRef<OsStr>]) -> String {
+    format!("overwritten and removed: {}", files.iter().map(shown).collect::<Vec<_>>().join(" "))
+}
+
+/// An empty file or one of zeros may be what a killed run has left, if it is as this tool makes files. What stands beside a file that is
+/// damaged is taken for a version of it if it begins as a list or an end.
 fn destroy_one(file: &Path) -> Result<(), String> {
     let held = Held::open(file, Purpose::Destruction)?;
     let bytes = held.read()?;
+    if is_erased(&bytes) && !held.is_private() {
+        return Err(format!("{}: it is empty or all zeros, and no private file of this user; it stays as it is", shown(file)));
+    }
     if !format::known(&bytes) && !is_erased(&bytes) {
         return Err(format!("{}: it is neither a list nor an end, and stays as it is", shown(file)));
     }
     let head = End::read(&bytes).map(|end| end.head()).or_else(|_| List::read(&bytes).map(|list| list.head()));
-    held.destroy(head.ok())
+    held.destroy(|left| match &head {
+        Ok(head) => left.starts_with(head.as_bytes()) || head.as_bytes().starts_with(left),
+        Err(_) => format::known(left),
+    })
 }
 
 /// A refusal with its number, and why it came.
