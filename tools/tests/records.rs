@@ -19,7 +19,7 @@ fn decode_is_the_inverse_of_encode() {
         assert_eq!(folder.shell("set -o pipefail; $RECORDS encode < words > bytes && $RECORDS decode < bytes").done(), text);
         assert_eq!(folder.read("bytes"), encode(text).unwrap());
     }
-    let bytes = folder.with_input(RECORDS, &["encode"], b"\n  close # the end \xff\n# only this\r\n\tclose\r\nfinish").done();
+    let bytes = folder.with_input(RECORDS, &["encode"], b"\n  close # the end \xff\n# only this\r\n\tclose\r\nfinish\n# no end").done();
     assert_eq!(bytes.as_bytes(), [4, 4, 6]);
 }
 
@@ -66,6 +66,10 @@ fn a_bad_line_or_record_ends_the_run() {
     encoded(b"# x\n\nstart\n", "line 3: no kind is called start", &[]);
     encoded(b"\xff\x1b[2J\n", "line 1: no kind is called", &[]);
     encoded(&[b'x'; 100000], "line 1 is longer than 65536 bytes", &[]);
+    // a line that a full disk has cut is no record, though it reads as one
+    encoded(b"close\nfirst 1 3 532", "line 2 is cut short: it has no end", &[4]);
+    encoded(b"finish", "line 1 is cut short: it has no end", &[]);
+    encoded(b"close\nfirst 1 3", "line 2: first takes", &[4]);
     let decoded = |bytes: &[u8], told: &str, written: &str| {
         let said = folder.with_input(RECORDS, &["decode"], bytes);
         assert_eq!((said.status, said.output.as_str()), (Some(1), written));

@@ -22,7 +22,8 @@ records: records of the pooling service as words, and back
 
 One record a line: its kind and then its numbers in decimal, with white space between.
   plan K U T M | open ROUND | first AIRFIELD PLACE ELEMENT | close | reply AIRFIELD BLOCK ELEMENT | finish
-What follows a # is a comment up to the end of its line. Comments and blank lines give no bytes.
+What follows a # is a comment up to the end of its line. Comments and blank lines give no bytes. A record's line has an end, also the
+last one: without it the line may have been cut, and is refused.
 Each line is handed on as it comes. The first line that is no record, or byte that begins none, ends the run: what stood before it
 is written, and nothing behind it. Keys of two lists in one round, where comments of `airfield` tell them, are warned of.
 
@@ -78,6 +79,9 @@ fn encode(output: Output) -> Result<(), String> {
         }
         let text = String::from_utf8_lossy(&line);
         let record = record_of(&text).map_err(|fault| format!("line {number}: {fault}"))?;
+        if record.is_some() && !text.ends_with('\n') {
+            return Err(format!("line {number} is cut short: it has no end"));
+        }
         lists.look(number, &text, &record);
         put(output, &record.map(|record| record.to_bytes()).unwrap_or_default())?;
         // no other line is there yet
