@@ -3,10 +3,11 @@
 //! - `VERSION`: of the tools
 //! - `FAILED`, `NOT_UNDERSTOOD`: exit statuses beside 0
 //! - `Fault`: why a program stops, with its exit status
-//! - `finish`: a program's outcome as its exit status, a fault told on standard error
+//! - `start`: runs a program, and gives its outcome as its exit status, a fault told on standard error
 //! - `shown`: a word or file name as a message shows it
 
 use crate::standard::complain;
+use crate::system::guard;
 use std::ffi::OsStr;
 use std::process::ExitCode;
 
@@ -37,8 +38,9 @@ impl From<String> for Fault {
     }
 }
 
-pub fn finish(program: &str, outcome: Result<(), Fault>) -> ExitCode {
-    match outcome {
+pub fn start(program: &str, run: fn() -> Result<(), Fault>) -> ExitCode {
+    guard();
+    match run() {
         Ok(()) => ExitCode::SUCCESS,
         Err(fault) => {
             complain(&format!("{program}: {}", fault.message));

@@ -3,6 +3,7 @@
 //! - `NOFOLLOW`, `NONBLOCK`: flags for opening a file
 //! - `lock_now`, `lock`: an exclusive lock on an opened file, which the system drops when the file is closed or the process ends
 //! - `user`: the effective user
+//! - `guard`: no signal for a file that gets too long, and no image of the memory after a crash
 //! - `draw`: bytes from the system's source of randomness
 //! - `was_closed`: whether standard input, output or error was closed when the process began
 
@@ -17,12 +18,17 @@ pub const NONBLOCK: i32 = 0o4000;
 const LOCK_EXCLUSIVE: i32 = 2;
 const LOCK_NO_WAIT: i32 = 4;
 const GET_FLAGS: i32 = 1;
+const FILE_TOO_LONG: i32 = 25;
+const IGNORE: usize = 1;
+const SET_DUMPABLE: i32 = 4;
 
 extern "C" {
     fn flock(file: i32, operation: i32) -> i32;
     fn geteuid() -> u32;
     fn getrandom(buffer: *mut u8, length: usize, flags: u32) -> isize;
     fn fcntl(file: i32, command: i32, ...) -> i32;
+    fn signal(number: i32, handler: usize) -> usize;
+    fn prctl(option: i32, ...) -> i32;
 }
 
 /// Whether the lock was free, and is now held.
@@ -54,6 +60,15 @@ fn flocked(file: &File, operation: i32) -> io::Result<()> {
 pub fn user() -> u32 {
     // SAFETY: takes nothing and cannot fail.
     unsafe { geteuid() }
+}
+
+/// For a program's start. A write past the limit on a file's length is then an error that is told, and keys stay out of core files.
+pub fn guard() {
+    // SAFETY: numbers alone; to ignore a signal runs nothing of ours.
+    unsafe {
+        signal(FILE_TOO_LONG, IGNORE);
+        prctl(SET_DUMPABLE, 0usize, 0usize, 0usize, 0usize);
+    }
 }
 
 /// Fills the bytes; waits where the source has not yet gathered enough after the machine's start.

@@ -1,8 +1,9 @@
 //! Loss of power, full disks and outputs that fail: nothing is lost, and nothing is sent twice.
 mod common;
 
-use common::{end_of, Folder, Said};
+use common::{end_of, send, shim, wait_for_stop, Folder, Said, AIRFIELD};
 use std::fs;
+use std::os::unix::process::ExitStatusExt;
 
 /// The steps of a run, a line each.
 fn steps(folder: &Folder, words: &[&str]) -> Vec<String> {
@@ -168,11 +169,27 @@ fn a_full_disk_leaves_the_end_as_it_was() {
     let folder = Folder::with_ends("full");
     folder.airfield(&["list", "3", "2", "1", "1", "spare"]).done();
     let (before, names) = (folder.read("end1"), folder.names());
-    let limited = |command: &str| folder.shell(&format!("trap '' XFSZ; ulimit -f 0; {command}"));
+    let limited = |command: &str| folder.shell(&format!("ulimit -f 0; {command}"));
     limited("$AIRFIELD first end1 10").failed(&["end1.new: File too large", "end1 is as it was"]);
     limited("$AIRFIELD key spare 1 new").failed(&["spare.new: File too large", "spare is as it was", "nothing is left of the new file"]);
     limited("$AIRFIELD list 3 2 1 1 new").failed(&["new: File too large"]);
+    limited("echo close | $RECORDS encode 1<> end2").failed(&["standard output: File too large"]);
     assert_eq!((folder.read("end1"), folder.names()), (before, names));
+}
+
+/// Shows that a crash leaves no image of the memory, where the system would keep one.
+#[test]
+fn a_crash_keeps_no_key() {
+    let folder = Folder::with_ends("crash");
+    let words = ["-c", "ulimit -c unlimited; exec \"$@\"", "bash", AIRFIELD, "first", "end1", "10"];
+    let mut run = folder.command("bash", &words);
+    let run = run.env("LD_PRELOAD", shim()).env("SHIM_DO", "stop").env("SHIM_STEP", "rename end1").spawn().unwrap();
+    wait_for_stop(&run);
+    send(&run, "-ABRT");
+    send(&run, "-CONT");
+    let status = run.wait_with_output().unwrap().status;
+    assert_eq!((status.signal(), status.core_dumped()), (Some(6), false));
+    assert_eq!(folder.names(), ["end1", "end1.new", "end2", "end3", "list"]);
 }
 
 /// Shows that a print that fails is an error, tells that the message is kept, and costs nothing.

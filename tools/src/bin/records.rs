@@ -4,7 +4,7 @@
 //! running `pool`. A comment that `airfield` writes names the list of a message's key; where two lists meet in one round, a warning says
 //! so, and the exit status stays as it is: the bytes are right, and whether the messages belong together is not theirs to tell.
 
-use cutawheno_tools::command::{finish, shown, Fault, VERSION};
+use cutawheno_tools::command::{shown, start, Fault, VERSION};
 use cutawheno_tools::standard::{self, complain};
 use reference::stream::{Damage, Record, Records};
 use reference::text::{line_of, record_of};
@@ -34,7 +34,7 @@ Exit status: 0 done; 1 a line or record is not right, or reading or writing fail
 const LONGEST: u64 = 1 << 16;
 
 fn main() -> ExitCode {
-    finish("records", run())
+    start("records", run)
 }
 
 fn run() -> Result<(), Fault> {

@@ -8,7 +8,7 @@ mod format;
 mod words;
 
 use cutawheno::{Plan, Refusal};
-use cutawheno_tools::command::{finish, shown, Fault, VERSION};
+use cutawheno_tools::command::{shown, start, Fault, VERSION};
 use cutawheno_tools::{standard, system};
 use files::{is_erased, Held, New, Purpose};
 use format::{numbers, End, Identity, List, Stage};
@@ -25,7 +25,7 @@ const NOT_COVERED: &str = "not covered: copies, backups and snapshots of it, wha
     old blocks, and what was printed or sent\n";
 
 fn main() -> ExitCode {
-    finish("airfield", run())
+    start("airfield", run)
 }
 
 fn run() -> Result<(), Fault> {
