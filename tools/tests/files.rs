@@ -4,7 +4,7 @@ mod common;
 use common::{Folder, AIRFIELD};
 use std::fs::{self, File};
 use std::io::{Read, Seek};
-use std::os::unix::fs::MetadataExt;
+use std::os::unix::fs::{MetadataExt, PermissionsExt};
 use std::process::{Command, Stdio};
 
 /// Shows that a list or key is never readable by others, whatever the umask.
@@ -88,6 +88,36 @@ fn a_file_that_others_may_read_is_refused() {
     // destroying it is all the more wanted
     folder.airfield(&["destroy", "end1", "list"]).done();
     assert_eq!(folder.names(), ["end2", "end3"]);
+}
+
+/// Shows that nothing is kept where everybody could put another file in its place.
+#[test]
+fn a_folder_that_everybody_may_write_is_refused() {
+    let folder = Folder::with_ends("open");
+    let before = folder.read("end1");
+    let open = |mode: u32| fs::set_permissions(&folder.path, fs::Permissions::from_mode(mode)).unwrap();
+    folder.link("open/end1", "../open-link");
+    for mode in [0o777, 0o702] {
+        open(mode);
+        let told = format!("its folder's mode is {mode:04o}");
+        for words in [
+            &["list", "3", "2", "1", "1", "new"][..],
+            &["key", "list", "1", "new"],
+            &["first", "end1", "5"],
+            &["reply", "end1", "5"],
+            &["status", "end1"],
+            &["first", "../open-link", "5"],
+        ] {
+            folder.airfield(words).failed(&[&told]);
+        }
+    }
+    assert_eq!((folder.read("end1"), folder.names().len()), (before, 4));
+    folder.airfield(&["destroy", "end3"]).done();
+    for (mode, end) in [(0o1777, "end1"), (0o770, "end2")] {
+        open(mode);
+        folder.airfield(&["first", end, "5"]).done();
+    }
+    fs::remove_file(folder.at("../open-link")).unwrap();
 }
 
 #[test]

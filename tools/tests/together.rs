@@ -1,7 +1,7 @@
 //! Two runs at once on one end: at most one message is ever sent.
 mod common;
 
-use common::{end_of, send, wait_for_stop, Folder, AIRFIELD};
+use common::{end_of, send, wait_for_stop, Folder, Said, AIRFIELD};
 use std::fs;
 use std::io::Read;
 use std::process::{Child, ChildStderr};
@@ -73,6 +73,20 @@ fn a_run_that_is_killed_lets_the_next_one_go_on() {
     assert_eq!(end_of(one).output, "");
     assert_eq!(end_of(other).done(), message);
     assert_eq!(folder.names(), ["end1", "end2", "end3", "list"]);
+}
+
+/// Shows that nobody waits for a file that is refused anyway, whoever holds its lock.
+#[test]
+fn a_refused_file_is_not_waited_for() {
+    let folder = Folder::with_ends("unwaited");
+    let one = stopped(&folder, &["first", "end1", "10"], "create end1.new");
+    folder.write("end1", &folder.read("end1"), 0o644);
+    for words in [&["first", "end1", "10"][..], &["reply", "end1", "5"], &["status", "end1"], &["key", "end1", "1", "x"]] {
+        let said = folder.command("timeout", &[&["10", AIRFIELD], words].concat()).output().unwrap();
+        Said::from(said).failed(&["end1: its mode is 0644"]);
+    }
+    send(&one, "-CONT");
+    end_of(one).done();
 }
 
 /// Shows that what is put in the way between looking and creating gets no byte of the key.

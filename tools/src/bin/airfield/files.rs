@@ -20,6 +20,8 @@ use std::path::{Path, PathBuf};
 const PRIVATE: u32 = 0o600;
 const OTHERS: u32 = 0o077;
 const MODE: u32 = 0o7777;
+const OTHERS_WRITE: u32 = 0o002;
+const STICKY: u32 = 0o1000;
 /// More than the longest list has, in bytes.
 const LONGEST: u64 = 1 << 16;
 /// How often a file may be replaced by other runs while this one waits for its lock.
@@ -36,6 +38,7 @@ impl New {
     /// Not under a name that a new version of a held file would take.
     pub fn create(path: &Path, held: Option<&Held>) -> Result<New, String> {
         let folder = folder_of(path)?;
+        check_folder(path, Purpose::Use).map_err(|fault| format!("{}: {fault}", shown(path)))?;
         if held.map_or(false, |held| resolved(path).map_or(false, |path| path == held.beside())) {
             return Err(format!("{}: that is the name of the list's own new version; another is wanted", shown(path)));
         }
@@ -84,14 +87,22 @@ impl Held {
         for _ in 0..PATIENCE {
             let path = fs::canonicalize(given).map_err(|fault| told(given, &fault))?;
             let file = open_existing(&path).map_err(|fault| format!("{}: {fault}", shown(given)))?;
-            wait_for_lock(&file, given, &mut patient)?;
-            let found = file.metadata().map_err(|fault| told(given, &fault))?;
-            if fs::symlink_metadata(&path).map_or(false, |named| same_file(&named, &found)) {
-                check(&found, purpose).map_err(|fault| format!("{}: {fault}", shown(given)))?;
-                if is_output(&found) {
-                    return Err(format!("{}: standard output leads into it; lead it elsewhere", shown(given)));
+            let stands = || -> Result<bool, String> {
+                let found = file.metadata().map_err(|fault| fault.to_string())?;
+                let stands = fs::symlink_metadata(&path).map_or(false, |named| same_file(&named, &found));
+                if stands {
+                    check(&found, purpose)?;
+                    check_folder(&path, purpose)?;
                 }
-                return Ok(Held { file, given: given.to_path_buf(), path });
+                Ok(stands)
+            };
+            let stands = || stands().map_err(|fault| format!("{}: {fault}", shown(given)));
+            // what is refused is waited for no longer: somebody else may hold its lock for ever
+            if stands()? {
+                wait_for_lock(&file, given, &mut patient)?;
+                if stands()? {
+                    return Ok(Held { file, given: given.to_path_buf(), path });
+                }
             }
         }
         Err(format!("{}: other runs replace it all the time", shown(given)))
@@ -237,6 +248,8 @@ fn check(found: &Metadata, purpose: Purpose) -> Result<(), String> {
         Err(format!("it is {}, and no file", kind_of(found)))
     } else if found.nlink() != 1 {
         Err(format!("it has {} names (hard links), and one is wanted: remove the others", found.nlink()))
+    } else if is_output(found) {
+        Err("standard output leads into it; lead it elsewhere".to_string())
     } else if purpose == Purpose::Destruction {
         Ok(())
     } else if found.uid() != system::user() {
@@ -246,6 +259,18 @@ fn check(found: &Metadata, purpose: Purpose) -> Result<(), String> {
     } else {
         Ok(())
     }
+}
+
+/// Whoever may write a folder can put other files in the place of those in it, unless its sticky bit is set.
+fn check_folder(path: &Path, purpose: Purpose) -> Result<(), String> {
+    let folder = folder_name(path);
+    let mode = fs::metadata(folder).map_err(|fault| told(folder, &fault))?.mode() & MODE;
+    if purpose == Purpose::Use && mode & (OTHERS_WRITE | STICKY) == OTHERS_WRITE {
+        return Err(format!(
+            "its folder's mode is {mode:04o}, so that everybody may put other files in its place; run chmod o-w on the folder"
+        ));
+    }
+    Ok(())
 }
 
 /// A run that waits says so once.
