@@ -35,6 +35,7 @@ fn all_is_on_the_disk_before_anything_is_told() {
         assert_eq!(steps(&folder, words), [replaced("end"), on("output", &["write"])].concat());
         assert_eq!(steps(&folder, words), ["sync end", "sync order", "write output"]);
     }
+    assert_eq!(steps(&folder, &["again", "end"]), ["sync end", "sync order", "write output"]);
     let destroyed = ["write end", "sync end", "remove end", "sync order", "write output"];
     assert_eq!(steps(&folder, &["destroy", "end"]), destroyed);
 }

@@ -130,6 +130,25 @@ fn the_same_asked_again_gives_the_same_bytes_and_another_is_refused() {
     assert_eq!(folder.airfield(&["reply", "end1", "5"]).done(), reply);
 }
 
+/// Shows that the kept first message needs no figures to be had again, and that nothing else comes by that way.
+#[test]
+fn the_kept_message_is_printed_again() {
+    let folder = Folder::with_ends("kept");
+    let fresh = folder.read("end1");
+    folder.airfield(&["again", "end1"]).failed(&["refused 18", "end1 has given no first message yet"]);
+    assert_eq!(folder.read("end1"), fresh);
+    let message = folder.message("end1", 10);
+    folder.shell("$AIRFIELD first end1 10 > /dev/full").failed(&["No space left"]);
+    let sent = folder.read("end1");
+    assert_eq!(folder.airfield(&["again", "end1"]).done(), message);
+    assert_eq!(folder.read("end1"), sent);
+    folder.airfield(&["reply", "end1", "5"]).done();
+    assert_eq!(folder.airfield(&["again", "end1"]).done(), message);
+    folder.shell("$AIRFIELD again end1 > /dev/full").failed(&["No space left", "end1 has kept the message"]);
+    folder.airfield(&["again", "list"]).failed(&["the kind end is wanted"]);
+    folder.airfield(&["again", "end1", "10"]).ended(2, &["again takes END"]);
+}
+
 /// Shows that a refusal changes nothing, and that its message says what was wanted and what was found.
 #[test]
 fn refusals_say_what_was_wanted() {

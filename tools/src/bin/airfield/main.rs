@@ -38,6 +38,7 @@ fn run() -> Result<(), Fault> {
         Command::List { plan, list } => (draw_list(plan, &list)?, None),
         Command::Key { list, airfield, end } => (make_key(&list, airfield, &end)?, None),
         Command::First { end, figures } => (first(&end, figures)?, Some(kept(&end))),
+        Command::Again { end } => (again(&end)?, Some(kept(&end))),
         Command::Reply { end, set } => (reply(&end, set)?, Some(kept(&end))),
         Command::Status { file } => (status(&file)?, None),
         Command::Destroy { files } => (destroy(&files)? + NOT_COVERED, Some(destroyed(&files))),
@@ -142,6 +143,18 @@ fn first(file: &Path, figures: Figures) -> Result<String, String> {
     Ok(records(&kept.end, "first", kept.end.message().unwrap_or_default()))
 }
 
+/// What was sent, for whoever has the end and no longer the figures.
+fn again(file: &Path) -> Result<String, String> {
+    let kept = Kept::open(file)?;
+    let message = kept.end.message().ok_or_else(|| refused(Refusal::OutOfTurn, &nothing_sent(file)))?;
+    kept.held.sync()?;
+    Ok(records(&kept.end, "first", message))
+}
+
+fn nothing_sent(file: &Path) -> String {
+    format!("{} has given no first message yet", shown(file))
+}
+
 /// The first message of a fresh end with this key.
 fn masked(end: &End, figures: &[u32]) -> Result<Vec<u16>, String> {
     // a figure too large for 16 bits is refused as the largest of 16 bits is
@@ -204,7 +217,7 @@ fn reply_refused(refusal: Refusal, end: &End, set: u32, file: &Path) -> String {
         (Refusal::OtherSet, Stage::Answered { set: answered, .. }) => {
             format!("{} has answered set {answered}, and a key never answers two", shown(file))
         }
-        (Refusal::OutOfTurn, _) => format!("{} has given no first message yet", shown(file)),
+        (Refusal::OutOfTurn, _) => nothing_sent(file),
         _ => return refusal.to_string(),
     };
     refused(refusal, &why)

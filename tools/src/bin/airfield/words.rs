@@ -19,6 +19,7 @@ airfield: the key office and an airfield's end, over the proved library
                                   and makes no second end for that airfield
   airfield first END [FIGURE..]   prints the first message as records in words; without figures they are read from
                                   standard input, with white space between, so that they show in no list of processes
+  airfield again END              prints the first message that END has sent once more, the same bytes, without the figures
   airfield reply END SET          prints the reply to the announced set as records in words
   airfield status FILE            tells what an end or a list is, and shows nothing secret
   airfield destroy FILE..         overwrites and removes lists and ends
@@ -38,6 +39,7 @@ pub enum Command {
     List { plan: Plan, list: PathBuf },
     Key { list: PathBuf, airfield: u32, end: PathBuf },
     First { end: PathBuf, figures: Figures },
+    Again { end: PathBuf },
     Reply { end: PathBuf, set: u32 },
     Status { file: PathBuf },
     Destroy { files: Vec<PathBuf> },
@@ -72,6 +74,8 @@ pub fn read(words: &[OsString]) -> Result<Command, String> {
             Ok(Command::First { end: end.into(), figures: Figures::Given(figures) })
         }
         (Some("first"), _) => wanted("END [FIGURE..]"),
+        (Some("again"), [end]) => Ok(Command::Again { end: end.into() }),
+        (Some("again"), _) => wanted("END"),
         (Some("reply"), [end, set]) => Ok(Command::Reply { end: end.into(), set: number("SET", set)? }),
         (Some("reply"), _) => wanted("END SET"),
         (Some("status"), [file]) => Ok(Command::Status { file: file.into() }),
