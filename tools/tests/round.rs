@@ -122,6 +122,7 @@ fn the_same_asked_again_gives_the_same_bytes_and_another_is_refused() {
     }
     folder.airfield(&["reply", "end1", "1"]).failed(&["refused 5", "set 1 is airfields 1; wanted are at least 2 of 1 to 3"]);
     folder.airfield(&["reply", "end1", "6"]).failed(&["refused 6", "airfield 1 is not in set 6, which is airfields 2 3"]);
+    folder.airfield(&["reply", "end1", "99999999999"]).failed(&["refused 5: set 99999999999 is above 7, which is all of airfields 1 to 3"]);
     let reply = folder.airfield(&["reply", "end1", "5"]).done();
     assert_eq!(reply, format!("{}reply 1 0 {}\n", folder.comment("end1"), folder.numbers("end1", "key")[2]));
     assert_eq!(folder.airfield(&["reply", "end1", "5"]).done(), reply);
@@ -156,13 +157,14 @@ fn refusals_say_what_was_wanted() {
     let before = folder.read("end1");
     let refused = |words: &[&str], told: &[&str]| folder.airfield(words).failed(told);
     refused(&["list", "3", "3", "1", "1", "x"], &["refused 1: plan 3 3 1 1", "K from 3 to 8"]);
-    refused(&["list", "99999999999", "3", "1", "1", "x"], &["refused 1"]);
+    refused(&["list", "99999999999", "3", "1", "1", "x"], &["refused 1: plan 99999999999 3 1 1"]);
+    refused(&["key", "list", "99999999999", "x"], &["refused 4: no airfield 99999999999"]);
     refused(&["key", "list", "4", "x"], &["refused 4: no airfield 4", "1 to 3"]);
     refused(&["key", "end1", "1", "x"], &["end1: it is of the kind end, and the kind list is wanted"]);
     refused(&["first", "list", "1"], &["list: it is of the kind list, and the kind end is wanted"]);
     refused(&["first", "end1", "1", "2"], &["refused 2: figures wanted 1, given 2"]);
     refused(&["first", "end1", "65521"], &["refused 3: figure 1 is 65521, above 65520"]);
-    refused(&["first", "end1", "99999999999"], &["refused 3"]);
+    refused(&["first", "end1", "99999999999"], &["refused 3: figure 1 is 99999999999, above 65520"]);
     refused(&["first", "nothing", "1"], &["nothing: No such file"]);
     assert_eq!(folder.read("end1"), before);
     assert_eq!(folder.names(), ["end1", "end2", "end3", "list"]);

@@ -16,7 +16,7 @@ use std::ffi::OsStr;
 use std::io::Read;
 use std::path::{Path, PathBuf};
 use std::process::ExitCode;
-use words::{Command, Figures, HELP};
+use words::{Command, Figures, Number, HELP};
 
 const LARGEST: u32 = 65520;
 /// Bytes of standard input that are looked through for figures: far more than a row has.
@@ -53,12 +53,13 @@ fn kept(end: &Path) -> String {
     format!("{} has kept the message: the same command prints it again", shown(end))
 }
 
-fn draw_list(plan: Plan, file: &Path) -> Result<String, String> {
+fn draw_list([k, u, t, m]: [Number; 4], file: &Path) -> Result<String, String> {
+    let plan = Plan { users: k.value, threshold: u.value, collusion: t.value, blocks: m.value };
     let wanted = plan.list_len();
     if wanted == 0 {
         return Err(refused(
             Refusal::BadPlan,
-            &format!("plan {} is outside its ranges: K from 3 to 8, T from 1, U above T and below K, M from 1 to 16", numbers(&plan)),
+            &format!("plan {k} {u} {t} {m} is outside its ranges: K from 3 to 8, T from 1, U above T and below K, M from 1 to 16"),
         ));
     }
     let mut identity = [0; 16];
@@ -80,12 +81,13 @@ fn draw(bytes: &mut [u8]) -> Result<(), String> {
 }
 
 /// The list counts the airfield's end as made before the key is written anywhere: from one list no second end can come.
-fn make_key(file: &Path, airfield: u32, end: &Path) -> Result<String, String> {
+fn make_key(file: &Path, given: Number, end: &Path) -> Result<String, String> {
+    let airfield = given.value;
     let held = Held::open(file, Purpose::Use)?;
     let mut list = List::read(&held.read()?).map_err(|fault| format!("{}: {fault}", shown(file)))?;
     let mut key = vec![0; list.plan.key_len()];
     list.plan.make_key(airfield, &list.elements, &mut key).map_err(|refusal| match refusal {
-        Refusal::BadUser => refused(refusal, &format!("no airfield {airfield}: the plan of {} has 1 to {}", shown(file), list.plan.users)),
+        Refusal::BadUser => refused(refusal, &format!("no airfield {given}: the plan of {} has 1 to {}", shown(file), list.plan.users)),
         _ => refusal.to_string(),
     })?;
     let member = 1 << (airfield - 1);
@@ -156,14 +158,14 @@ fn nothing_sent(file: &Path) -> String {
 }
 
 /// The first message of a fresh end with this key.
-fn masked(end: &End, figures: &[u32]) -> Result<Vec<u16>, String> {
+fn masked(end: &End, figures: &[Number]) -> Result<Vec<u16>, String> {
     // a figure too large for 16 bits is refused as the largest of 16 bits is
-    let row: Vec<u16> = figures.iter().map(|&figure| u16::try_from(figure).unwrap_or(u16::MAX)).collect();
+    let row: Vec<u16> = figures.iter().map(|figure| u16::try_from(figure.value).unwrap_or(u16::MAX)).collect();
     let mut message = vec![0; end.plan.row_len()];
     let fresh = cutawheno::End::start(end.plan, end.airfield);
     let sent = fresh.and_then(|mut fresh| fresh.first_message(&end.key, &row, &mut message));
     sent.map(|()| message).map_err(|refusal| {
-        let large = figures.iter().enumerate().find(|(_, &figure)| figure > LARGEST);
+        let large = figures.iter().enumerate().find(|(_, figure)| figure.value > LARGEST);
         match (refusal, large) {
             (Refusal::BadLength, _) => refused(refusal, &format!("figures wanted {}, given {}", end.plan.row_len(), row.len())),
             (Refusal::BadElement, Some((at, figure))) => refused(refusal, &format!("figure {} is {figure}, above {LARGEST}", at + 1)),
@@ -172,7 +174,7 @@ fn masked(end: &End, figures: &[u32]) -> Result<Vec<u16>, String> {
     })
 }
 
-fn figures_from_input() -> Result<Vec<u32>, String> {
+fn figures_from_input() -> Result<Vec<Number>, String> {
     let mut text = Vec::new();
     let input = standard::input()?;
     input.take(LONGEST_INPUT + 1).read_to_end(&mut text).map_err(|fault| format!("standard input: {fault}"))?;
@@ -182,14 +184,14 @@ fn figures_from_input() -> Result<Vec<u32>, String> {
     words::figures_of(&text).map_err(|fault| format!("standard input: {fault}"))
 }
 
-fn reply(file: &Path, set: u32) -> Result<String, String> {
+fn reply(file: &Path, set: Number) -> Result<String, String> {
     let mut kept = Kept::open(file)?;
     let mut end = resumed(&kept.end);
-    let shares = end.reply(&kept.end.key, set).map_err(|refusal| reply_refused(refusal, &kept.end, set, file))?.to_vec();
+    let shares = end.reply(&kept.end.key, set.value).map_err(|refusal| reply_refused(refusal, &kept.end, &set, file))?.to_vec();
     match kept.end.stage {
         Stage::Fresh | Stage::Answered { .. } => kept.held.sync()?,
         Stage::Sent { message } => {
-            kept.end.stage = Stage::Answered { message, set };
+            kept.end.stage = Stage::Answered { message, set: set.value };
             kept.replace()?;
         }
     }
@@ -207,13 +209,16 @@ fn resumed(end: &End) -> cutawheno::End {
     cutawheno::End::resume([users, threshold, collusion, blocks, end.airfield, stage, 0, 0])
 }
 
-fn reply_refused(refusal: Refusal, end: &End, set: u32, file: &Path) -> String {
+fn reply_refused(refusal: Refusal, end: &End, set: &Number, file: &Path) -> String {
     let End { plan, airfield, .. } = end;
     let why = match (refusal, &end.stage) {
-        (Refusal::SetUnusable, _) => {
-            format!("set {set} is {}; wanted are at least {} of 1 to {}", members(set), plan.threshold, plan.users)
+        (Refusal::SetUnusable, _) if set.value >> plan.users != 0 => {
+            format!("set {set} is above {}, which is all of airfields 1 to {}", (1 << plan.users) - 1, plan.users)
         }
-        (Refusal::NotInSet, _) => format!("airfield {airfield} is not in set {set}, which is {}", members(set)),
+        (Refusal::SetUnusable, _) => {
+            format!("set {set} is {}; wanted are at least {} of 1 to {}", members(set.value), plan.threshold, plan.users)
+        }
+        (Refusal::NotInSet, _) => format!("airfield {airfield} is not in set {set}, which is {}", members(set.value)),
         (Refusal::OtherSet, Stage::Answered { set: answered, .. }) => {
             format!("{} has answered set {answered}, and a key never answers two", shown(file))
         }

@@ -4,11 +4,12 @@
 //! - `Command`: a command with its words read
 //! - `read`: from the words of the command line
 //! - `Figures`: where figures come from
+//! - `Number`: a number, with the word that gave it
 //! - `figures_of`: figures from text, as standard input gives them
 
-use cutawheno::Plan;
 use cutawheno_tools::command::shown;
 use std::ffi::{OsStr, OsString};
+use std::fmt;
 use std::path::PathBuf;
 
 pub const HELP: &str = "\
@@ -36,18 +37,31 @@ Exit status: 0 done; 1 refused or failed, told on standard error, and a refusal 
 pub enum Command {
     Help,
     Version,
-    List { plan: Plan, list: PathBuf },
-    Key { list: PathBuf, airfield: u32, end: PathBuf },
+    List { plan: [Number; 4], list: PathBuf },
+    Key { list: PathBuf, airfield: Number, end: PathBuf },
     First { end: PathBuf, figures: Figures },
     Again { end: PathBuf },
-    Reply { end: PathBuf, set: u32 },
+    Reply { end: PathBuf, set: Number },
     Status { file: PathBuf },
     Destroy { files: Vec<PathBuf> },
 }
 
 pub enum Figures {
-    Given(Vec<u32>),
+    Given(Vec<Number>),
     FromInput,
+}
+
+/// A number, and the word that gave it, which messages show. A number too large for 32 bits is too large for every use: the largest
+/// stands for it, and is refused as it would be.
+pub struct Number {
+    pub value: u32,
+    word: String,
+}
+
+impl fmt::Display for Number {
+    fn fmt(&self, out: &mut fmt::Formatter) -> fmt::Result {
+        out.write_str(&self.word)
+    }
 }
 
 /// The command, or what is not understood.
@@ -62,7 +76,10 @@ pub fn read(words: &[OsString]) -> Result<Command, String> {
     };
     match (command.to_str(), words) {
         (Some("--version"), []) => Ok(Command::Version),
-        (Some("list"), [k, u, t, m, list]) => Ok(Command::List { plan: plan([k, u, t, m])?, list: list.into() }),
+        (Some("list"), [k, u, t, m, list]) => {
+            let plan = [number("K", k)?, number("U", u)?, number("T", t)?, number("M", m)?];
+            Ok(Command::List { plan, list: list.into() })
+        }
         (Some("list"), _) => wanted("K U T M LIST"),
         (Some("key"), [list, airfield, end]) => {
             Ok(Command::Key { list: list.into(), airfield: number("AIRFIELD", airfield)?, end: end.into() })
@@ -87,22 +104,18 @@ pub fn read(words: &[OsString]) -> Result<Command, String> {
 }
 
 /// Figures from text, with white space between.
-pub fn figures_of(text: &[u8]) -> Result<Vec<u32>, String> {
+pub fn figures_of(text: &[u8]) -> Result<Vec<Number>, String> {
     let text = String::from_utf8_lossy(text);
     text.split_whitespace().enumerate().map(|(at, word)| figure(at, OsStr::new(word))).collect()
 }
 
-fn figure(at: usize, word: &OsStr) -> Result<u32, String> {
+fn figure(at: usize, word: &OsStr) -> Result<Number, String> {
     number(&format!("figure {}", at + 1), word)
 }
 
-fn plan([k, u, t, m]: [&OsString; 4]) -> Result<Plan, String> {
-    Ok(Plan { users: number("K", k)?, threshold: number("U", u)?, collusion: number("T", t)?, blocks: number("M", m)? })
-}
-
-/// Decimal digits. A number too large for 32 bits is too large for every use: the largest stands for it, and is refused as it would be.
-fn number(what: &str, word: &OsStr) -> Result<u32, String> {
+/// Decimal digits.
+fn number(what: &str, word: &OsStr) -> Result<Number, String> {
     let digits = word.to_str().filter(|word| !word.is_empty() && word.bytes().all(|byte| byte.is_ascii_digit()));
     let digits = digits.ok_or_else(|| format!("{what}: a whole number from 0 on is wanted, and {} is found", shown(word)))?;
-    Ok(digits.parse().unwrap_or(u32::MAX))
+    Ok(Number { value: digits.parse().unwrap_or(u32::MAX), word: shown(digits) })
 }
