@@ -9,6 +9,7 @@
 use crate::standard::complain;
 use crate::system::guard;
 use std::ffi::OsStr;
+use std::os::unix::ffi::OsStrExt;
 use std::process::ExitCode;
 
 pub const VERSION: &str = env!("CARGO_PKG_VERSION");
@@ -16,7 +17,7 @@ pub const VERSION: &str = env!("CARGO_PKG_VERSION");
 pub const FAILED: u8 = 1;
 pub const NOT_UNDERSTOOD: u8 = 2;
 
-/// The longest word that a message shows whole.
+/// The longest word that a message shows whole, in bytes.
 const LONGEST: usize = 200;
 
 pub struct Fault {
@@ -49,15 +50,14 @@ pub fn start(program: &str, run: fn() -> Result<(), Fault>) -> ExitCode {
     }
 }
 
-/// As it is where it is plain; else in quotes, with what cannot be printed escaped. A long one is cut.
+/// As it is where it is plain; else in quotes, with every byte escaped that is no printable one of ASCII. A long one is cut.
 pub fn shown(word: impl AsRef<OsStr>) -> String {
-    let text = word.as_ref().to_string_lossy();
-    let strange = |c: char| c.is_control() || c.is_whitespace() || c == char::REPLACEMENT_CHARACTER;
-    let start: String = text.chars().take(LONGEST).collect();
-    let rest = if start.len() < text.len() { ".." } else { "" };
-    if text.is_empty() || start.contains(strange) {
-        format!("{start:?}{rest}")
+    let bytes = word.as_ref().as_bytes();
+    let start = &bytes[..bytes.len().min(LONGEST)];
+    let rest = if start.len() < bytes.len() { ".." } else { "" };
+    if !start.is_empty() && start.iter().all(u8::is_ascii_graphic) {
+        format!("{}{rest}", String::from_utf8_lossy(start))
     } else {
-        start + rest
+        format!("\"{}\"{rest}", start.escape_ascii())
     }
 }

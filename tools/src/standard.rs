@@ -38,8 +38,8 @@ pub fn is_output(found: &Metadata) -> bool {
     output.map_or(false, |output| (output.dev(), output.ino()) == (found.dev(), found.ino()))
 }
 
-/// What cannot be printed is escaped. A fault of standard error itself leaves nobody to tell; the exit status still does.
+/// What is no printable character of ASCII is escaped. A fault of standard error itself leaves nobody to tell; the exit status still does.
 pub fn complain(line: &str) {
-    let plain = |c: char| if c.is_control() { c.escape_debug().to_string() } else { c.to_string() };
+    let plain = |c: char| if c == ' ' || c.is_ascii_graphic() { c.to_string() } else { c.escape_default().to_string() };
     drop(io::stderr().write_all((line.chars().map(plain).collect::<String>() + "\n").as_bytes()));
 }

@@ -1,6 +1,7 @@
 //! The calls of the system that the standard library lacks, and its numbers (Linux, x86-64).
 //!
 //! - `NOFOLLOW`, `NONBLOCK`: flags for opening a file
+//! - `NAME_TOO_LONG`: the number of a fault
 //! - `lock_now`, `lock`: an exclusive lock on an opened file, which the system drops when the file is closed or the process ends
 //! - `user`: the effective user
 //! - `guard`: no signal for a file that gets too long, and no image of the memory after a crash
@@ -14,6 +15,7 @@ use std::sync::atomic::{AtomicBool, Ordering};
 
 pub const NOFOLLOW: i32 = 0o400000;
 pub const NONBLOCK: i32 = 0o4000;
+pub const NAME_TOO_LONG: i32 = 36;
 
 const LOCK_EXCLUSIVE: i32 = 2;
 const LOCK_NO_WAIT: i32 = 4;

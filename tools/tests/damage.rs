@@ -114,7 +114,7 @@ fn what_is_no_end_of_this_version_is_refused() {
         assert!(list.contains(field));
         refused(&folder, &sealed(&list.replacen(field, other, 1)), "");
     }
-    // and the checksum is made as the tool makes it
+    // and the checksum is made as the tool makes it, by ISO 3309
     folder.write("file", &sealed(body), 0o600);
     folder.airfield(&["status", "file"]).done();
 }

@@ -171,10 +171,14 @@ fn a_full_disk_leaves_the_end_as_it_was() {
     folder.airfield(&["list", "3", "2", "1", "1", "spare"]).done();
     let (before, names) = (folder.read("end1"), folder.names());
     let limited = |command: &str| folder.shell(&format!("ulimit -f 0; {command}"));
-    limited("$AIRFIELD first end1 10").failed(&["end1.new: File too large", "end1 is as it was"]);
-    limited("$AIRFIELD key spare 1 new").failed(&["spare.new: File too large", "spare is as it was", "nothing is left of the new file"]);
-    limited("$AIRFIELD list 3 2 1 1 new").failed(&["new: File too large"]);
-    limited("echo close | $RECORDS encode 1<> end2").failed(&["standard output: File too large"]);
+    limited("\"$AIRFIELD\" first end1 10").failed(&["end1.new: File too large", "end1 is as it was"]);
+    limited("\"$AIRFIELD\" key spare 1 new").failed(&[
+        "spare.new: File too large",
+        "spare is as it was",
+        "nothing is left of the new file",
+    ]);
+    limited("\"$AIRFIELD\" list 3 2 1 1 new").failed(&["new: File too large"]);
+    limited("echo close | \"$RECORDS\" encode 1<> end2").failed(&["standard output: File too large"]);
     assert_eq!((folder.read("end1"), folder.names()), (before, names));
 }
 
@@ -201,16 +205,16 @@ fn a_failed_print_costs_nothing() {
     for (output, told) in
         [("> /dev/full", "No space left"), ("> >(true); wait $!", "Broken pipe"), ("< /dev/null >&0", "Bad file descriptor")]
     {
-        let said = folder.shell(&format!("exec {output}; $AIRFIELD first end1 10"));
+        let said = folder.shell(&format!("exec {output}; \"$AIRFIELD\" first end1 10"));
         said.failed(&["standard output", told, "end1 has kept the message: the same command prints it again"]);
     }
-    folder.shell("$AIRFIELD first end1 10 >&-").failed(&["standard output is closed; nothing was done"]);
+    folder.shell("\"$AIRFIELD\" first end1 10 >&-").failed(&["standard output is closed; nothing was done"]);
     assert_eq!(folder.airfield(&["first", "end1", "10"]).done(), message);
-    folder.shell("$AIRFIELD reply end1 5 > /dev/full").failed(&["end1 has kept the message"]);
+    folder.shell("\"$AIRFIELD\" reply end1 5 > /dev/full").failed(&["end1 has kept the message"]);
     assert!(folder.airfield(&["reply", "end1", "5"]).done().contains("reply 1 0 "));
-    folder.shell("$AIRFIELD destroy end3 > /dev/full").failed(&["No space left", "overwritten and removed: end3"]);
+    folder.shell("\"$AIRFIELD\" destroy end3 > /dev/full").failed(&["No space left", "overwritten and removed: end3"]);
     for command in ["status end1", "first end2 5", "destroy end2"] {
-        folder.shell(&format!("$AIRFIELD {command} >&-")).failed(&["standard output is closed"]);
+        folder.shell(&format!("\"$AIRFIELD\" {command} >&-")).failed(&["standard output is closed"]);
     }
     assert!(folder.airfield(&["status", "end2"]).done().contains("stage fresh"));
 }

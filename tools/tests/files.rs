@@ -12,7 +12,7 @@ use std::process::{Command, Stdio};
 fn new_files_are_private() {
     let folder = Folder::new("umask");
     for umask in ["0", "077", "0777"] {
-        let script = format!("umask {umask}; $AIRFIELD list 3 2 1 1 list && $AIRFIELD key list 1 end && $AIRFIELD first end 5");
+        let script = format!("umask {umask}; \"$AIRFIELD\" list 3 2 1 1 list && \"$AIRFIELD\" key list 1 end && \"$AIRFIELD\" first end 5");
         assert_eq!(folder.shell(&script).done(), folder.message("end", 5));
         assert_eq!([folder.mode("list"), folder.mode("end")], [0o600; 2]);
         folder.airfield(&["destroy", "list", "end"]).done();
@@ -183,12 +183,12 @@ fn an_end_does_not_take_the_name_of_the_lists_new_version() {
 fn output_into_the_end_or_its_new_version_is_refused() {
     let folder = Folder::with_ends("into");
     let before = folder.read("end1");
-    let said = folder.shell("umask 077; $AIRFIELD first end1 5 > end1.new");
+    let said = folder.shell("umask 077; \"$AIRFIELD\" first end1 5 > end1.new");
     said.failed(&["end1.new stands in the way: standard output leads there; lead it elsewhere"]);
     assert_eq!((folder.read("end1"), folder.read("end1.new")), (before.clone(), vec![]));
-    folder.shell("$AIRFIELD first end1 5 >> end1").failed(&["end1: standard output leads into it"]);
+    folder.shell("\"$AIRFIELD\" first end1 5 >> end1").failed(&["end1: standard output leads into it"]);
     assert_eq!(folder.read("end1"), before);
-    assert_eq!(folder.shell("$AIRFIELD first end1 5 > out; cat out").done(), folder.message("end1", 5));
+    assert_eq!(folder.shell("\"$AIRFIELD\" first end1 5 > out; cat out").done(), folder.message("end1", 5));
 }
 
 /// Shows that what a killed run leaves is overwritten and removed, and the command works.
@@ -208,6 +208,37 @@ fn leftovers_of_a_killed_run_are_destroyed() {
         fs::remove_file(folder.at("end1")).unwrap();
         folder.write("end1", &end, 0o600);
     }
+}
+
+/// Shows that a link that comes in between looking and opening is not followed: what it leads to keeps its bytes.
+#[test]
+fn a_link_that_comes_before_opening_is_not_followed() {
+    let folder = Folder::with_ends("swap");
+    let end = folder.read("end1");
+    folder.write("end1.new", &end, 0o600);
+    let run =
+        |swapped: &str| common::Said::from(folder.shimmed(&["first", "end1", "5"], "", "").env("SHIM_SWAP", swapped).output().unwrap());
+    run("end1.new").failed(&["end1.new stands in the way", "symbolic links"]);
+    assert_eq!((folder.read("end1"), folder.read("end1.new.moved")), (end.clone(), end.clone()));
+    fs::remove_file(folder.at("end1.new")).unwrap();
+    run("end1").failed(&["end1: ", "symbolic links"]);
+    assert_eq!(folder.read("end1.moved"), end);
+}
+
+/// Shows that a name is refused at once if no new version could ever stand beside it.
+#[test]
+fn names_too_long_for_a_new_version_are_refused() {
+    let folder = Folder::new("long");
+    let [fits, long, longer] = [251, 252, 255].map(|length| "n".repeat(length));
+    for name in [&long, &longer] {
+        folder.airfield(&["list", "3", "2", "1", "1", name]).failed(&["that name is too long"]);
+    }
+    folder.airfield(&["list", "3", "2", "1", "1", &fits]).done();
+    folder.airfield(&["key", &fits, "1", &long]).failed(&["that name is too long"]);
+    let end = "e".repeat(251);
+    folder.airfield(&["key", &fits, "1", &end]).done();
+    folder.airfield(&["first", &end, "5"]).done();
+    assert_eq!(folder.names(), [end, fits]);
 }
 
 /// Shows that the old version of an end, which holds the key too, is overwritten when a new one has taken its place.
@@ -266,7 +297,7 @@ fn destroy_names_what_remains() {
         }
         folder.write("end1", &end, 0o600);
     }
-    folder.shell("umask 077; $AIRFIELD destroy end1 > end1.new").failed(&["end1.new remains: standard output leads there"]);
+    folder.shell("umask 077; \"$AIRFIELD\" destroy end1 > end1.new").failed(&["end1.new remains: standard output leads there"]);
     // beside a damaged end
     for (left, mode, told) in [(&end[..], 0o600, ""), (&damaged, 0o600, ""), (&end, 0o640, "0640"), (b"mine", 0o600, "no earlier")] {
         folder.write("end1", &damaged, 0o600);

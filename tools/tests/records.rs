@@ -16,7 +16,7 @@ fn decode_is_the_inverse_of_encode() {
     let long = EXAMPLE.repeat(5000);
     for text in [EXAMPLE, ENDS, &long, ""] {
         folder.write("words", text.as_bytes(), 0o600);
-        assert_eq!(folder.shell("set -o pipefail; $RECORDS encode < words > bytes && $RECORDS decode < bytes").done(), text);
+        assert_eq!(folder.shell("set -o pipefail; \"$RECORDS\" encode < words > bytes && \"$RECORDS\" decode < bytes").done(), text);
         assert_eq!(folder.read("bytes"), encode(text).unwrap());
     }
     let bytes = folder.with_input(RECORDS, &["encode"], b"\n  close # the end \xff\n# only this\r\n\tclose\r\nfinish\n# no end").done();
@@ -87,15 +87,15 @@ fn failed_writes_and_reads_are_told() {
     folder.write("words", EXAMPLE.as_bytes(), 0o600);
     folder.write("bytes", &encode(EXAMPLE).unwrap(), 0o600);
     for command in ["encode < words", "decode < bytes"] {
-        folder.shell(&format!("$RECORDS {command} > /dev/full")).failed(&["standard output: No space left"]);
-        folder.shell(&format!("$RECORDS {command} >&-")).failed(&["standard output is closed"]);
-        folder.shell(&format!("$RECORDS {command} 1< /dev/null")).failed(&["standard output: Bad file descriptor"]);
-        folder.shell(&format!("exec > >(true); wait $!; $RECORDS {command}")).failed(&["standard output: Broken pipe"]);
+        folder.shell(&format!("\"$RECORDS\" {command} > /dev/full")).failed(&["standard output: No space left"]);
+        folder.shell(&format!("\"$RECORDS\" {command} >&-")).failed(&["standard output is closed"]);
+        folder.shell(&format!("\"$RECORDS\" {command} 1< /dev/null")).failed(&["standard output: Bad file descriptor"]);
+        folder.shell(&format!("exec > >(true); wait $!; \"$RECORDS\" {command}")).failed(&["standard output: Broken pipe"]);
     }
     for command in ["encode", "decode"] {
-        folder.shell(&format!("$RECORDS {command} < /")).failed(&["standard input: Is a directory"]);
-        folder.shell(&format!("$RECORDS {command} <&-")).failed(&["standard input is closed"]);
-        folder.shell(&format!("$RECORDS {command} 0> file")).failed(&["standard input: Bad file descriptor"]);
+        folder.shell(&format!("\"$RECORDS\" {command} < /")).failed(&["standard input: Is a directory"]);
+        folder.shell(&format!("\"$RECORDS\" {command} <&-")).failed(&["standard input is closed"]);
+        folder.shell(&format!("\"$RECORDS\" {command} 0> file")).failed(&["standard input: Bad file descriptor"]);
     }
 }
 

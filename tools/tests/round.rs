@@ -103,8 +103,8 @@ fn figures_from_standard_input() {
     from_input(b"5 x").failed(&["standard input: figure 2", "x is found"]);
     from_input(b"\xff\x1b").failed(&["figure 1"]);
     from_input(&[b'1'; 70000]).failed(&["standard input", "65536"]);
-    folder.shell("$AIRFIELD first end2 <&-").failed(&["standard input is closed"]);
-    folder.shell("$AIRFIELD first end2 < /").failed(&["standard input: Is a directory"]);
+    folder.shell("\"$AIRFIELD\" first end2 <&-").failed(&["standard input is closed"]);
+    folder.shell("\"$AIRFIELD\" first end2 < /").failed(&["standard input: Is a directory"]);
     assert_eq!(folder.with_input(AIRFIELD, &["first", "end2"], b"0").done(), folder.message("end2", 0));
 }
 
@@ -139,13 +139,13 @@ fn the_kept_message_is_printed_again() {
     folder.airfield(&["again", "end1"]).failed(&["refused 18", "end1 has given no first message yet"]);
     assert_eq!(folder.read("end1"), fresh);
     let message = folder.message("end1", 10);
-    folder.shell("$AIRFIELD first end1 10 > /dev/full").failed(&["No space left"]);
+    folder.shell("\"$AIRFIELD\" first end1 10 > /dev/full").failed(&["No space left"]);
     let sent = folder.read("end1");
     assert_eq!(folder.airfield(&["again", "end1"]).done(), message);
     assert_eq!(folder.read("end1"), sent);
     folder.airfield(&["reply", "end1", "5"]).done();
     assert_eq!(folder.airfield(&["again", "end1"]).done(), message);
-    folder.shell("$AIRFIELD again end1 > /dev/full").failed(&["No space left", "end1 has kept the message"]);
+    folder.shell("\"$AIRFIELD\" again end1 > /dev/full").failed(&["No space left", "end1 has kept the message"]);
     folder.airfield(&["again", "list"]).failed(&["the kind end is wanted"]);
     folder.airfield(&["again", "end1", "10"]).ended(2, &["again takes END"]);
 }
@@ -200,8 +200,8 @@ fn help_and_version_are_printed_and_other_words_are_not_understood() {
         for words in [&[][..], &["other"], &["--version", "x"]] {
             said(words).ended(2, &["--help"]);
         }
-        folder.shell(&format!("{program} --help > /dev/full")).failed(&["No space left"]);
-        folder.shell(&format!("{program} --help >&-")).failed(&["standard output is closed"]);
+        folder.shell(&format!("\"{program}\" --help > /dev/full")).failed(&["No space left"]);
+        folder.shell(&format!("\"{program}\" --help >&-")).failed(&["standard output is closed"]);
     }
     for words in [&["list", "3"][..], &["key", "a"], &["first"], &["reply", "a"], &["status"], &["destroy"]] {
         folder.airfield(words).ended(2, &["takes"]);
@@ -223,12 +223,15 @@ fn strange_words_and_a_failing_standard_error() {
     folder.airfield(&[word("list"), word("3"), word("2"), word("1"), word("1"), strange]).done();
     folder.airfield(&[word("key"), strange, word("1"), OsStr::from_bytes(b"\xfd")]).done();
     assert!(folder.airfield(&[word("first"), OsStr::from_bytes(b"\xfd"), word("3")]).done().contains("first 1 0 "));
+    folder.airfield(&["\u{feff}list"]).ended(2, &["no command is called \"\\xef\\xbb\\xbflist\";"]);
+    folder.airfield(&["status", "a b\u{202e}"]).failed(&["\"a b\\xe2\\x80\\xae\": No such file"]);
+    folder.with_input(RECORDS, &["encode"], "\u{feff}close\n".as_bytes()).failed(&["no kind is called \\u{feff}close"]);
     folder.command(RECORDS, &[strange]).output().map(common::Said::from).unwrap().ended(2, &[]);
     for error in ["/dev/full", "&-"] {
-        assert_eq!(folder.shell(&format!("$AIRFIELD first end1 x 2>{error}")).status, Some(2));
-        assert_eq!(folder.shell(&format!("$AIRFIELD first end1 1 2 2>{error}")).status, Some(1));
-        assert_eq!(folder.shell(&format!("$AIRFIELD 2>{error}")).status, Some(2));
-        assert_eq!(folder.shell(&format!("$RECORDS encode 2>{error} <<< x")).status, Some(1));
+        assert_eq!(folder.shell(&format!("\"$AIRFIELD\" first end1 x 2>{error}")).status, Some(2));
+        assert_eq!(folder.shell(&format!("\"$AIRFIELD\" first end1 1 2 2>{error}")).status, Some(1));
+        assert_eq!(folder.shell(&format!("\"$AIRFIELD\" 2>{error}")).status, Some(2));
+        assert_eq!(folder.shell(&format!("\"$RECORDS\" encode 2>{error} <<< x")).status, Some(1));
     }
     let mut child = folder.command(AIRFIELD, &["first", "end1", "1"]).stderr(Stdio::null()).spawn().unwrap();
     assert!(child.wait().unwrap().success());

@@ -1,6 +1,7 @@
 /* Loaded before the C library (LD_PRELOAD), it counts the steps that change files or print: creating, changing a mode, writing,
  * syncing, renaming, removing. SHIM_LOG names a file that gets a line for each step. At step number SHIM_STEP, or at the first step of
  * the name SHIM_STEP, before it is taken, SHIM_DO says what happens: kill, stop (until the process is continued) or fail.
+ * SHIM_SWAP is the name of a file that is moved, and a link to it put in its place, just before it is first opened.
  * SHIM_RANDOM names a file that stands for the system's source of randomness: its bytes in order, one a call, then a failure. */
 #define _GNU_SOURCE
 #include <dlfcn.h>
@@ -69,6 +70,18 @@ static int step_on(const char *what, int file)
 
 #define REAL(name) ((__typeof__(&name))dlsym(RTLD_NEXT, #name))
 
+static void swap(const char *path)
+{
+    char moved[4096];
+    const char *name = getenv("SHIM_SWAP");
+    if (name == NULL || strcmp(name, base(path)) != 0)
+        return;
+    unsetenv("SHIM_SWAP");
+    snprintf(moved, sizeof moved, "%s.moved", path);
+    if (syscall(SYS_rename, path, moved) != 0 || symlink(moved, path) != 0)
+        abort();
+}
+
 int open64(const char *path, int flags, ...)
 {
     va_list rest;
@@ -77,6 +90,7 @@ int open64(const char *path, int flags, ...)
     va_end(rest);
     if ((flags & O_CREAT) != 0 && step("create", path))
         return -1;
+    swap(path);
     return REAL(open64)(path, flags, mode);
 }
 

@@ -9,7 +9,7 @@
 
 use cutawheno_tools::command::shown;
 use cutawheno_tools::standard::{complain, is_output};
-use cutawheno_tools::system::{self, NOFOLLOW, NONBLOCK};
+use cutawheno_tools::system::{self, NAME_TOO_LONG, NOFOLLOW, NONBLOCK};
 use std::ffi::OsString;
 use std::fs::{self, File, Metadata, OpenOptions, Permissions};
 use std::io::{self, Read, Seek, Write};
@@ -39,9 +39,7 @@ impl New {
     pub fn create(path: &Path, held: Option<&Held>) -> Result<New, String> {
         let folder = folder_of(path)?;
         check_folder(path, Purpose::Use).map_err(|fault| format!("{}: {fault}", shown(path)))?;
-        if held.map_or(false, |held| resolved(path).map_or(false, |path| path == held.beside())) {
-            return Err(format!("{}: that is the name of the list's own new version; another is wanted", shown(path)));
-        }
+        check_name(path, held).map_err(|fault| format!("{}: {fault}", shown(path)))?;
         let file = create_private(path).map_err(|fault| match fault.kind() {
             io::ErrorKind::AlreadyExists => {
                 format!("{}: something stands there already, and nothing is written over it", shown(path))
@@ -175,9 +173,7 @@ impl Held {
 
     /// The name that a new version has until it is whole.
     fn beside(&self) -> PathBuf {
-        let mut name = OsString::from(&self.path);
-        name.push(".new");
-        PathBuf::from(name)
+        with_new(&self.path)
     }
 
     /// Destroys what stands beside it, if it is private and its bytes are `ours`, or erased; else says why not.
@@ -200,6 +196,12 @@ impl Held {
         }
         remove(&file, &new).map_err(|fault| fault.to_string())
     }
+}
+
+fn with_new(path: &Path) -> PathBuf {
+    let mut name = OsString::from(path);
+    name.push(".new");
+    PathBuf::from(name)
 }
 
 /// Nothing but zeros: what stands in a file that was overwritten and not yet removed.
@@ -342,6 +344,23 @@ fn stands(file: &File, path: &Path) -> io::Result<()> {
         Ok(_) if found.nlink() == 1 => Ok(()),
         Ok(_) => Err(lost("it was given a second name (hard link) meanwhile")),
         Err(_) => Err(lost("its name was removed meanwhile")),
+    }
+}
+
+/// Whether a new file can have this name, and its new versions theirs beside it.
+fn check_name(path: &Path, held: Option<&Held>) -> Result<(), String> {
+    let resolved = match resolved(path) {
+        Some(resolved) => resolved,
+        None => return Ok(()), // no name at all, which creating it tells
+    };
+    if held.map_or(false, |held| held.beside() == resolved) {
+        return Err("that is the name of the list's own new version; another is wanted".to_string());
+    }
+    match fs::symlink_metadata(with_new(&resolved)) {
+        Err(fault) if fault.raw_os_error() == Some(NAME_TOO_LONG) => {
+            Err("that name is too long: a new version has .new behind it".to_string())
+        }
+        _ => Ok(()),
     }
 }
 

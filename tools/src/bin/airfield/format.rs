@@ -282,13 +282,3 @@ fn elements(text: &str) -> Option<Vec<u16>> {
 fn spaced(numbers: &[u16]) -> String {
     numbers.iter().map(|number| format!(" {number}")).collect()
 }
-
-#[cfg(test)]
-mod tests {
-    use super::*;
-
-    #[test]
-    fn the_checksum_is_the_one_of_iso_3309() {
-        assert_eq!(checksum(b"123456789"), 0xcbf43926);
-    }
-}
