@@ -66,7 +66,7 @@ fn method() -> String {
         "Measured on {}, with a load of {} at the end (1 is this run alone). The contenders take turns, and of each the least time \
          counts: of {RUNS} runs of a program, of {BATCHES} batches of calls. Both sides are compiled by LLVM at -O3 for plain x86-64. \
          Rust is built by cargo's release profile. As one unit and without unwinding, as this bench built it at first, its key \
-         maker is faster, and then rows of ours are slower: docs/DECISIONS.md, Speed.",
+         maker is faster, and then rows of ours are slower: docs/DECISIONS.md, Evidence and speed.",
         model.trim_start_matches(['\t', ' ', ':']),
         load.split(' ').next().unwrap()
     )

@@ -4,6 +4,11 @@ use crate::rounds::named;
 use std::fmt::Write;
 use std::fs;
 
+/// Colours of the bars, and of our curves.
+const FASTER: &str = "#4a8";
+const SLOWER: &str = "#c84";
+const OURS: &str = "#848";
+
 #[derive(Default)]
 pub struct Report {
     /// Name, nanoseconds of ours and of Rust.
@@ -95,12 +100,16 @@ impl Report {
         let bars = 20 * ratios.len();
         let mut svg = Svg::new(760, bars + 350);
         svg.text(10, 20, "start", "our time over Rust's: left of the line ours is faster");
+        for (x, fill, text) in [(500.0, FASTER, "ours is faster"), (620.0, SLOWER, "ours is slower")] {
+            svg.bar(x, 9, 14.0, fill);
+            svg.text(x as u32 + 20, 20, "start", text);
+        }
         let widest = ratios.iter().fold(2.0, |most: f64, row| most.max(row.1));
         let scale = |ratio: f64| 210.0 + 480.0 * ratio / widest;
         for (row, &(name, ratio)) in ratios.iter().enumerate() {
             let y = 34 + 20 * row as u32;
             svg.text(200, y + 11, "end", name);
-            let fill = if ratio <= 1.0 { "#4a8" } else { "#c84" };
+            let fill = if ratio <= 1.0 { FASTER } else { SLOWER };
             svg.bar(210.0, y, scale(ratio) - 210.0, fill);
             svg.text(scale(ratio.max(1.0)) as u32 + 6, y + 11, "start", &format!("{ratio:.2}"));
         }
@@ -112,9 +121,9 @@ impl Report {
             60.0,
             top,
             "key maker, microseconds against K",
-            &[("ours", "#c84", micros(0)), ("Rust", "#48c", micros(1))],
+            &[("ours", OURS, micros(0)), ("Rust", "#48c", micros(1))],
         );
-        svg.panel(440.0, top, "check of what is computed over K, seconds", &[("seconds", "#848", self.proofs.clone())]);
+        svg.panel(440.0, top, "check of what is computed over K, seconds", &[("seconds", OURS, self.proofs.clone())]);
         svg.end()
     }
 }
