@@ -319,7 +319,10 @@ fn status_tells_what_stands_beside() {
     let told = "end1.new, which a killed run may have left";
     assert!(!folder.airfield(&["status", "end1"]).done().contains(".new"));
     folder.link("nowhere", "end1.new");
-    assert!(folder.airfield(&["status", "end1"]).done().contains(told));
+    assert!(folder.airfield(&["status", "end1"]).done().ends_with(&format!("beside it stands {told}\n")));
+    folder.link("end1", "link");
+    let told_of_link = folder.airfield(&["status", "link"]).done();
+    assert!(told_of_link.contains("beside/end1.new") && !told_of_link.contains("link.new"));
     folder.write("end1", b"cutawheno end 1", 0o600);
     folder.airfield(&["status", "end1"]).failed(&["end1: it is", told]);
 }

@@ -134,7 +134,8 @@ fn two_keys_at_once_make_one_end() {
 /// its place is left alone.
 #[test]
 fn a_name_that_is_lost_meanwhile_is_told() {
-    let happens: [(&str, &dyn Fn(&Folder, &str)); 3] = [
+    type Happening<'a> = (&'a str, &'a dyn Fn(&Folder, &str));
+    let happens: [Happening; 3] = [
         ("its name was removed meanwhile", &|folder, name| fs::remove_file(folder.at(name)).unwrap()),
         ("another file was put in its place meanwhile", &|folder, name| {
             folder.write("other", b"other", 0o600);

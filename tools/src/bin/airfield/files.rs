@@ -126,13 +126,13 @@ impl Held {
         self.remove_leftover(|left| left.starts_with(head) || head.starts_with(left)).map_err(|why| {
             let to_output = fs::symlink_metadata(&new).map_or(false, |found| is_output(&found));
             let advice = if to_output { "lead it elsewhere" } else { "move it and run the same command again" };
-            format!("{} stands in the way: {why}; {advice}", shown(&new))
+            format!("{} stands in the way: {why}; {advice}", self.beside_as_given())
         })?;
-        let mut file = create_private(&new).map_err(|fault| told(&new, &fault))?;
+        let mut file = create_private(&new).map_err(|fault| format!("{}: {fault}", self.beside_as_given()))?;
         let replaced = file.write_all(bytes).and_then(|()| file.sync_all()).and_then(|()| fs::rename(&new, &self.path));
         if let Err(fault) = replaced {
             drop(remove(&file, &new));
-            return Err(format!("{}; {} is as it was", told(&new, &fault), shown(&self.given)));
+            return Err(format!("{}: {fault}; {} is as it was", self.beside_as_given(), shown(&self.given)));
         }
         folder.sync_all().map_err(|fault| {
             format!("{}; its new stage may not be on the disk yet: run the same command again", told(&self.given, &fault))
@@ -151,7 +151,7 @@ impl Held {
         let removed = remove(&self.file, &self.path).and_then(|()| folder.sync_all());
         let removed = removed.map_err(|fault| told(&self.given, &fault));
         let left = left.map_err(|why| {
-            let new = shown(self.beside());
+            let new = self.beside_as_given();
             format!("{new} remains: {why}; if it is a list or an end, run airfield destroy {new}, else move it or remove it")
         });
         match (removed, left) {
@@ -167,13 +167,19 @@ impl Held {
     }
 
     /// What stands under the name that a new version has until it is whole.
-    pub fn leftover(&self) -> Option<PathBuf> {
-        Some(self.beside()).filter(|new| fs::symlink_metadata(new).is_ok())
+    pub fn leftover(&self) -> Option<String> {
+        fs::symlink_metadata(self.beside()).ok().map(|_| self.beside_as_given())
     }
 
     /// The name that a new version has until it is whole.
     fn beside(&self) -> PathBuf {
         with_new(&self.path)
+    }
+
+    /// The same as a message shows it: by the words of the command line, unless these name a link.
+    fn beside_as_given(&self) -> String {
+        let is_link = resolved(&self.given).map_or(true, |path| path != self.path);
+        shown(with_new(if is_link { &self.path } else { &self.given }))
     }
 
     /// Destroys what stands beside it, if it is private and its bytes are `ours`, or erased; else says why not.

@@ -242,7 +242,7 @@ fn status(file: &Path) -> Result<String, String> {
         Err(_) if bytes.starts_with(b"cutawheno end ") => End::read(&bytes).map(|end| status_of_end(&end)),
         list => list.map(|list| status_of_list(&list)),
     };
-    let left = held.leftover().map(|left| format!("beside it stands {}, which a killed run may have left", shown(left)));
+    let left = held.leftover().map(|left| format!("beside it stands {left}, which a killed run may have left"));
     match (read, left) {
         (Ok(told), None) => Ok(told),
         (Ok(told), Some(left)) => Ok(format!("{told}{left}\n")),
