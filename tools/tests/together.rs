@@ -141,7 +141,9 @@ fn a_name_that_is_lost_meanwhile_is_told() {
             folder.write("other", b"other", 0o600);
             fs::rename(folder.at("other"), folder.at(name)).unwrap();
         }),
-        ("it was given a second name", &|folder, name| fs::hard_link(folder.at(name), folder.at(&format!("{name}.second"))).unwrap()),
+        ("it was given a second name (hard link) meanwhile", &|folder, name| {
+            fs::hard_link(folder.at(name), folder.at(&format!("{name}.second"))).unwrap()
+        }),
     ];
     for (told, happen) in happens {
         let folder = Folder::new("lost");
@@ -150,6 +152,7 @@ fn a_name_that_is_lost_meanwhile_is_told() {
         send(&list, "-CONT");
         end_of(list).failed(&["list: ", told]);
         assert!(fs::read(folder.at("list")).map_or(true, |bytes| bytes == b"other"));
+        assert!(fs::read(folder.at("list.second")).map_or(true, |bytes| bytes.len() > 100 && bytes.iter().all(|&byte| byte == 0)));
         folder.airfield(&["list", "3", "2", "1", "1", "spare"]).done();
         let key = stopped(&folder, &["key", "spare", "1", "end"], "write end");
         happen(&folder, "end");
@@ -162,6 +165,17 @@ fn a_name_that_is_lost_meanwhile_is_told() {
         send(&first, "-CONT");
         end_of(first).failed(&["end2: ", told]);
     }
+}
+
+/// Shows that a file that is moved away while it is destroyed is told.
+#[test]
+fn a_file_that_is_moved_while_it_is_destroyed_is_told() {
+    let folder = Folder::with_ends("moved");
+    let run = stopped(&folder, &["destroy", "end1"], "write end1");
+    fs::rename(folder.at("end1"), folder.at("away")).unwrap();
+    send(&run, "-CONT");
+    end_of(run).failed(&["end1: its zeros are left under another name"]);
+    assert!(folder.read("away").iter().all(|&byte| byte == 0));
 }
 
 /// Shows that a list that is destroyed while it is made is not told as made.

@@ -85,16 +85,7 @@ impl Held {
         for _ in 0..PATIENCE {
             let path = fs::canonicalize(given).map_err(|fault| told(given, &fault))?;
             let file = open_existing(&path).map_err(|fault| format!("{}: {fault}", shown(given)))?;
-            let stands = || -> Result<bool, String> {
-                let found = file.metadata().map_err(|fault| fault.to_string())?;
-                let stands = fs::symlink_metadata(&path).map_or(false, |named| same_file(&named, &found));
-                if stands {
-                    check(&found, purpose)?;
-                    check_folder(&path, purpose)?;
-                }
-                Ok(stands)
-            };
-            let stands = || stands().map_err(|fault| format!("{}: {fault}", shown(given)));
+            let stands = || usable(&file, &path, purpose).map_err(|fault| format!("{}: {fault}", shown(given)));
             // what is refused is waited for no longer: somebody else may hold its lock for ever
             if stands()? {
                 wait_for_lock(&file, given, &mut patient)?;
@@ -249,6 +240,17 @@ fn kind_of(found: &Metadata) -> &'static str {
     }
 }
 
+/// Whether the name still leads to the file; and if so, all that must hold of it.
+fn usable(file: &File, path: &Path, purpose: Purpose) -> Result<bool, String> {
+    let found = file.metadata().map_err(|fault| fault.to_string())?;
+    let stands = fs::symlink_metadata(path).map_or(false, |named| same_file(&named, &found));
+    if stands {
+        check(&found, purpose)?;
+        check_folder(path, purpose)?;
+    }
+    Ok(stands)
+}
+
 /// What must hold of a file with a secret. One that is to be destroyed may lie open to others.
 fn check(found: &Metadata, purpose: Purpose) -> Result<(), String> {
     let mode = found.mode() & MODE;
@@ -333,17 +335,21 @@ fn erase(mut file: &File) -> io::Result<()> {
 /// Overwrites a file and removes its name, even where it cannot be overwritten. Another file that has that name by now is left alone.
 fn remove(file: &File, path: &Path) -> io::Result<()> {
     let erased = erase(file);
-    match fs::symlink_metadata(path) {
-        Err(fault) if fault.kind() == io::ErrorKind::NotFound => erased,
-        Err(fault) => Err(fault),
-        Ok(named) if same_file(&named, &file.metadata()?) => fs::remove_file(path).and(erased),
-        Ok(_) => Err(io::Error::new(io::ErrorKind::Other, "another file has its name now")),
+    let found = file.metadata()?;
+    let removed = match fs::symlink_metadata(path) {
+        Err(fault) if fault.kind() == io::ErrorKind::NotFound => 0,
+        Err(fault) => return Err(fault),
+        Ok(named) if same_file(&named, &found) => fs::remove_file(path).map(|()| 1)?,
+        Ok(_) => return Err(lost("another file has its name now")),
+    };
+    if found.nlink() > removed {
+        return erased.and(Err(lost("its zeros are left under another name")));
     }
+    erased
 }
 
 /// Whether a file has its name, and no other.
 fn stands(file: &File, path: &Path) -> io::Result<()> {
-    let lost = |why| io::Error::new(io::ErrorKind::Other, why);
     let found = file.metadata()?;
     match fs::symlink_metadata(path) {
         Ok(named) if !same_file(&named, &found) => Err(lost("another file was put in its place meanwhile")),
@@ -373,6 +379,10 @@ fn check_name(path: &Path, held: Option<&Held>) -> Result<(), String> {
 /// The name in its folder, which is resolved; the name itself is not.
 fn resolved(path: &Path) -> Option<PathBuf> {
     fs::canonicalize(folder_name(path)).ok().and_then(|folder| Some(folder.join(path.file_name()?)))
+}
+
+fn lost(why: &str) -> io::Error {
+    io::Error::new(io::ErrorKind::Other, why)
 }
 
 fn told(path: &Path, fault: &io::Error) -> String {
