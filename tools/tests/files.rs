@@ -96,7 +96,8 @@ fn a_folder_that_everybody_may_write_is_refused() {
     let folder = Folder::with_ends("open");
     let before = folder.read("end1");
     let open = |mode: u32| fs::set_permissions(&folder.path, fs::Permissions::from_mode(mode)).unwrap();
-    folder.link("open/end1", "../open-link");
+    fs::create_dir(folder.at("links")).unwrap();
+    folder.link("../end1", "links/end");
     for mode in [0o777, 0o702] {
         open(mode);
         let told = format!("its folder's mode is {mode:04o}");
@@ -106,18 +107,17 @@ fn a_folder_that_everybody_may_write_is_refused() {
             &["first", "end1", "5"],
             &["reply", "end1", "5"],
             &["status", "end1"],
-            &["first", "../open-link", "5"],
+            &["first", "links/end", "5"],
         ] {
             folder.airfield(words).failed(&[&told]);
         }
     }
-    assert_eq!((folder.read("end1"), folder.names().len()), (before, 4));
+    assert_eq!((folder.read("end1"), folder.names().len()), (before, 5));
     folder.airfield(&["destroy", "end3"]).done();
     for (mode, end) in [(0o1777, "end1"), (0o770, "end2")] {
         open(mode);
         folder.airfield(&["first", end, "5"]).done();
     }
-    fs::remove_file(folder.at("../open-link")).unwrap();
 }
 
 #[test]
