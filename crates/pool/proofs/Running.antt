@@ -1,5 +1,5 @@
 -- The turns of a run.
---   goes-inside                                one write
+--   goes-inside, written-as                    one write, and many
 --   settle-sent, turned                        one turn
 --   Made, made-start, made-next, made-as, made-sound, ran    so many turns from the start on
 -- Assumes nothing.
@@ -27,13 +27,13 @@ use Rattle.pool.specs.declared.Next.the-variants.{Await, Feed, Refuse, O
 use Rattle.pool.specs.declared.Live.{Live}
 use Rattle.pool.specs.declared.Wrote.{Wrote}
 use Rattle.pool.specs.Turns.{Came, Turn, first-turn, step-by, step, sent, Due, Turns, none, more}
-use Rattle.pool.specs.Pool.{live-of, Leaves, brought, Untouched, Fills, stepped, interrupted, write-as, Goes-on, Writes, settled, longest, Sound, Turned, is-over, Ran}
+use Rattle.pool.specs.Pool.{live-of, Leaves, brought, Untouched, Fills, stepped, interrupted, write-as, Goes-on, Written, Writes, settled, longest, Sound, Turned, is-over, Ran}
 use Rattle.pool.specs.Promise.{Unfinished, Stands, So-far, Run-right}
 use Rattle.pool.proofs.Answers.{clamped-inside}
 use Rattle.pool.proofs.Promise.{run-right}
 use Rattle.pool.proofs.Leaving.{front-sets}
 
--- ---- one write
+-- ---- one write, and many
 pub goes-inside : (at n : ℕ) (w : Wrote) → Goes-on at n w → w .at ≤ n
 unfolding write-as
 goes-inside at n w g = pick (ltZ (g .put) (pos 0)) (ℕ-discrete count 0) (ap (λ (x : Wrote). x .at) (g .result))
@@ -50,6 +50,9 @@ goes-inside at n w g = pick (ltZ (g .put) (pos 0)) (ℕ-discrete count 0) (ap (�
     pick false (no d) x =
         let u : w .at ≡ at + count = rw (ne-eqb count 0 d) at x in
         omega (arith, g .inside, clamped-inside (g .put) (n - at))
+
+pub written-as : {n k j i : ℕ} → Written n k i → k ≡ j → Written n j i
+written-as {n} {i = i} w e = subst (λ (q : ℕ). Written n q i) e w
 
 -- ---- one turn
 settle-sent : (t : Turn) (w : Wrote) → Writes (length (t .text)) w → settled (live-of t) w ≡ live-of (sent (w .at) t)

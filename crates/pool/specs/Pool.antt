@@ -7,7 +7,8 @@
 --   read-as, Fills, Ready   one read: the bytes that waited stay in front; there is room for what was read, and for a line
 --   step-of, stepped        one step of the code's value
 --   write-as, Goes-on       one write of the bytes that are left
---   Writes, settled         how far a text is written; the value behind that
+--   Written, Writes         how far a text is written, by writes of which each goes on where the one before ended
+--   settled                 the value behind that
 --   longest, Sound          there is room for a read where one is due, and for a line
 --   Turned                  one turn: a read, its step, and how far its text was written
 --   Ran                     a run from the start on
@@ -15,6 +16,7 @@
 use mathlib.Core.Path.{_≡_}
 use mathlib.Core.Bool.{Bool, true, false, cond}
 use mathlib.Core.List.{List}
+use mathlib.Core.Logic.{_⊎_}
 use Prim.Native.Nat.{ℕ, _+_, _-_, _^_, _≤_, _<_}
 use lib.Dec.{eqb, leb}
 use lib.ListN.{length, take, drop}
@@ -112,10 +114,18 @@ pub record Goes-on (at n : ℕ) (w : Wrote) : Type 0 where
   pub moved : Moved (n - at) put
   pub result : w ≡ write-as at (clamped put (n - at)) put error
 
--- of n bytes: all, or fewer where a write failed
+-- so many writes of n bytes went on, each where the one before ended, the last up to `at`
+pub data Written (n : ℕ) : (count at : ℕ) → Type 0 where
+  unwritten : Written n 0 0
+  goes-on : (k i : ℕ) (w : Wrote) → Written n k i → Goes-on i n w → w .ok ≡ true → Written n (k + 1) (w .at)
+
+-- of n bytes: all; or fewer where a write failed, or behind 2 ^ 64 - 1 writes
 pub record Writes (n : ℕ) (w : Wrote) : Type 0 where
   pub inside : w .at ≤ n
   pub all : w .ok ≡ leb n (w .at)
+  pub count : ℕ
+  pub written : Written n count (w .at)
+  pub stops : w .ok ≡ false → (count ≡ 2 ^ 64 - 1) ⊎ ((v : Wrote) × Goes-on (w .at) n v × (v .ok ≡ false))
 
 unfoldable pub settled : Live → Wrote → Live
 settled l w =
