@@ -1,3 +1,5 @@
--- Tests: laws of the tests of lists. Copies: laws of lists that are written.
+-- Tests: laws of the tests of lists. Copies: laws of lists that are written. Stages: a stage and its number. Started: a line s.
 pub mod Tests
 pub mod Copies
+pub mod Stages
+pub mod Started

@@ -2,6 +2,7 @@
 // writes such lines (reference/src/material/vectors.rs sets them out).
 //   Case                       what the lines of a case have made so far
 //   Verdict, Checked           whether a call answered as the line says, or what differs; and the case
+//   judge, agree, judge_close  what differs first
 //   check_plan .. check_finish one line each: the call, and every number of its answer compared
 //   Copied, copy_out, copied_reply    a reply whose part is copied out of the key
 //   Given, give_first, give_reply   elements to the service, one place or block after the other
@@ -9,7 +10,10 @@
 //   lines                      the input, line by line
 // Every answer is compared whole: number, stage, set, and the lent buffer to its end.
 ghost use mathlib.Core.Path.{_≡_};
-ghost use Rattle.client.specs.Client.{reply-answer, part-of};
+ghost use mathlib.Core.Bool.{true};
+ghost use lib.Dec.{eqb};
+ghost use Rattle.client.specs.Client.{stage-of, stage-number, reply-answer, part-of};
+ghost use Rattle.rounds.specs.Judged.{judged, judged-close, lent-right, opened, closed, started, total-count};
 ghost use Rattle.rounds.specs.Replied.{copied};
 
 pub mod lines;
@@ -67,7 +71,9 @@ pub struct Given {
 }
 
 // Number, stage and elements of an answer, the first that differs.
-fn judge(got: u32, wanted: u32, stage: bool, elements: bool) -> Verdict {
+fn judge(got: u32, wanted: u32, stage: bool, elements: bool) -> Verdict
+    ensures { λ r. ⌜ r ≡ judged got wanted stage elements ⌝ }
+{
     if got != wanted {
         return Verdict::Number;
     }
@@ -80,11 +86,15 @@ fn judge(got: u32, wanted: u32, stage: bool, elements: bool) -> Verdict {
     Verdict::Agrees
 }
 
-fn agree(got: u32, wanted: u32) -> Verdict {
+fn agree(got: u32, wanted: u32) -> Verdict
+    ensures { λ r. ⌜ r ≡ judged got wanted true true ⌝ }
+{
     judge(got, wanted, true, true)
 }
 
-fn lent_right(fits: bool) -> Verdict {
+fn lent_right(fits: bool) -> Verdict
+    ensures { λ r. ⌜ r ≡ lent-right fits ⌝ }
+{
     if !fits {
         return Verdict::Damaged;
     }
@@ -149,7 +159,7 @@ fn make_part(plan: Plan, user: u32, list: &[u16], out: &mut [u16], room: usize) 
 }
 
 // The key maker, into a part of a buffer.
-fn make_into(plan: Plan, user: u32, list: &[u16], out: &mut [u16; ROOM], room: usize) -> u32 {
+pub fn make_into(plan: Plan, user: u32, list: &[u16], out: &mut [u16; ROOM], room: usize) -> u32 {
     make_part(plan, user, list, out, room)
 }
 
@@ -178,7 +188,9 @@ fn check_key(mut case: Case, line: &[u16], lent: &mut [u16; SPACE]) -> Checked {
 }
 
 // s user number: a fresh end.
-fn check_start(mut case: Case, line: &[u16]) -> Checked {
+fn check_start(mut case: Case, line: &[u16]) -> Checked
+    ensures { λ r. ⌜ r ≡ started case (now (line .entry)) ⌝ }
+{
     let plan = case.plan;
     let wanted = number_at(line, 1);
     let started = Client::start(plan, number_at(line, 0));
@@ -196,7 +208,9 @@ fn check_start(mut case: Case, line: &[u16]) -> Checked {
 }
 
 // Stages as numbers: 0 fresh, 1 sent, 2 + v has answered the set v.
-fn stage_is(stage: Stage, number: u32) -> bool {
+fn stage_is(stage: Stage, number: u32) -> bool
+    ensures { λ r. ⌜ r ≡ eqb number (stage-number (stage-of stage)) ⌝ }
+{
     match stage {
         Stage::Fresh => number == 0,
         Stage::Sent => number == 1,
@@ -204,7 +218,7 @@ fn stage_is(stage: Stage, number: u32) -> bool {
             if number < 2 {
                 return false;
             }
-            set == number - 2
+            number - 2 == set
         }
     }
 }
@@ -325,7 +339,9 @@ fn check_reply(mut case: Case, line: &[u16], lent: &[u16; SPACE]) -> Checked {
 }
 
 // o round number: the service opens a round.
-fn check_open(mut case: Case, line: &[u16]) -> Checked {
+fn check_open(mut case: Case, line: &[u16]) -> Checked
+    ensures { λ r. ⌜ r ≡ opened case (now (line .entry)) ⌝ }
+{
     let service = case.service;
     let stepped = service.open(number_at(line, 0));
     let next = stepped.service;
@@ -415,26 +431,40 @@ fn check_answers(case: Case, line: &[u16]) -> Checked {
     handed(case, took)
 }
 
+// Number and set of a close, the first that differs.
+fn judge_close(number: u32, wanted: u32, set: u32, expected: u32) -> Verdict
+    ensures { λ r. ⌜ r ≡ judged-close number wanted set expected ⌝ }
+{
+    if number != wanted {
+        return Verdict::Number;
+    }
+    if set != expected {
+        return Verdict::Set;
+    }
+    Verdict::Agrees
+}
+
 // c number set: the close, and the survivors.
-fn check_close(mut case: Case, line: &[u16]) -> Checked {
+fn check_close(mut case: Case, line: &[u16]) -> Checked
+    ensures { λ r. ⌜ r ≡ closed case (now (line .entry)) ⌝ }
+{
     let service = case.service;
     let closed = service.close();
     let next = closed.service;
     case.service = next;
-    if closed.number != number_at(line, 0) {
-        let verdict = Verdict::Number;
-        return Checked { case, verdict };
-    }
-    if closed.set != number_at(line, 1) {
-        let verdict = Verdict::Set;
-        return Checked { case, verdict };
-    }
-    let verdict = Verdict::Agrees;
+    let verdict = judge_close(
+        closed.number,
+        number_at(line, 0),
+        closed.set,
+        number_at(line, 1),
+    );
     Checked { case, verdict }
 }
 
 // How many totals a finish hands back: L, or none where it is refused.
-fn total_count(number: u32, places: u32) -> usize {
+fn total_count(number: u32, places: u32) -> usize
+    ensures { λ r. ⌜ r ≡ total-count number places ⌝ }
+{
     if number != 0 {
         return 0;
     }
@@ -446,7 +476,7 @@ fn check_finish(mut case: Case, line: &[u16]) -> Checked {
     let service = case.service;
     let finished = finish::finish(service);
     let next = finished.service;
-    let totals = finished.totals;
+    let totals: [u16; Client::MOST_PLACES] = finished.totals;
     let head = next.head;
     case.service = next;
     let wanted = rest(line, 1);

@@ -1,14 +1,19 @@
 // Runs the examples of document 01 that no theorem covers, and the cases of the second implementation that come on standard input, by
 // the public functions, and checks every result. It says what agrees, or the first line of the input that does not.
 //   lengths_right   plan 8 2 1 16: its lengths; a round of it is among the cases
+//   limits_right    plans at each limit have lengths and those past it none; 96 places are the most
+//   elements_right  a random list may hold q - 1, and not q
 //   stream_lines    the example stream, cut in two at every byte: the printed lines; and the line of refusal 7
 //   main            the examples, then the input (calls/lines.rt)
 // Document 01's airfield is a user here.
 mod calls;
 mod lists;
 
+use calls::make_into;
 use client::Client;
 use libc::STDOUT_FILENO;
+use lists::front;
+use lists::marked;
 use plan::Plan;
 use service::Service;
 use stream::Fed;
@@ -42,6 +47,100 @@ fn lengths_right() -> bool {
         user += 1;
     }
     plan::list_length(plan) == LIST
+}
+
+fn plan_of(users: u32, threshold: u32, collusion: u32, blocks: u32) -> Plan {
+    Plan {
+        users,
+        threshold,
+        collusion,
+        blocks,
+    }
+}
+
+// The smallest plan: 3 2 1 1.
+fn least() -> Plan {
+    plan_of(
+        Client::LEAST_USERS,
+        2,
+        Client::LEAST_COLLUSION,
+        Client::LEAST_BLOCKS,
+    )
+}
+
+// Whether the plan at a limit has lengths, and the one past it has none.
+fn limit_between(at: Plan, past: Plan) -> bool {
+    if plan::row_length(at) == 0 {
+        return false;
+    }
+    if plan::list_length(at) == 0 {
+        return false;
+    }
+    if plan::key_length(at, 1) == 0 {
+        return false;
+    }
+    if plan::row_length(past) != 0 {
+        return false;
+    }
+    if plan::list_length(past) != 0 {
+        return false;
+    }
+    plan::key_length(past, 1) == 0
+}
+
+fn least_right() -> bool {
+    let blocks = Client::LEAST_BLOCKS;
+    let collusion = Client::LEAST_COLLUSION;
+    let users = Client::LEAST_USERS;
+    if !limit_between(least(), plan_of(users - 1, 2, collusion, blocks)) {
+        return false;
+    }
+    if !limit_between(least(), plan_of(users, 2, collusion - 1, blocks)) {
+        return false;
+    }
+    limit_between(least(), plan_of(users, 2, collusion, blocks - 1))
+}
+
+fn limits_right() -> bool {
+    let blocks = Client::MOST_BLOCKS;
+    let collusion = Client::LEAST_COLLUSION;
+    let users = Client::MOST_USERS;
+    let most = plan_of(users, users - 1, collusion, blocks);
+    if !limit_between(most, plan_of(users + 1, users - 1, collusion, blocks)) {
+        return false;
+    }
+    if !limit_between(most, plan_of(users, users - 1, collusion, blocks + 1)) {
+        return false;
+    }
+    if plan::row_length(most) != Client::MOST_PLACES {
+        return false;
+    }
+    least_right()
+}
+
+fn throughout(x: u16) -> [u16; Client::MOST_PLACES] {
+    [x; Client::MOST_PLACES]
+}
+
+// The key maker's answer to a random list with one number throughout.
+fn answer_to(x: u16) -> u32 {
+    let plan = least();
+    let list = throughout(x);
+    let mut key = marked();
+    make_into(
+        plan,
+        1,
+        front(&list, plan::list_length(plan)),
+        &mut key,
+        plan::key_length(plan, 1),
+    )
+}
+
+fn elements_right() -> bool {
+    if answer_to(Client::Q as u16) != 3 {
+        return false;
+    }
+    answer_to((Client::Q - 1) as u16) == 0
 }
 
 // Room for a chunk of the input, and for the lines of the example.
@@ -140,6 +239,15 @@ fn main() {
         return;
     }
     say(b"plan 8 2 1 16: list 4080, each key 2048\n");
+    if !limits_right() {
+        say(b"limits: a length differs\n");
+        return;
+    }
+    if !elements_right() {
+        say(b"limits: an element is judged otherwise\n");
+        return;
+    }
+    say(b"limits: taken at each, refused past it\n");
     let mut text = io::large_buffer();
     if !stream_lines(&mut text) {
         say(b"example stream: a line differs\n");

@@ -3,8 +3,10 @@
 //   Run, whole, take_chunk      how far the run has come; a whole line; the lines of a chunk
 //   tell, ended, turn, read_all what differs; the end of the input; one read; all of it
 ghost use mathlib.Core.Path.{_≡_};
+ghost use mathlib.Core.Bool.{not};
 ghost use Prim.Native.Nat.{_+_, _*_, _≤_, _<_, min};
 ghost use lib.ListN.{length};
+ghost use Rattle.rounds.specs.Judged.{agreed};
 use super::Case;
 use super::Verdict;
 use super::check;
@@ -211,7 +213,9 @@ fn tell(run: Run) {
     }
 }
 
-fn agrees(verdict: Verdict) -> bool {
+fn agrees(verdict: Verdict) -> bool
+    ensures { λ r. ⌜ r ≡ agreed verdict ⌝ }
+{
     match verdict {
         Verdict::Agrees => true,
         Verdict::Damaged => false,
@@ -223,7 +227,9 @@ fn agrees(verdict: Verdict) -> bool {
 }
 
 // A whole line: the call is made and compared.
-fn whole(run: Run, line: Line, numbers: &[u16; SPACE], lent: &mut [u16; SPACE]) -> Run {
+fn whole(run: Run, line: Line, numbers: &[u16; SPACE], lent: &mut [u16; SPACE]) -> Run
+    ensures { λ r. ⌜ r .done ≡ not (agreed (r .verdict)) ⌝ }
+{
     let case = run.case;
     let count = line.count;
     let letter = if line.damaged { 0 } else { line.letter };

@@ -1,0 +1,35 @@
+-- What a line s shows, for each case of what a start answers.
+--   with-end          a case with another end
+--   started-refused   the case as it was
+--   started-fresh     the case with the fresh end
+-- Assumes nothing.
+use mathlib.Core.Path.{_≡_, sym, ap, _∙_}
+use mathlib.Core.Bool.{true}
+use mathlib.Core.List.{List}
+use Prim.Native.Nat.{ℕ}
+use lib.ListN.{getD}
+use Rattle.client.specs.declared.Client.{Client}
+use Rattle.client.specs.declared.Start.{Start}
+use Rattle.client.specs.declared.Start.the-variants.{Refused, Started}
+use Rattle.client.specs.Client.{Begun, begun-by, begun}
+use Rattle.rounds.specs.declared.calls.Verdict.{Verdict}
+use Rattle.rounds.specs.declared.calls.Case.{Case}
+use Rattle.rounds.specs.Judged.{judged, end-of, begun-as, started}
+
+abbrev pub with-end : Case → Client → Case
+with-end c d = record { plan = c .plan; list = c .list; key = c .key; end = d; service = c .service }
+
+-- w is the wanted number, u the user, s what the start answers, v the verdict
+module _ (c : Case) (l : List ℕ) {w u : ℕ} {v : Verdict} {s : Start}
+    (wanted : w ≡ getD l 1 0) (user : u ≡ getD l 0 0) (answer : begun-by s ≡ begun (c .plan) u) where
+  pub started-refused : (n : ℕ) → s ≡ Refused n → v ≡ judged n w true true → record { case = c; verdict = v } ≡ started c l
+  unfolding begun-by end-of
+  started-refused n e h =
+      ap (λ (x : Verdict). record { case = c; verdict = x }) (h ∙ ap (λ (x : ℕ). judged n x true true) wanted)
+      ∙ ap (λ (b : Begun). begun-as c b (getD l 1 0)) (ap begun-by (sym e) ∙ answer ∙ ap (begun (c .plan)) user)
+
+  pub started-fresh : (d : Client) → s ≡ Started d → v ≡ judged 0 w true true → record { case = with-end c d; verdict = v } ≡ started c l
+  unfolding begun-by end-of
+  started-fresh d e h =
+      ap (λ (x : Verdict). record { case = with-end c d; verdict = x }) (h ∙ ap (λ (x : ℕ). judged 0 x true true) wanted)
+      ∙ ap (λ (b : Begun). begun-as c b (getD l 1 0)) (ap begun-by (sym e) ∙ answer ∙ ap (begun (c .plan)) user)
