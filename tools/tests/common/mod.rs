@@ -192,7 +192,8 @@ pub fn wait_for_stop(child: &Child) {
 }
 
 pub fn send(child: &Child, signal: &str) {
-    let sent = Command::new("kill").args([signal, &child.id().to_string()]).status().unwrap();
+    // bash has kill built in
+    let sent = Command::new("bash").args(["-c", "kill \"$0\" \"$1\"", signal, &child.id().to_string()]).status().unwrap();
     assert!(sent.success());
 }
 
