@@ -2,13 +2,14 @@
 --   Carried, nothing-carried      the held elements of a user are those of a list
 --   steps-first, steps-reply      a record that carries none but those keeps it so
 --   Survived, steps-survived      while replying, the survivors are the users with all places held
---   run-keeps                     what every record keeps, a list of calls keeps
+--   run-keeps                     what every taken record keeps, a list of calls keeps
 -- Assumes nothing.
-use mathlib.Core.Path.{_≡_, refl, sym, ap, _∙_}
+use mathlib.Core.Path.{_≡_, refl, sym, ap, _∙_, subst}
 use mathlib.Core.Bool.{Bool, true, false, _&&_, cond}
-use mathlib.Core.List.{List, [], _∷_, map}
+use mathlib.Core.List.{List, [], _∷_}
 use mathlib.Core.Option.{Option, some}
 use Prim.Native.Nat.{ℕ}
+use native.Mathlib.Decide.{ℕ-discrete}
 use lib.Dec.{eqb}
 use lib.ListN.{getD}
 use borrow.Author.Tests.{eqb-true}
@@ -18,9 +19,10 @@ use Rattle.scheme.proofs.Tests.{both, holds}
 use Rattle.scheme.proofs.Well.{test-held}
 use Rattle.service.specs.View.{view, Formed}
 use Rattle.capi.specs.Lent.{Arrays, state}
-use Rattle.exported.specs.Runs.{Call, record-of, leaves, run}
-use Rattle.exported.specs.Round.{Each, First-of, Reply-of}
+use Rattle.exported.specs.Runs.{Call, number-of, leaves, run}
+use Rattle.exported.specs.Round.{Each-taken, First-of, Reply-of}
 use Rattle.exported.proofs.Runs.{step-right}
+use Rattle.exported.proofs.Refused.{refused-unchanged}
 
 -- wherever an element of user k is held, it is the list's
 pub record Carried (k : ℕ) (f : List ℕ) (held : (k at : ℕ) → Option ℕ) : Type 0 where
@@ -104,7 +106,11 @@ module _ (A : Arithmetic) where
 
 -- ---- lists of calls
 pub run-keeps : (P : State → Type 0) (Q : Record → Type 0) → ((r : Record) (s t : State) (a : Answer) → Steps sixteen r s a t → Q r → P s → P t)
-    → (cs : List Call) (a : Arrays) → Formed (state a) → Each Q (map record-of cs) → P (view (state a)) → P (view (state (run cs a)))
-unfolding run
+    → (cs : List Call) (a : Arrays) → Formed (state a) → Each-taken Q cs a → P (view (state a)) → P (view (state (run cs a)))
+unfolding run Each-taken
 run-keeps P Q keeps [] a w h p = p
-run-keeps P Q keeps (c ∷ cs) a w h p = let s = step-right a w c in run-keeps P Q keeps cs (leaves c a) (s .formed) (h .1) (keeps _ _ _ _ (s .step) (h .0) p)
+run-keeps P Q keeps (c ∷ cs) a w h p = run-keeps P Q keeps cs (leaves c a) (step-right a w c .formed) (h .1) (either (ℕ-discrete (number-of c a) 0))
+  where
+    either : Dec (number-of c a ≡ 0) → P (view (state (leaves c a)))
+    either (yes z) = keeps _ _ _ _ (step-right a w c .step) (h .0 z) p
+    either (no n) = subst (λ (b : Arrays). P (view (state b))) (sym (refused-unchanged .arrays-kept c a n)) p

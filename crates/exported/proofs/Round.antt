@@ -33,9 +33,9 @@ use Rattle.capi.specs.Lent.{Arrays, state, finish-totals}
 use Rattle.capi.proofs.Stands.{calls-stand}
 use Rattle.round.specs.Round as round
 use Rattle.round.proofs.Round as round-proved
-use Rattle.exported.specs.Runs.{Call, open-call, record-of, zeros, plan-in, number-of, leaves, run}
+use Rattle.exported.specs.Runs.{Call, open-call, zeros, plan-in, number-of, leaves, run}
 use Rattle.exported.specs.Shown.{calls, Same-given}
-use Rattle.exported.specs.Round.{Each, First-of, Reply-of, Round-right}
+use Rattle.exported.specs.Round.{Each-taken, First-of, Reply-of, Round-right}
 use Rattle.exported.proofs.Runs.{step-right, run-formed, zeros-formed}
 use Rattle.exported.proofs.Shown.{same-given}
 use Rattle.exported.proofs.Carried.{Carried, nothing-carried, steps-first, steps-reply, Survived, steps-survived, run-keeps}
@@ -71,9 +71,10 @@ totals-padded s zero z =
 totals-padded s (suc n) z = absurd (omega arith)
 
 -- ---- the arrays behind an accepted open, and behind the calls of the round
-every : (rs : List Record) → Each (λ r. Unit {0}) rs
-every [] = tt
-every (r ∷ rs) = (tt, every rs)
+every : (cs : List Call) (a : Arrays) → Each-taken (λ r. Unit {0}) cs a
+unfolding Each-taken
+every [] a = tt
+every (c ∷ cs) a = (λ z. tt, every cs (leaves c a))
 
 module _ (a : Arrays) (w : Formed (state a)) (r : ℕ) (e : number-of (open-call r) a ≡ 0) (cs : List Call) where
   opens : view (state (leaves (open-call r) a)) ≡ next-state (open-record r) (view (state a))
@@ -84,20 +85,22 @@ module _ (a : Arrays) (w : Formed (state a)) (r : ℕ) (e : number-of (open-call
   end-formed = run-formed cs (leaves (open-call r) a) (step-right a w (open-call r) .formed)
 
   keeps : (P : State → Type 0) (Q : Record → Type 0) → ((r : Record) (s t : State) (a : Answer) → Steps sixteen r s a t → Q r → P s → P t)
-      → Each Q (map record-of cs) → P (next-state (open-record r) (view (state a))) → P (view (state (run cs (leaves (open-call r) a))))
+      → Each-taken Q cs (leaves (open-call r) a) → P (next-state (open-record r) (view (state a))) → P (view (state (run cs (leaves (open-call r) a))))
   keeps P Q k h p = run-keeps P Q k cs (leaves (open-call r) a) (step-right a w (open-call r) .formed) h (subst P (sym opens) p)
 
-  first-carried : (k : ℕ) (m : List ℕ) → Each (First-of k m) (map record-of cs) → Carried k m (view (state (run cs (leaves (open-call r) a))) .firsts)
+  first-carried : (k : ℕ) (m : List ℕ) → Each-taken (First-of k m) cs (leaves (open-call r) a)
+      → Carried k m (view (state (run cs (leaves (open-call r) a))) .firsts)
   unfolding next-state opened-state
   first-carried k m h = keeps (λ s. Carried k m (s .firsts)) (First-of k m) (steps-first sixteen k m) h (nothing-carried k m)
 
-  reply-carried : (k : ℕ) (m : List ℕ) → Each (Reply-of k m) (map record-of cs) → Carried k m (view (state (run cs (leaves (open-call r) a))) .replies)
+  reply-carried : (k : ℕ) (m : List ℕ) → Each-taken (Reply-of k m) cs (leaves (open-call r) a)
+      → Carried k m (view (state (run cs (leaves (open-call r) a))) .replies)
   unfolding next-state opened-state
   reply-carried k m h = keeps (λ s. Carried k m (s .replies)) (Reply-of k m) (steps-reply sixteen k m) h (nothing-carried k m)
 
   survived : Survived (view (state (run cs (leaves (open-call r) a))))
   unfolding next-state opened-state Survived is-replying
-  survived = keeps Survived (λ r. Unit {0}) (λ r s t b h u. steps-survived sixteen r s t b h) (every (map record-of cs)) (λ h. absurd (holds h))
+  survived = keeps Survived (λ r. Unit {0}) (λ r s t b h u. steps-survived sixteen r s t b h) (every cs (leaves (open-call r) a)) (λ h. absurd (holds h))
 
 pub round-right : Round-right
 unfolding Round-right run number-of finish-step finish-totals Survived Same-given gathered replied view round.Round-right

@@ -1,9 +1,10 @@
 -- Demand 2 from end to end on lent memory: what the exported calls of the airfields give, put in by the exported calls of the service,
 -- finishes as the survivors' total.
---   Each               a fact of each record of a list
+--   Each-taken         a fact of each call of a list that is taken where it comes, refused ones left out
 --   First-of, Reply-of the records that carry an element of a user carry those of its first message, of its part
---   Sent-in            the survivors' first messages, and the replies of those that replied whole, are what their calls gave
---   Round-right        the statement: arrays from zeros, any calls and rounds before, any other calls between
+--   Sent-in            what is taken of the survivors' first messages, and of the replies of those that replied whole, is what their calls gave
+--   Round-right        the statement: arrays from zeros, any calls and rounds before; between, any other calls, and refused ones of survivors
+--                      too: doubled (13), late (12), out of place (8), no elements (3)
 -- Assumes nothing: these are definitions.
 use mathlib.Core.Path.{_≡_}
 use mathlib.Core.Logic.{_≢_}
@@ -19,12 +20,12 @@ use Rattle.client.specs.Shown.{Given}
 use Rattle.solve.specs.Solve.{padded}
 use Rattle.service.specs.View.{view}
 use Rattle.capi.specs.Lent.{Arrays, state, finish-totals}
-use Rattle.exported.specs.Runs.{Call, open-call, finish-call, record-of, zeros, plan-in, number-of, run}
+use Rattle.exported.specs.Runs.{Call, open-call, finish-call, record-of, zeros, plan-in, number-of, leaves, run}
 use Rattle.exported.specs.Shown.{Lent, Room, calls}
 
-abbrev pub Each : (Record → Type 0) → List Record → Type 0
-Each P [] = Unit {0}
-Each P (r ∷ rs) = P r × Each P rs
+unfoldable pub Each-taken : (Record → Type 0) → List Call → Arrays → Type 0
+Each-taken P [] a = Unit {0}
+Each-taken P (c ∷ cs) a = (number-of c a ≡ 0 → P (record-of c)) × Each-taken P cs (leaves c a)
 
 unfoldable pub First-of : (k : ℕ) → (message : List ℕ) → Record → Type 0
 First-of k m (first-record l i x) = l ≡ k → x ≡ getD m i 0
@@ -42,10 +43,12 @@ Reply-of k s (first-record l i x) = Unit {0}
 Reply-of k s close-record = Unit {0}
 Reply-of k s finish-record = Unit {0}
 
--- of the calls since an open, and the arrays behind them
-pub record Sent-in (round : List Call) (a : Arrays) (given : (k : ℕ) → Given) : Type 0 where
-  pub first : (k : ℕ) → 1 ≤ k → k ≤ plan-in a .users → in-set (state a .head .survivors) k ≡ true → Each (First-of k (given k .message)) (map record-of round)
-  pub answer : (k : ℕ) → 1 ≤ k → k ≤ plan-in a .users → in-set (replied (view (state a))) k ≡ true → Each (Reply-of k (given k .part)) (map record-of round)
+-- of the calls since an open, and the arrays that the open left
+pub record Sent-in (round : List Call) (opened : Arrays) (given : (k : ℕ) → Given) : Type 0 where
+  pub first : let a = run round opened in (k : ℕ) → 1 ≤ k → k ≤ plan-in a .users → in-set (state a .head .survivors) k ≡ true →
+      Each-taken (First-of k (given k .message)) round opened
+  pub answer : let a = run round opened in (k : ℕ) → 1 ≤ k → k ≤ plan-in a .users → in-set (replied (view (state a))) k ≡ true →
+      Each-taken (Reply-of k (given k .part)) round opened
 
 -- where finish is not refused by 11, 12 or 15, it answers 0 and leaves in the lent buffer the sums of the survivors' figures, place by
 -- place, and 0 behind them
@@ -53,10 +56,11 @@ unfoldable pub Round-right : Type 0
 Round-right =
     (before round : List Call) (r : ℕ) (xs : List ℕ) (x : Table) (lent : (k : ℕ) → Lent) (o : List ℕ) →
     number-of (open-call r) (run before zeros) ≡ 0 →
-    let a = run (open-call r ∷ round) (run before zeros) in
+    let opened = leaves (open-call r) (run before zeros) in
+    let a = run round opened in
     let p = plan-in a in
     let v = state a .head .survivors in
     let n = number-of (finish-call o) a in
     n ≢ 11 → n ≢ 12 → n ≢ 15 → list-good sixteen (plan-of p) xs ≡ true → admissible sixteen (plan-of p) x →
-    ((k : ℕ) → 1 ≤ k → k ≤ p .users → Room p k (lent k)) → Sent-in round a (λ k. calls p xs (x k) v k (lent k)) →
+    ((k : ℕ) → 1 ≤ k → k ≤ p .users → Room p k (lent k)) → Sent-in round opened (λ k. calls p xs (x k) v k (lent k)) →
     (n ≡ 0) × (finish-totals a o ≡ padded 96 (map (total-at sixteen (plan-of p) x v) (span (places (plan-of p)) 0)))
