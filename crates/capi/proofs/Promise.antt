@@ -2,10 +2,9 @@
 --   same-length          as many usable sets hold each user
 --   ends-stand           call by call
 --   part-is-reply        by the definitions
---   same-part, one-set   test 19 at the stage that the array has then
+--   same-part            test 19 at the stage that the array has then
 -- Assumes nothing.
 use mathlib.Core.Path.{_≡_, refl, sym, ap, _∙_}
-use mathlib.Core.Bool.{true}
 use mathlib.Core.List.{List}
 use mathlib.Core.Option.{some}
 use Prim.Native.Nat.{ℕ, zero, suc, _+_, _*_}
@@ -13,12 +12,11 @@ use native.Mathlib.Omega.{arith}
 use native.Mathlib.Decide.{ℕ-discrete}
 use lib.ListN.{length, take, drop, set}
 use lib.Seq.{set-set}
-use borrow.Author.Tests.{eqb-true, eq-eqb, leb-true}
+use borrow.Author.Tests.{eq-eqb, leb-true}
 use Rattle.scheme.specs.Scheme as scheme
-use Rattle.scheme.specs.Scheme.{sixteen, places, is-user, usable, usable-with, sets-with, key-length, reply-start, reply, is-fresh, open-to, reply-refusal, written}
+use Rattle.scheme.specs.Scheme.{places, is-user, usable, usable-with, sets-with, key-length, reply-start, reply, is-fresh, open-to, written}
 use Rattle.scheme.proofs.Tests.{both}
 use Rattle.scheme.proofs.Good.{good}
-use Rattle.scheme.proofs.Refusals.{then-zero, unless-zero}
 use Rattle.plan.specs.declared.Plan as code
 use Rattle.plan.specs.Plan.{plan-of}
 use Rattle.plan.specs.Counts.{holding}
@@ -32,7 +30,7 @@ use Rattle.client.specs.Client.{stage-of, stage-of-number, stage-number, begun-
 use Rattle.client.proofs.Laws.{reply-answers, reply-taken, moved-number, moved-taken, part-given}
 use Rattle.client.proofs.Laws as client
 use Rattle.capi.specs.Ends.{code-stage, end-at, end-numbers, start-left, kept, part-by, part-answer}
-use Rattle.capi.specs.Promise.{Same-length, End-stands, Ends-stand, Part-is-reply, Same-part, One-set}
+use Rattle.capi.specs.Promise.{Same-length, End-stands, Ends-stand, Part-is-reply, Same-part}
 use Rattle.capi.proofs.Laws.{stage-moved, kept-taken, part-taken, part-refused}
 
 pub same-length : Same-length
@@ -106,15 +104,3 @@ same-part e ks v l z =
           ∙ sym (part-taken _ v (taken e ks v l z)),
       kept-taken _ _ _ (again e ks v l z) ∙ ap (λ (d : List ℕ). set d 5 n) moved ∙ set-set e 5 n n ∙ sym moved,
     )
-
--- test 19 is the last
-open-where-taken : (p : scheme.Plan) (k : ℕ) (g : scheme.Stage) (ks : List ℕ) (w : ℕ) → reply-refusal sixteen p k g ks w ≡ 0 → open-to w g ≡ true
-unfolding reply-refusal
-open-where-taken p k g ks w e =
-    unless-zero _ _ (then-zero _ _ (then-zero _ _ (then-zero _ _ (then-zero _ _ (then-zero _ _ (then-zero _ _ e .1) .1) .1) .1) .1) .1)
-
-pub one-set : One-set
-unfolding One-set stage-of open-to
-one-set e ks v w l z h d =
-    let n = ap (λ (c : Client). answer-refusal c ks w) (sym (asked e ks v l z)) ∙ sym (part-number _ _ w) ∙ d in
-    h (eqb-true v w (open-where-taken _ _ (scheme.answered v) ks w n))

@@ -4,13 +4,11 @@
 --                     what client/specs/Promise.antt says of those holds of the array
 --   Part-given, Part-is-reply the part that a reply names is the one that the client's own reply hands back
 --   Same-part         "the same set asked again gets the same part", and the array stays
---   One-set           the array that a taken reply leaves lets no other set be answered
 --   New-stands        arrays of zeros stand for a new service
 --   Calls-stand       what the calls leave in lent arrays stands for the state that the service's own calls hand back, so that what
 --                     service/specs/Promise.antt and finish/specs/Promise.antt say of those holds of the arrays
 -- Assumes nothing: these are definitions.
 use mathlib.Core.Path.{_≡_}
-use mathlib.Core.Logic.{_≢_}
 use mathlib.Core.Bool.{true}
 use mathlib.Core.List.{List}
 use mathlib.Core.Option.{some}
@@ -49,11 +47,6 @@ unfoldable pub Same-part : Type 0
 Same-part =
     (e ks : List ℕ) (v : ℕ) → length e ≡ 8 → part-answer (end-at e) ks v .number ≡ 0 → let asked = kept (reply-answer (end-at e) ks v) e in
     (part-answer (end-at asked) ks v ≡ part-answer (end-at e) ks v) × (kept (reply-answer (end-at asked) ks v) asked ≡ asked)
-
-unfoldable pub One-set : Type 0
-One-set =
-    (e ks : List ℕ) (v w : ℕ) → length e ≡ 8 → part-answer (end-at e) ks v .number ≡ 0 → v ≢ w →
-    part-answer (end-at (kept (reply-answer (end-at e) ks v) e)) ks w .number ≢ 0
 
 unfoldable pub New-stands : Type 0
 New-stands = state (arrays (replicate 8 0) (replicate 768 0) (replicate 128 0)) ≡ new-service

@@ -1,0 +1,52 @@
+-- The exported calls of an airfield end one after the other, over the array that the caller lends, as their contracts have them.
+--   End-call                 a first message or a reply, with what it is given
+--   end-number, end-leaves   the number that a call hands back, and the array that it leaves
+--   messages                 how many first messages of a list of calls are taken
+--   Only-to                  every reply of the list that is taken is to one set, and names one part
+--   One-message-one-set, Ends-right    the statement: whatever the array holds, keys, figures, buffers and sets are, refused calls between
+-- Assumes nothing: these are definitions.
+use mathlib.Core.Path.{_≡_}
+use mathlib.Core.Bool.{cond}
+use mathlib.Core.List.{List, [], _∷_}
+use Prim.Native.Nat.{ℕ, suc, _≤_}
+use lib.Dec.{eqb}
+use lib.ListN.{length}
+use Rattle.client.specs.Client.{first-answer, reply-answer}
+use Rattle.capi.specs.declared.ends.CutawhenoPart.{CutawhenoPart}
+use Rattle.capi.specs.Ends.{end-at, kept, part-by, part-answer}
+
+pub data End-call : Type 0 where
+  message-call : (key figures buffer : List ℕ) → End-call
+  answer-call : (key : List ℕ) → (set : ℕ) → End-call
+
+unfoldable pub end-number : End-call → (end : List ℕ) → ℕ
+end-number (message-call ks fs o) e = first-answer (end-at e) ks fs (length o) .number
+end-number (answer-call ks v) e = part-answer (end-at e) ks v .number
+
+unfoldable pub end-leaves : End-call → (end : List ℕ) → List ℕ
+end-leaves (message-call ks fs o) e = kept (first-answer (end-at e) ks fs (length o)) e
+end-leaves (answer-call ks v) e = kept (reply-answer (end-at e) ks v) e
+
+unfoldable pub messages : List End-call → (end : List ℕ) → ℕ
+messages [] e = 0
+messages (message-call ks fs o ∷ cs) e =
+    let c = message-call ks fs o in
+    let n = messages cs (end-leaves c e) in
+    cond (eqb (end-number c e) 0) (suc n) n
+messages (answer-call ks v ∷ cs) e = messages cs (end-leaves (answer-call ks v) e)
+
+unfoldable pub Only-to : (set : ℕ) → CutawhenoPart → List End-call → (end : List ℕ) → Type 0
+Only-to v p [] e = Unit {0}
+Only-to v p (message-call ks fs o ∷ cs) e = Only-to v p cs (end-leaves (message-call ks fs o) e)
+Only-to v p (answer-call ks w ∷ cs) e = let c = answer-call ks w in
+    (end-number c e ≡ 0 → (w ≡ v) × (part-answer (end-at e) ks w ≡ p)) × Only-to v p cs (end-leaves c e)
+
+-- the part is that of the plan and the user that the array held at first
+pub record One-message-one-set (cs : List End-call) (e : List ℕ) : Type 0 where
+  pub one-message : messages cs e ≤ 1
+  pub set : ℕ
+  pub one-set : Only-to set (part-by 0 (end-at e) set) cs e
+
+-- every array that can be lent has 8 numbers, also the one that start leaves
+unfoldable pub Ends-right : Type 0
+Ends-right = (cs : List End-call) (e : List ℕ) → length e ≡ 8 → One-message-one-set cs e
