@@ -11,8 +11,8 @@ use native.Mathlib.Omega.{arith}
 use lib.ListN.{length, getD, set}
 use lib.Seq.{getD-set-same, getD-set-other}
 use Rattle.scheme.specs.Scheme as scheme
-use Rattle.scheme.specs.Scheme.{reply-start, written}
-use Rattle.scheme.proofs.Refusals.{written-refused}
+use Rattle.scheme.specs.Scheme.{reply-start, after}
+use Rattle.scheme.proofs.Refusals.{after-refused}
 use Rattle.plan.specs.declared.Plan.{Plan}
 use Rattle.plan.specs.Plan.{plan-of}
 use Rattle.client.specs.declared.Stage.{Stage}
@@ -66,12 +66,12 @@ module _ {n : ℕ} (p : Plan) (k : ℕ) (e : List ℕ) where
 
 module _ {n : ℕ} (c : Client) (g : Stage) (e : List ℕ) where
   pub kept-taken : n ≡ 0 → kept (moved n c g) e ≡ set e 5 (stage-number (stage-of g))
-  unfolding kept moved written
+  unfolding kept moved after
   kept-taken z = ap (λ (m : ℕ). kept (moved m c g) e) z
 
   pub kept-refused : (n ≡ 0 → ⊥) → kept (moved n c g) e ≡ e
   unfolding kept
-  kept-refused h = rw (moved-refused h c g) (written-refused h _ e)
+  kept-refused h = rw (moved-refused h c g) (after-refused h _ e)
 
 module _ {n : ℕ} (c : Client) (v : ℕ) where
   pub part-taken : n ≡ 0 → part-by n c v ≡ record { number = 0; start = reply-start (plan-of (c .plan)) (c .user) v; count = c .plan .blocks }

@@ -14,7 +14,7 @@ use lib.ListN.{length, take, drop, set}
 use lib.Seq.{set-set}
 use borrow.Author.Tests.{eq-eqb, leb-true}
 use Rattle.scheme.specs.Scheme as scheme
-use Rattle.scheme.specs.Scheme.{places, is-user, usable, usable-with, sets-with, key-length, reply-start, reply, is-fresh, open-to, written}
+use Rattle.scheme.specs.Scheme.{places, is-user, usable, usable-with, sets-with, key-length, reply-start, reply, is-fresh, open-to, after}
 use Rattle.scheme.proofs.Tests.{both}
 use Rattle.scheme.proofs.Good.{good}
 use Rattle.plan.specs.declared.Plan as code
@@ -49,7 +49,7 @@ module _ (e : List ℕ) (l : length e ≡ 8) where
   started-stands (suc n) p k z = absurd (omega arith)
 
   moved-stands : (n : ℕ) (g : Stage) → let a = moved n (end-at e) g in end-at (kept a e) ≡ a .client
-  unfolding moved kept written
+  unfolding moved kept after
   moved-stands zero g = stage-moved e l g
   moved-stands (suc n) g = refl
 

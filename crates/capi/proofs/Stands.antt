@@ -8,7 +8,8 @@ use Prim.Native.Nat.{ℕ, zero, suc}
 use Rattle.service.specs.declared.Phase.{Phase}
 use Rattle.service.specs.declared.Phase.the-variants.{Unplanned, Idle, Gathering, Replying}
 use Rattle.service.specs.declared.Service.{Service}
-use Rattle.service.specs.Calls.{after, nothing-first, nothing-reply, new-service, plan-step, open-step, first-step, reply-step, close-answer, close-step}
+use Rattle.service.specs.Calls.{nothing-first, nothing-reply, new-service, plan-step, open-step, first-step, reply-step, close-answer, close-step}
+use Rattle.scheme.specs.Scheme.{after}
 use Rattle.finish.specs.Finish.{finish-answer, finish-step}
 use Rattle.capi.specs.Lent.{Arrays, arrays-of, phase-at, phase-number, head-at, numbers, state, left, plan-left, open-left, close-left, finish-left}
 use Rattle.capi.specs.Promise.{New-stands, Calls-stand}

@@ -9,7 +9,7 @@ use mathlib.Core.Option.{Option, none, some}
 use Prim.Native.Nat.{ℕ, zero, suc}
 use lib.ListN.{getD, set}
 use Rattle.scheme.specs.Scheme as scheme
-use Rattle.scheme.specs.Scheme.{reply-start, written}
+use Rattle.scheme.specs.Scheme.{reply-start, after}
 use Rattle.plan.specs.Plan.{plan-of}
 use Rattle.client.specs.declared.Stage.{Stage}
 use Rattle.client.specs.declared.Stage.the-variants.{Fresh, Sent, Answered}
@@ -43,7 +43,7 @@ start-left none e = e
 start-left (some c) e = end-numbers c
 
 unfoldable pub kept : Answer → (end : List ℕ) → List ℕ
-kept a e = written (a .number) (set e 5 (stage-number (stage-of (a .client .stage)))) e
+kept a e = after (a .number) (set e 5 (stage-number (stage-of (a .client .stage)))) e
 
 -- the shares for the set are the `count` elements of the key from `start` on
 unfoldable pub part-by : (refusal : ℕ) → Client → (set : ℕ) → CutawhenoPart

@@ -9,7 +9,7 @@
 use mathlib.Core.List.{List, [], _∷_}
 use Prim.Native.Nat.{ℕ, zero, suc}
 use lib.ListN.{getD}
-use Rattle.scheme.specs.Scheme.{written}
+use Rattle.scheme.specs.Scheme.{after}
 use Rattle.plan.specs.declared.Plan.{Plan}
 use Rattle.service.specs.declared.Phase.{Phase}
 use Rattle.service.specs.declared.Phase.the-variants.{Unplanned, Idle, Gathering, Replying}
@@ -83,4 +83,4 @@ unfoldable pub finish-left : Arrays → Arrays
 finish-left a = let t = finish-step (state a) in left (t .number) (t .service) a
 
 unfoldable pub finish-totals : Arrays → (old : List ℕ) → List ℕ
-finish-totals a old = let t = finish-step (state a) in written (t .number) (t .totals) old
+finish-totals a old = let t = finish-step (state a) in after (t .number) (t .totals) old

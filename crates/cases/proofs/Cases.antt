@@ -6,14 +6,16 @@ use mathlib.Core.Bool.{Bool}
 use borrow.Author.Tests.{le-ltb}
 use Rattle.algebra.specs.Field.{sub}
 use Rattle.algebra.specs.Residue.{inverse, inverse-from}
+use Rattle.scheme.specs.Lists as Lists
 use Rattle.scheme.specs.Scheme as Scheme
+use Rattle.scheme.specs.Lists.{padded}
 use Rattle.scheme.specs.Scheme.{unless}
 use Rattle.scheme.specs.Promise.{shown}
 use Rattle.scheme.specs.Totals as Totals
 use Rattle.scheme.specs.Delta as Delta
 use Rattle.scheme.specs.Service as Service
 use Rattle.scheme.specs.Modular.{modular-laws}
-use Rattle.solve.specs.Solve.{laws16, point, padded, unknown-at}
+use Rattle.solve.specs.Solve.{laws16, point, unknown-at}
 use Rattle.client.specs.Client as Client
 use Rattle.service.specs.View as View
 use Rattle.service.specs.Calls as Calls
@@ -23,17 +25,17 @@ use Rattle.cases.specs.Cases.{key-from, key-of, message, asked, tried, p
 pub cases : Cases
 unfolding key-from key-of message asked tried planned opened firsts replies pooled told told-5 told-7
     sub inverse inverse-from modular-laws laws16 point padded unknown-at shown
-    Scheme.rank Scheme.elements Scheme.sum Scheme.plan-good Scheme.items Scheme.places Scheme.is-user Scheme.in-set Scheme.ones Scheme.usable Scheme.usable-with
+    Lists.rank Scheme.elements Scheme.sum Scheme.plan-good Scheme.items Scheme.places Scheme.is-user Scheme.in-set Scheme.ones Scheme.usable Scheme.usable-with
     Scheme.users-in Scheme.usable-sets Scheme.sets-with Scheme.list-length Scheme.mask Scheme.noise-start Scheme.noise Scheme.column Scheme.row-value
     Scheme.share Scheme.shares Scheme.key Scheme.key-length Scheme.first-message Scheme.reply-start Scheme.reply Scheme._then_ unless
-    Scheme.is-fresh Scheme.open-to Scheme.start-refusal Scheme.key-refusal Scheme.message-refusal Scheme.reply-refusal Scheme.written
-    Totals.all-of Totals.explains Totals.explains-all Totals.total-of Totals.totals
+    Scheme.is-fresh Scheme.open-to Scheme.start-refusal Scheme.key-refusal Scheme.message-refusal Scheme.reply-refusal Scheme.after
+    Lists.all-of Totals.explains Totals.explains-all Totals.total-of Totals.totals
     Delta.colluders-in Delta.kept Delta.given Delta.shift Delta.delta Delta.translation Delta.gap-of Delta.table-delta Delta.partner
     Service.has-plan Service.is-gathering Service.is-replying Service.is-held Service.element-of Service.set-of Service.complete-set Service.gathered
     Service.replied Service.explained-by Service.totals-by
     Client.stage-of Client.moved Client.part-of
     View.phase-of View.stored View.look View.view
-    Calls.after Calls.nothing-first Calls.nothing-reply Calls.new-service Calls.plan-refusal Calls.planned Calls.plan-step Calls.open-refusal Calls.opened
+    Calls.nothing-first Calls.nothing-reply Calls.new-service Calls.plan-refusal Calls.planned Calls.plan-step Calls.open-refusal Calls.opened
     Calls.open-step Calls.first-refusal Calls.first-left Calls.first-step Calls.reply-refusal Calls.reply-left Calls.reply-step Calls.close-refusal
     Calls.closed Calls.close-answer Calls.close-step
     Finish.rows-of Finish.values-of Finish.choice-of Finish.choice Finish.finish-refusal Finish.finish-answer Finish.finish-step

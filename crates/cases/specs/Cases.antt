@@ -13,7 +13,8 @@ use Prim.Native.Nat.{ℕ, _≤_}
 use lib.Dec.{lit<}
 use lib.ListN.{getD, take, replicate}
 use Rattle.algebra.specs.Residue.{inverse}
-use Rattle.scheme.specs.Scheme.{span, q, sixteen, plan-good, list-length, key, key-length, start-refusal, key-refusal, written}
+use Rattle.scheme.specs.Lists.{span}
+use Rattle.scheme.specs.Scheme.{q, sixteen, plan-good, list-length, key, key-length, start-refusal, key-refusal, after}
 use Rattle.scheme.specs.Promise.{Table, shown}
 use Rattle.scheme.specs.Delta as Delta
 use Rattle.scheme.specs.Modular.{sixteen-field}
@@ -52,7 +53,7 @@ figures a b c k = getD (0 ∷ a ∷ b ∷ c ∷ []) k 0 ∷ []
 -- ---- AIRFIELD ENDS
 -- what the key maker leaves in a buffer of four zeros
 unfoldable pub key-from : (list : List ℕ) → (k : ℕ) → List ℕ
-key-from xs k = written (key-refusal sixteen (plan-of plan) k xs 4) (key sixteen (plan-of plan) xs k) (replicate 4 0)
+key-from xs k = after (key-refusal sixteen (plan-of plan) k xs 4) (key sixteen (plan-of plan) xs k) (replicate 4 0)
 
 unfoldable pub key-of : (k : ℕ) → List ℕ
 key-of = key-from random

@@ -16,7 +16,8 @@ use lib.Dec.{eqb}
 use lib.ListN.{length}
 use borrow.Author.Tests.{eqb-true, eq-eqb, ne-eqb}
 use Rattle.scheme.specs.Scheme as scheme
-use Rattle.scheme.specs.Scheme.{each, Arithmetic, elements, places, in-set, usable, usable-with, key-length, first-message, reply, reply-start, is-fresh, open-to, start-refusal, message-refusal, reply-refusal, unless, _then_}
+use Rattle.scheme.specs.Lists.{each}
+use Rattle.scheme.specs.Scheme.{Arithmetic, elements, places, in-set, usable, usable-with, key-length, first-message, reply, reply-start, is-fresh, open-to, start-refusal, message-refusal, reply-refusal, unless, _then_}
 use Rattle.scheme.proofs.Tests.{both, joined}
 use Rattle.scheme.proofs.Refusals.{then-zero, unless-zero}
 use Rattle.plan.specs.declared.Plan.{Plan}

@@ -8,7 +8,7 @@ use lib.ListN.{length}
 use borrow.Author.Tests.{eq-eqb}
 use Rattle.scheme.specs.Scheme as scheme
 use Rattle.scheme.specs.Scheme.{is-fresh, open-to}
-use Rattle.scheme.proofs.Refusals.{written-refused}
+use Rattle.scheme.proofs.Refusals.{after-refused}
 use Rattle.client.specs.declared.Stage.the-variants.{Sent, Answered}
 use Rattle.client.specs.declared.Client.{Client}
 use Rattle.client.specs.Client.{stage-of, answer-refusal, first-refusal}
@@ -29,7 +29,7 @@ first-unchanged : First-unchanged
 unfolding First-unchanged
 first-unchanged c ks fs o h =
     let r : first-refusal c ks fs (length o) ≢ 0 = λ e. h (moved-number _ _ _ ∙ e) in
-    (ap (λ a. a .client) (moved-refused r c Sent), written-refused r _ o)
+    (ap (λ a. a .client) (moved-refused r c Sent), after-refused r _ o)
 
 reply-unchanged : Reply-unchanged
 unfolding Reply-unchanged

@@ -12,13 +12,14 @@ use lib.ListN.{length}
 use borrow.Author.Tests.{le-leb, eq-eqb}
 use Rattle.algebra.specs.Sums.{In}
 use Rattle.scheme.specs.Scheme as scheme
-use Rattle.scheme.specs.Scheme.{span, Arithmetic, sixteen, elements, plan-good, places, is-user, in-set, usable, users-in, list-length, key, key-length, first-message, reply, is-fresh, open-to, start-refusal, key-refusal, message-refusal, unless, _then_}
+use Rattle.scheme.specs.Lists.{span}
+use Rattle.scheme.specs.Scheme.{Arithmetic, sixteen, elements, plan-good, places, is-user, in-set, usable, users-in, list-length, key, key-length, first-message, reply, is-fresh, open-to, start-refusal, key-refusal, message-refusal, unless, _then_}
 use Rattle.scheme.specs.Promise.{shown, admissible, list-good}
 use Rattle.scheme.proofs.Lists.{map-same, span-in, members-in}
 use Rattle.scheme.proofs.Keys.{key-is-long, key-elements}
 use Rattle.scheme.proofs.Told.{list-long, list-elements}
 use Rattle.scheme.proofs.Modular.{sixteen-laws}
-use Rattle.scheme.proofs.Refusals.{written-taken}
+use Rattle.scheme.proofs.Refusals.{after-taken}
 use Rattle.plan.specs.declared.Plan.{Plan}
 use Rattle.plan.specs.Plan.{plan-of}
 use Rattle.client.specs.declared.Stage.the-variants.{Fresh, Sent}
@@ -73,7 +74,7 @@ module _ (p : Plan) (xs : List ℕ) (v k : ℕ) (fs ko o : List ℕ) (r : Ready 
   taken : calls p xs fs v k ko o ≡ client-calls (some (record { plan = p; user = k; stage = Fresh })) ks fs v o
   unfolding calls begun-with
   taken =
-      ap₂ (λ (s : Begun) (l : List ℕ). client-calls (s .client) l fs v o) (ap (λ (n : ℕ). begun-with n p k) begun) (written-taken makes ks ko)
+      ap₂ (λ (s : Begun) (l : List ℕ). client-calls (s .client) l fs v o) (ap (λ (n : ℕ). begun-with n p k) begun) (after-taken makes ks ko)
 
   key-is-given : calls p xs fs v k ko o .key-given ≡ ks
   unfolding client-calls
@@ -81,7 +82,7 @@ module _ (p : Plan) (xs : List ℕ) (v k : ℕ) (fs ko o : List ℕ) (r : Ready 
 
   pub message-is-sent : calls p xs fs v k ko o .message ≡ first-message sixteen (plan-of p) ks fs
   unfolding client-calls stage-of
-  message-is-sent = ap (λ (g : Given). g .message) taken ∙ written-taken sends _ o
+  message-is-sent = ap (λ (g : Given). g .message) taken ∙ after-taken sends _ o
 
   pub part-is-sent : usable (plan-of p) v ≡ true → in-set v k ≡ true → calls p xs fs v k ko o .part ≡ reply (plan-of p) ks k v
   unfolding client-calls stage-of is-fresh open-to

@@ -16,7 +16,7 @@ use Prim.Native.Nat.{ℕ, zero, suc, _+_}
 use lib.Dec.{eqb}
 use lib.ListN.{length}
 use Rattle.scheme.specs.Scheme as scheme
-use Rattle.scheme.specs.Scheme.{sixteen, first-message, reply, reply-start, start-refusal, message-refusal, reply-refusal, written}
+use Rattle.scheme.specs.Scheme.{sixteen, first-message, reply, reply-start, start-refusal, message-refusal, reply-refusal, after}
 use Rattle.plan.specs.declared.Plan.{Plan}
 use Rattle.plan.specs.Plan.{plan-of}
 use Rattle.client.specs.declared.Stage.{Stage}
@@ -73,7 +73,7 @@ abbrev pub first-answer : Client → (key figures : List ℕ) → (out : ℕ) �
 first-answer c ks fs out = moved (first-refusal c ks fs out) c Sent
 
 abbrev pub message-left : Client → (key figures : List ℕ) → (buffer : List ℕ) → List ℕ
-message-left c ks fs o = written (first-refusal c ks fs (length o)) (first-message sixteen (plan-of (c .plan)) ks fs) o
+message-left c ks fs o = after (first-refusal c ks fs (length o)) (first-message sixteen (plan-of (c .plan)) ks fs) o
 
 abbrev pub answer-of : Replied → Answer
 answer-of r = record { number = r .number; client = r .client }

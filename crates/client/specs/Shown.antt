@@ -9,7 +9,8 @@ use mathlib.Core.List.{List, [], map}
 use mathlib.Core.Option.{Option, none, some}
 use Prim.Native.Nat.{ℕ, _≤_}
 use lib.ListN.{length}
-use Rattle.scheme.specs.Scheme.{span, sixteen, plan-good, places, usable, users-in, key, key-length, key-refusal, written}
+use Rattle.scheme.specs.Lists.{span}
+use Rattle.scheme.specs.Scheme.{sixteen, plan-good, places, usable, users-in, key, key-length, key-refusal, after}
 use Rattle.scheme.specs.Promise.{Table, shown, admissible, list-good}
 use Rattle.plan.specs.declared.Plan.{Plan}
 use Rattle.plan.specs.Plan.{plan-of}
@@ -30,7 +31,7 @@ client-calls (some c) ks fs v o =
 -- the key is made into a buffer, and a fresh client takes it
 unfoldable pub calls : Plan → (list : List ℕ) → (figures : List ℕ) → (set user : ℕ) → (key-buffer buffer : List ℕ) → Given
 calls p xs fs v k ko o =
-    client-calls (begun p k .client) (written (key-refusal sixteen (plan-of p) k xs (length ko)) (key sixteen (plan-of p) xs k) ko) fs v o
+    client-calls (begun p k .client) (after (key-refusal sixteen (plan-of p) k xs (length ko)) (key sixteen (plan-of p) xs k) ko) fs v o
 
 unfoldable pub Shown-is-sent : Type 0
 Shown-is-sent =

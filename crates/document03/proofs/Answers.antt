@@ -12,7 +12,8 @@ use native.Mathlib.Decide.{ℕ-discrete}
 use native.Mathlib.Omega.{arith}
 use lib.ListN.{length, getD}
 use borrow.Author.Tests.{eqb-true}
-use Rattle.scheme.specs.Scheme.{span, sixteen, plan-good, places, in-set, list-length, key, first-message, reply, total-at}
+use Rattle.scheme.specs.Lists.{span}
+use Rattle.scheme.specs.Scheme.{sixteen, plan-good, places, in-set, list-length, key, first-message, reply, total-at}
 use Rattle.scheme.specs.Promise.{Table, admissible, list-good}
 use Rattle.scheme.specs.Good.{Good}
 use Rattle.scheme.specs.Totals.{Follows, One-choice, Rules-explain, Totals-right}

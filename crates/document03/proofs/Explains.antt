@@ -11,9 +11,10 @@ use native.Mathlib.Nat.{mod-eq-of-lt, mul-zero, div-lt-iff-lt-mul, lt-of-mul-lt-
 use native.Mathlib.Omega.{arith}
 use lib.Dec.{eqb}
 use lib.ListN.{length, getD}
-use Rattle.scheme.specs.Scheme.{span, keep, members, q, sixteen, sum, items, places, in-set, users-in, row-value}
+use Rattle.scheme.specs.Lists.{span, keep, members, all-of}
+use Rattle.scheme.specs.Scheme.{q, sixteen, sum, items, places, in-set, users-in, row-value}
 use Rattle.scheme.specs.Good.{Good}
-use Rattle.scheme.specs.Totals.{all-of, explains, explains-all, total-of, totals}
+use Rattle.scheme.specs.Totals.{explains, explains-all, total-of, totals}
 use Rattle.scheme.specs.Service.{replied, values, explained-by, totals-by}
 use Rattle.scheme.proofs.Keys.{elements-at}
 use Rattle.scheme.proofs.Totals.{explained}

@@ -11,7 +11,8 @@ use native.Mathlib.Nat.{zero-add, suc-mul, mul-le-mul-right}
 use native.Mathlib.Omega.{arith}
 use lib.ListN.{length, getD, take, drop, length-take, length-drop, length-append}
 use lib.Seq.{ext-getD, getD-take, getD-drop, length-take-le}
-use Rattle.scheme.specs.Scheme.{span, rows, q, sixteen, items, places, in-set, usable, usable-with, sets-with, list-length, mask, shares, key, first-message, reply}
+use Rattle.scheme.specs.Lists.{span, rows}
+use Rattle.scheme.specs.Scheme.{q, sixteen, items, places, in-set, usable, usable-with, sets-with, list-length, mask, shares, key, first-message, reply}
 use Rattle.scheme.specs.Good.{Good}
 use Rattle.scheme.proofs.Tests.{both}
 use Rattle.scheme.proofs.Lists.{map-span-length, map-span-at, members-in, rows-same}

@@ -8,9 +8,9 @@ use Prim.Native.Nat.{ℕ, zero, suc, _+_}
 use native.Mathlib.Omega.{arith}
 use borrow.Author.Tests.{eqb-true}
 use lib.ListN.{length}
-use Rattle.scheme.specs.Scheme.{sixteen, key, key-length, first-message, reply-start, key-refusal, message-refusal, reply-refusal, written}
+use Rattle.scheme.specs.Scheme.{sixteen, key, key-length, first-message, reply-start, key-refusal, message-refusal, reply-refusal, after}
 use Rattle.scheme.proofs.Tests.{both}
-use Rattle.scheme.proofs.Refusals.{then-zero, start-taken, unless-zero, written-taken, written-refused}
+use Rattle.scheme.proofs.Refusals.{then-zero, start-taken, unless-zero, after-taken, after-refused}
 use Rattle.client.specs.Client.{stage-of-number}
 use Rattle.document03.specs.Ours.{our-plan, plan-of-numbers}
 use Rattle.document03.specs.Scheme as D
@@ -22,13 +22,13 @@ use Rattle.document03.proofs.Keys.{key-same, first-message-same}
 use Rattle.document03.proofs.Refusals.{key-refusal-same, message-refusal-same, part-refusal-same}
 
 -- ---- the key maker
-put-says : (n : ℕ) {m : ℕ} (ws : List ℕ) {us : List ℕ} (r : ℕ) (o z : List ℕ) → n ≡ m → (m ≡ 0 → ws ≡ us) → r ≡ m → z ≡ written m us o → E.Put-says n ws r o z
+put-says : (n : ℕ) {m : ℕ} (ws : List ℕ) {us : List ℕ} (r : ℕ) (o z : List ℕ) → n ≡ m → (m ≡ 0 → ws ≡ us) → r ≡ m → z ≡ after m us o → E.Put-says n ws r o z
 unfolding E.Put-says
-put-says zero ws {us} r o z e h f d = (f ∙ sym e, d ∙ written-taken (sym e) us o ∙ sym (h (sym e)))
-put-says (suc n) ws {us} r o z e h f d = (f ∙ sym e, d ∙ written-refused (λ t. omega arith) us o)
+put-says zero ws {us} r o z e h f d = (f ∙ sym e, d ∙ after-taken (sym e) us o ∙ sym (h (sym e)))
+put-says (suc n) ws {us} r o z e h f d = (f ∙ sym e, d ∙ after-refused (λ t. omega arith) us o)
 
 pub key-says : (k u t m a : ℕ) (xs : List ℕ) (r : ℕ) (o z : List ℕ) → r ≡ key-refusal sixteen (plan-of-numbers k u t m) a xs (length o)
-    → z ≡ written (key-refusal sixteen (plan-of-numbers k u t m) a xs (length o)) (key sixteen (plan-of-numbers k u t m) xs a) o
+    → z ≡ after (key-refusal sixteen (plan-of-numbers k u t m) a xs (length o)) (key sixteen (plan-of-numbers k u t m) xs a) o
     → E.Key-says k u t m a xs r o z
 unfolding E.Key-says D.plan key-refusal
 key-says k u t m a xs r o z f d =
@@ -40,17 +40,17 @@ key-says k u t m a xs r o z f d =
 
 -- ---- the first message
 sent-says : (n : ℕ) {m : ℕ} (ws : List ℕ) {us : List ℕ} (g : ℕ) (r : Sent) (o z : List ℕ) → n ≡ m → (m ≡ 0 → ws ≡ us) → r .number ≡ m
-    → (m ≡ 0 → r .stage ≡ 1) → (m ≢ 0 → r .stage ≡ g) → z ≡ written m us o → E.Sent-says n ws g r o z
+    → (m ≡ 0 → r .stage ≡ 1) → (m ≢ 0 → r .stage ≡ g) → z ≡ after m us o → E.Sent-says n ws g r o z
 unfolding E.Sent-says
-sent-says zero ws {us} g r o z e h f taken refused d = (f ∙ sym e, taken (sym e), d ∙ written-taken (sym e) us o ∙ sym (h (sym e)))
+sent-says zero ws {us} g r o z e h f taken refused d = (f ∙ sym e, taken (sym e), d ∙ after-taken (sym e) us o ∙ sym (h (sym e)))
 sent-says (suc n) {m} ws {us} g r o z e h f taken refused d =
     let no : m ≢ 0 = λ t. omega arith in
-    (f ∙ sym e, refused no, d ∙ written-refused no us o)
+    (f ∙ sym e, refused no, d ∙ after-refused no us o)
 
 pub first-says : (k u t m a g : ℕ) (ks fs : List ℕ) (r : Sent) (o z : List ℕ)
     → let n = message-refusal sixteen (plan-of-numbers k u t m) a (stage-of-number g) ks fs (length o) in
     r .number ≡ n → (n ≡ 0 → r .stage ≡ 1) → (n ≢ 0 → r .stage ≡ g)
-    → z ≡ written n (first-message sixteen (plan-of-numbers k u t m) ks fs) o → E.First-says k u t m a g ks fs r o z
+    → z ≡ after n (first-message sixteen (plan-of-numbers k u t m) ks fs) o → E.First-says k u t m a g ks fs r o z
 unfolding E.First-says D.plan message-refusal key-length
 first-says k u t m a g ks fs r o z f taken refused d =
     let p = plan-of-numbers k u t m in

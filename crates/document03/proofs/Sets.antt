@@ -14,7 +14,8 @@ use native.Mathlib.Omega.{arith}
 use borrow.Author.Tests.{eq-eqb, ne-eqb}
 use lib.Dec.{ltb, leb}
 use lib.ListN.{length}
-use Rattle.scheme.specs.Scheme.{keep, members, rank, plan-good, items, places, in-set, ones, usable, usable-with, usable-sets, sets-with, list-length, key-length, reply-start}
+use Rattle.scheme.specs.Lists.{keep, members, rank}
+use Rattle.scheme.specs.Scheme.{plan-good, items, places, in-set, ones, usable, usable-with, usable-sets, sets-with, list-length, key-length, reply-start}
 use Rattle.scheme.proofs.Tests.{joined, holds}
 use Rattle.scheme.proofs.Sets.{usable-below}
 use Rattle.document03.specs.Ours.{our-plan}

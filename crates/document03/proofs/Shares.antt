@@ -16,7 +16,8 @@ use borrow.Author.Tests.{eqb-true, le-leb, lt-leb}
 use lib.Dec.{eqb}
 use lib.ListN.{getD}
 use Rattle.algebra.specs.Residue.{inverse, inverse-from}
-use Rattle.scheme.specs.Scheme.{span, keep, members, q, sixteen, sum, items, places, in-set, usable, users-in, mask, noise, noise-start, column, row-value, share, shares, total-at}
+use Rattle.scheme.specs.Lists.{span, keep, members}
+use Rattle.scheme.specs.Scheme.{q, sixteen, sum, items, places, in-set, usable, users-in, mask, noise, noise-start, column, row-value, share, shares, total-at}
 use Rattle.scheme.specs.Good.{Good}
 use Rattle.scheme.proofs.Tests.{both}
 use Rattle.scheme.proofs.Lists.{span-append}

@@ -11,7 +11,8 @@ use native.Mathlib.Omega.{arith}
 use borrow.Author.Tests.{eqb-true}
 use lib.Dec.{ltb, eqb}
 use lib.ListN.{length}
-use Rattle.scheme.specs.Scheme.{span, keep, members, q, sixteen, elements, plan-good, in-set, usable, users-in, list-length, key, first-message, reply}
+use Rattle.scheme.specs.Lists.{span, keep, members}
+use Rattle.scheme.specs.Scheme.{q, sixteen, elements, plan-good, in-set, usable, users-in, list-length, key, first-message, reply}
 use Rattle.scheme.specs.Promise.{Table, admissible, list-good, Shown, shown, Alike, Matching, Nothing-told, Demand-3}
 use Rattle.scheme.specs.Good.{Good}
 use Rattle.scheme.proofs.Tests.{both}

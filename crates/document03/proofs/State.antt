@@ -13,8 +13,8 @@ use native.Mathlib.Decide.{decLe, ℕ-discrete}
 use native.Mathlib.Omega.{arith}
 use borrow.Author.Tests.{le-ltb, lt-ltb, le-leb, lt-leb, eq-eqb, ne-eqb}
 use lib.Dec.{ltb, leb, eqb}
-use Rattle.scheme.specs.Scheme.{span, q, sixteen, places, ones, _then_, unless}
-use Rattle.scheme.specs.Totals.{all-of}
+use Rattle.scheme.specs.Lists.{span, all-of}
+use Rattle.scheme.specs.Scheme.{q, sixteen, places, ones, _then_, unless}
 use Rattle.scheme.specs.Service.{has-plan, is-gathering, is-replying, is-held, element-of, with-element, set-of, complete-set, gathered, replied, refusal}
 use Rattle.scheme.proofs.Tests.{not-not}
 use Rattle.document03.specs.Ours.{our-plan, our-phase, our-held, our-state, our-record}

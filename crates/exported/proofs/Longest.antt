@@ -10,9 +10,9 @@ use native.Mathlib.Omega.{arith}
 use lib.Dec.{leb}
 use lib.ListN.{length}
 use borrow.Author.Tests.{leb-true}
-use Rattle.scheme.specs.Scheme.{span, Plan, plan-good, items, places, is-user, in-set, ones, usable, usable-with, usable-sets, sets-with, list-length, key-length}
+use Rattle.scheme.specs.Lists.{span, all-of}
+use Rattle.scheme.specs.Scheme.{Plan, plan-good, items, places, is-user, in-set, ones, usable, usable-with, usable-sets, sets-with, list-length, key-length}
 use Rattle.scheme.specs.Good.{Good}
-use Rattle.scheme.specs.Totals.{all-of}
 use Rattle.scheme.proofs.Tests.{both}
 use Rattle.scheme.proofs.Good.{good}
 use Rattle.scheme.proofs.Lists.{in-span}

@@ -6,7 +6,7 @@ use mathlib.Core.Logic.{_≢_}
 use mathlib.Core.List.{List}
 use Prim.Native.Nat.{ℕ, zero, suc}
 use lib.ListN.{length}
-use Rattle.scheme.proofs.Refusals.{written-refused}
+use Rattle.scheme.proofs.Refusals.{after-refused}
 use Rattle.plan.specs.declared.Plan.{Plan}
 use Rattle.client.specs.declared.Stage.the-variants.{Sent, Answered}
 use Rattle.client.specs.declared.Client.{Client}
@@ -34,21 +34,21 @@ arrays-same : (c : Call) (a : Arrays) → number-of c a ≢ 0 → leaves c a ≡
 unfolding number-of leaves plan-left open-left close-left finish-left first-left reply-left
 arrays-same (plan-call p) a h = left-refused _ _ a h
 arrays-same (open-call r) a h = left-refused _ _ a h
-arrays-same (first-call k i x) a h = ap (λ (l : List ℕ). arrays (a .head) l (a .reply)) (written-refused h _ (a .first))
+arrays-same (first-call k i x) a h = ap (λ (l : List ℕ). arrays (a .head) l (a .reply)) (after-refused h _ (a .first))
 arrays-same close-call a h = left-refused _ _ a h
-arrays-same (reply-call k b x) a h = ap (λ (l : List ℕ). arrays (a .head) (a .first) l) (written-refused h _ (a .reply))
+arrays-same (reply-call k b x) a h = ap (λ (l : List ℕ). arrays (a .head) (a .first) l) (after-refused h _ (a .reply))
 arrays-same (finish-call o) a h = left-refused _ _ a h
 
 pub refused-unchanged : Refused-unchanged
 unfolding number-of finish-totals
 refused-unchanged =
     record {
-      key-kept = λ p k xs o h. written-refused h _ o;
+      key-kept = λ p k xs o h. after-refused h _ o;
       start-kept = λ p k e h. start-same _ p k e h;
       first-kept = λ e ks fs o h.
           let r : first-refusal (end-at e) ks fs (length o) ≢ 0 = λ z. h (moved-number _ (end-at e) Sent ∙ z) in
-          (kept-refused (end-at e) Sent e r, written-refused r _ o);
+          (kept-refused (end-at e) Sent e r, after-refused r _ o);
       reply-kept = λ e ks v h. let d = no-part _ (end-at e) v h in (kept-refused (end-at e) (Answered v) e (d .0), d .1, d .2);
       arrays-kept = arrays-same;
-      totals-kept = λ a o h. written-refused h _ o;
+      totals-kept = λ a o h. after-refused h _ o;
     }

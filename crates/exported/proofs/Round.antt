@@ -11,21 +11,21 @@ use Prim.Native.Nat.{ℕ, zero, suc}
 use native.Mathlib.Omega.{arith}
 use lib.Dec.{leb}
 use lib.ListN.{getD, take}
-use Rattle.scheme.specs.Scheme.{span, sixteen, plan-good, places, in-set, ones, unless, _then_}
+use Rattle.scheme.specs.Lists.{span, padded}
+use Rattle.scheme.specs.Scheme.{sixteen, plan-good, places, in-set, ones, unless, _then_, after}
 use Rattle.scheme.specs.Totals.{total-of, totals}
 use Rattle.scheme.specs.Service.{has-plan, is-replying, State, gathered, replied, values, totals-by, Record, open-record, finish-record, Answer, refusal, opened-state, next-state, Steps}
 use Rattle.scheme.proofs.Tests.{holds}
-use Rattle.scheme.proofs.Refusals.{written-taken}
+use Rattle.scheme.proofs.Refusals.{after-taken}
 use Rattle.scheme.proofs.Held.{complete-held}
 use Rattle.scheme.proofs.Lists.{map-span-length}
 use Rattle.plan.specs.Plan.{plan-of}
-use Rattle.solve.specs.Solve.{padded}
 use Rattle.solve.proofs.Filled.{padded-take}
 use Rattle.client.specs.Shown as client
 use Rattle.client.specs.Shown.{Given}
 use Rattle.service.specs.declared.Service.{Service}
 use Rattle.service.specs.View.{phase-of, view, Formed}
-use Rattle.service.specs.Calls.{after, opened, open-step}
+use Rattle.service.specs.Calls.{opened, open-step}
 use Rattle.service.proofs.Same.{opened-view}
 use Rattle.finish.specs.Finish.{choice, finish-refusal, finish-answer, finish-step}
 use Rattle.finish.proofs.Answers.{answer-number}
@@ -106,7 +106,7 @@ pub round-right : Round-right
 unfolding Round-right run number-of finish-step finish-totals Survived Same-given gathered replied view round.Round-right
 round-right before cs r xs x lent o e n11 n12 n15 ok rows room sent =
     let done = round-proved.round-right s xs x (λ k. lent k .key-buffer) (λ k. lent k .buffer) formed (f .untested) ok rows room held in
-    (done .0, written-taken (done .0) _ o ∙ totals-padded s _ (done .0) ∙ ap (padded 96) (done .1))
+    (done .0, after-taken (done .0) _ o ∙ totals-padded s _ (done .0) ∙ ap (padded 96) (done .1))
   where
     start : Arrays
     start = run before zeros

@@ -8,7 +8,7 @@ use mathlib.Core.Bool.{true}
 use mathlib.Core.List.{List, [], _∷_, map}
 use Prim.Native.Nat.{ℕ, zero, suc}
 use lib.ListN.{take}
-use Rattle.scheme.specs.Scheme.{sixteen, plan-good, places, written, unless, _then_}
+use Rattle.scheme.specs.Scheme.{sixteen, plan-good, places, after, unless, _then_}
 use Rattle.scheme.specs.Service.{State, has-plan, Answer, totalled, Record, finish-record, Runs, done, more}
 use Rattle.scheme.proofs.Well.{test-held}
 use Rattle.plan.specs.declared.Plan.{Plan}
@@ -16,7 +16,7 @@ use Rattle.plan.specs.Plan.{plan-of}
 use Rattle.service.specs.declared.Service.{Service}
 use Rattle.service.specs.View.{phase-of, view, Formed}
 use Rattle.service.specs.declared.Stepped.{Stepped}
-use Rattle.service.specs.Calls.{after, new-service, plan-refusal, planned, plan-step, open-refusal, open-step, first-step, reply-step}
+use Rattle.service.specs.Calls.{new-service, plan-refusal, planned, plan-step, open-refusal, open-step, first-step, reply-step}
 use Rattle.service.specs.Promise.{told, Is-step, New-formed, Plan-steps, Open-steps, First-steps, Reply-steps, Close-steps}
 use Rattle.service.specs.Promise as calls
 use Rattle.service.proofs.Steps.{new-formed, plan-steps, open-steps, first-steps, reply-steps, close-steps}
@@ -36,8 +36,8 @@ module _ (a : Arrays) (w : Formed (state a)) where
 
   -- the lent buffer has the totals where finish is taken
   totals-told : (n : ℕ) (ts o : List ℕ) → let say : List ℕ → Answer = λ l. told n (totalled (state a .head .round) (take (places (plan-of (plan-in a))) l)) in
-      say ts ≡ say (written n ts o)
-  unfolding told written
+      say ts ≡ say (after n ts o)
+  unfolding told after
   totals-told zero ts o = refl
   totals-told (suc n) ts o = refl
 

@@ -5,7 +5,8 @@ use mathlib.Core.Path.{_≡_, refl, sym, ap, _∙_}
 use mathlib.Core.List.{List, map}
 use Prim.Native.Nat.{ℕ, zero, suc}
 use lib.ListN.{length}
-use Rattle.scheme.specs.Scheme.{span, users-in}
+use Rattle.scheme.specs.Lists.{span}
+use Rattle.scheme.specs.Scheme.{users-in}
 use Rattle.plan.specs.declared.Plan.{Plan}
 use Rattle.plan.specs.Plan.{plan-of}
 use Rattle.client.specs.declared.Stage.the-variants.{Fresh}

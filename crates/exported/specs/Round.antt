@@ -12,12 +12,12 @@ use mathlib.Core.Bool.{true}
 use mathlib.Core.List.{List, [], _∷_, map}
 use Prim.Native.Nat.{ℕ, _≤_}
 use lib.ListN.{getD}
-use Rattle.scheme.specs.Scheme.{span, sixteen, places, in-set, total-at}
+use Rattle.scheme.specs.Lists.{span, padded}
+use Rattle.scheme.specs.Scheme.{sixteen, places, in-set, total-at}
 use Rattle.scheme.specs.Promise.{Table, admissible, list-good}
 use Rattle.scheme.specs.Service.{Record, plan-record, open-record, first-record, close-record, reply-record, finish-record, replied}
 use Rattle.plan.specs.Plan.{plan-of}
 use Rattle.client.specs.Shown.{Given}
-use Rattle.solve.specs.Solve.{padded}
 use Rattle.service.specs.View.{view}
 use Rattle.capi.specs.Lent.{Arrays, state, finish-totals}
 use Rattle.exported.specs.Runs.{Call, open-call, finish-call, record-of, zeros, plan-in, number-of, leaves, run}

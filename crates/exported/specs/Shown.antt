@@ -10,7 +10,8 @@ use mathlib.Core.Bool.{true}
 use mathlib.Core.List.{List, [], map}
 use Prim.Native.Nat.{ℕ, zero, suc, _≤_}
 use lib.ListN.{length, take, drop}
-use Rattle.scheme.specs.Scheme.{span, sixteen, plan-good, places, usable, users-in, key, key-length, key-refusal, written}
+use Rattle.scheme.specs.Lists.{span}
+use Rattle.scheme.specs.Scheme.{sixteen, plan-good, places, usable, users-in, key, key-length, key-refusal, after}
 use Rattle.scheme.specs.Promise.{Table, shown, admissible, list-good}
 use Rattle.plan.specs.declared.Plan.{Plan}
 use Rattle.plan.specs.Plan.{plan-of}
@@ -38,7 +39,7 @@ end-calls (suc n) e ks fs v o = record { key-given = ks; message = o; part = [] 
 unfoldable pub calls : Plan → (list : List ℕ) → (figures : List ℕ) → (set user : ℕ) → Lent → Given
 calls p xs fs v k l =
     end-calls (begun p k .number) (start-left (begun p k .client) (l .end))
-    (written (key-refusal sixteen (plan-of p) k xs (length (l .key-buffer))) (key sixteen (plan-of p) xs k) (l .key-buffer)) fs v (l .buffer)
+    (after (key-refusal sixteen (plan-of p) k xs (length (l .key-buffer))) (key sixteen (plan-of p) xs k) (l .key-buffer)) fs v (l .buffer)
 
 unfoldable pub Same-given : Type 0
 Same-given = (p : Plan) (xs fs : List ℕ) (v k : ℕ) (l : Lent) → calls p xs fs v k l ≡ client.calls p xs fs v k (l .key-buffer) (l .buffer)

@@ -13,11 +13,11 @@ use mathlib.Core.Bool.{true}
 use Prim.Native.Nat.{ℕ, zero, suc, _≤_}
 use native.Mathlib.Omega.{arith}
 use borrow.Author.Tests.{le-leb}
+use Rattle.scheme.specs.Lists.{padded}
 use Rattle.scheme.specs.Scheme.{sixteen, plan-good, ones, unless, _then_}
 use Rattle.scheme.specs.Service.{has-plan, is-replying, replied, explained-by, totals-by}
 use Rattle.plan.specs.declared.Plan.{Plan}
 use Rattle.plan.specs.Plan.{plan-of}
-use Rattle.solve.specs.Solve.{padded}
 use Rattle.service.specs.declared.Service.{Service}
 use Rattle.service.specs.View.{phase-of, view}
 use Rattle.finish.specs.declared.System.{System}

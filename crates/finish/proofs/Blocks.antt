@@ -16,16 +16,17 @@ use lib.ListN.{length, getD, take, replicate, length-map}
 use lib.Seq.{take-at}
 use borrow.Author.Tests.{eq-eqb, eqb-true}
 use Rattle.algebra.specs.Sums.{Distinct}
-use Rattle.scheme.specs.Scheme.{span, sixteen, q, elements, Plan, ones, users-in, row-value, in-set}
+use Rattle.scheme.specs.Lists.{span, all-of, padded}
+use Rattle.scheme.specs.Scheme.{sixteen, q, elements, Plan, ones, users-in, row-value, in-set}
 use Rattle.scheme.specs.Good.{Good}
-use Rattle.scheme.specs.Totals.{all-of, explains}
+use Rattle.scheme.specs.Totals.{explains}
 use Rattle.scheme.proofs.Lists.{map-span-length, in-span, members-once, members-le}
 use Rattle.scheme.proofs.Sums.{row-value-small}
 use Rattle.scheme.proofs.Keys.{elements-map, elements-append}
 use Rattle.scheme.proofs.Tests.{both, joined, is-false, holds}
 use Rattle.scheme.proofs.Sets.{users-in-in, users-in-size}
 use Rattle.scheme.proofs.Totals.{all-of-in, at-all-of, in-at, at-apart, Explained}
-use Rattle.solve.specs.Solve.{laws16, Points, Square, padded, filled, solution-of, fits-of}
+use Rattle.solve.specs.Solve.{laws16, Points, Square, filled, solution-of, fits-of}
 use Rattle.solve.proofs.Explains.{points-some, Block, explains-first, fits-explains, explains-fits}
 use Rattle.solve.proofs.Filled.{padded-at}
 use Rattle.finish.specs.Finish.{rows-of, values-of, columns, choice-of}

@@ -11,11 +11,11 @@ use native.Mathlib.Omega.{arith}
 use lib.ListN.{length, getD, set}
 use lib.Seq.{sets}
 use Rattle.algebra.specs.Sums.{In}
-use Rattle.scheme.specs.Scheme.{span, sixteen, sum}
+use Rattle.scheme.specs.Lists.{span, padded}
+use Rattle.scheme.specs.Scheme.{sixteen, sum}
 use Rattle.scheme.proofs.Lists.{span-in, map-span-length}
 use Rattle.scheme.proofs.Sums.{sum-same}
 use Rattle.scheme.proofs.Keys.{whole-list}
-use Rattle.solve.specs.Solve.{padded}
 use Rattle.solve.proofs.Filled.{padded-at, padded-next, span-more}
 
 -- n entries more behind the first `at` of N

@@ -10,6 +10,7 @@ use mathlib.Core.List.{List}
 use Prim.Native.Nat.{ℕ, zero, suc}
 use native.Mathlib.Omega.{arith}
 use lib.ListN.{length, take, length-replicate}
+use Rattle.scheme.specs.Lists.{padded}
 use Rattle.scheme.specs.Scheme.{sixteen, Plan, places, users-in, _then_, unless}
 use Rattle.scheme.specs.Totals.{totals}
 use Rattle.scheme.specs.Service as scheme
@@ -23,7 +24,6 @@ use Rattle.scheme.proofs.Totals.{Explained, explained, explained-back, settled}
 use Rattle.scheme.proofs.Well.{finishing, steps-well}
 use Rattle.scheme.proofs.Service.{demand-2}
 use Rattle.plan.specs.Plan.{plan-of}
-use Rattle.solve.specs.Solve.{padded}
 use Rattle.solve.proofs.Filled.{padded-take}
 use Rattle.service.specs.declared.Service.{Service}
 use Rattle.service.specs.View.{phase-of, view, Formed}

@@ -10,8 +10,9 @@ use native.Mathlib.Nat.{zero-add}
 use native.Mathlib.Omega.{arith}
 use lib.Dec.{eqb, lit<}
 use lib.ListN.{length, getD}
-use Rattle.scheme.specs.Scheme.{span, sixteen, q, elements, Plan, users-in}
-use Rattle.scheme.specs.Totals.{all-of, explains-all}
+use Rattle.scheme.specs.Lists.{span, all-of}
+use Rattle.scheme.specs.Scheme.{sixteen, q, elements, Plan, users-in}
+use Rattle.scheme.specs.Totals.{explains-all}
 use Rattle.scheme.proofs.Lists.{map-span-at, span-in, in-span}
 use Rattle.scheme.proofs.Keys.{whole-list, elements-at, elements-map}
 use Rattle.scheme.proofs.Tests.{is-false, holds}

@@ -11,10 +11,11 @@ use native.Mathlib.Numerals.{add-one}
 use native.Mathlib.Omega.{arith}
 use lib.ListN.{length, getD, replicate}
 use lib.Seq.{sets}
-use Rattle.scheme.specs.Scheme.{span, q, sixteen, sum, Plan, items, places, users-in}
+use Rattle.scheme.specs.Lists.{span, padded}
+use Rattle.scheme.specs.Scheme.{q, sixteen, sum, Plan, items, places, users-in}
 use Rattle.scheme.specs.Totals.{total-of, totals}
 use Rattle.scheme.proofs.Lists.{span-in, map-same, high, low}
-use Rattle.solve.specs.Solve.{padded, cell}
+use Rattle.solve.specs.Solve.{cell}
 use Rattle.finish.specs.Finish.{rows-of}
 use Rattle.finish.specs.Parts.{held-in, first-of, First-sums, total-from, place-total}
 use Rattle.finish.proofs.Padded.{padded-sets, sum-by-place}

@@ -13,11 +13,12 @@ use native.Mathlib.Omega.{arith}
 use lib.ListN.{length, getD, set, replicate, length-append}
 use lib.Seq.{sets}
 use Rattle.algebra.proofs.Residue.{mods}
-use Rattle.scheme.specs.Scheme.{span, keep, members, q, sixteen, sum}
+use Rattle.scheme.specs.Lists.{span, keep, members, padded}
+use Rattle.scheme.specs.Scheme.{q, sixteen, sum}
 use Rattle.scheme.specs.Service.{element-of}
 use Rattle.scheme.proofs.Lists.{span-start, span-next, span-end, members-append}
 use Rattle.scheme.proofs.Sums.{sum-small}
-use Rattle.solve.specs.Solve.{laws16, padded}
+use Rattle.solve.specs.Solve.{laws16}
 use Rattle.solve.proofs.Filled.{padded-next}
 use Rattle.service.specs.View.{stored, slot}
 use Rattle.service.proofs.View.{look-at}

@@ -10,10 +10,11 @@ use mathlib.Core.List.{List, [], _∷_, map}
 use Prim.Native.Nat.{ℕ, zero, suc, _-_}
 use lib.Dec.{leb}
 use lib.ListN.{replicate}
-use Rattle.scheme.specs.Scheme.{span, sixteen, Plan, plan-good, ones, users-in, _then_, unless}
+use Rattle.scheme.specs.Lists.{span, padded}
+use Rattle.scheme.specs.Scheme.{sixteen, Plan, plan-good, ones, users-in, _then_, unless}
 use Rattle.scheme.specs.Service.{has-plan, is-replying, replied, values, explained-by, totals-by}
 use Rattle.plan.specs.Plan.{plan-of}
-use Rattle.solve.specs.Solve.{padded, unknown-at}
+use Rattle.solve.specs.Solve.{unknown-at}
 use Rattle.service.specs.declared.Phase.the-variants.{Idle}
 use Rattle.service.specs.declared.Head.{Head}
 use Rattle.service.specs.declared.Service.{Service}

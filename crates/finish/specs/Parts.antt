@@ -12,13 +12,14 @@ use mathlib.Core.Bool.{true}
 use mathlib.Core.List.{List}
 use Prim.Native.Nat.{ℕ, _+_, _*_, _/_, _%_, _≤_, _<_}
 use lib.ListN.{length, getD, replicate}
-use Rattle.scheme.specs.Scheme.{span, q, sixteen, sum, Plan, ones, users-in}
+use Rattle.scheme.specs.Lists.{span, padded}
+use Rattle.scheme.specs.Scheme.{q, sixteen, sum, Plan, ones, users-in}
 use Rattle.scheme.specs.Good.{Good}
 use Rattle.scheme.specs.Totals.{explains-all, totals}
 use Rattle.scheme.specs.Service.{values}
 use Rattle.plan.specs.declared.Plan as code
 use Rattle.plan.specs.Plan.{plan-of}
-use Rattle.solve.specs.Solve.{padded, weights-of, cell}
+use Rattle.solve.specs.Solve.{weights-of, cell}
 use Rattle.service.specs.declared.Service.{Service}
 use Rattle.service.specs.View.{look}
 use Rattle.finish.specs.declared.Users.{Users}

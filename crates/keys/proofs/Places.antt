@@ -11,7 +11,8 @@ use native.Mathlib.Nat.{suc-mul, add-mul, zero-mul, mul-le-mul-right, add-zero, 
 use native.Mathlib.Numerals.{add-one}
 use native.Mathlib.Omega.{arith}
 use lib.ListN.{length}
-use Rattle.scheme.specs.Scheme.{rank, Plan, places, usable, usable-with, usable-sets, list-length, noise-start, reply-start}
+use Rattle.scheme.specs.Lists.{rank}
+use Rattle.scheme.specs.Scheme.{Plan, places, usable, usable-with, usable-sets, list-length, noise-start, reply-start}
 use Rattle.scheme.proofs.Lists.{rank-step, rank-lt}
 use Rattle.scheme.proofs.Sets.{usable-below}
 

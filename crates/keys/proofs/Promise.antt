@@ -1,9 +1,9 @@
 -- A refused key maker leaves the lent buffer as it was.
 --   refused-unchanged   the statement of specs/Promise.antt
 -- Assumes nothing.
-use Rattle.scheme.proofs.Refusals.{written-refused}
+use Rattle.scheme.proofs.Refusals.{after-refused}
 use Rattle.keys.specs.Promise.{Refused-unchanged}
 
 pub refused-unchanged : Refused-unchanged
 unfolding Refused-unchanged
-refused-unchanged p k xs o h = written-refused h _ o
+refused-unchanged p k xs o h = after-refused h _ o

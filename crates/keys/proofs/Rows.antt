@@ -11,7 +11,7 @@ use native.Mathlib.Nat.{le-refl, eq-or-lt-of-le, add-zero, zero-add}
 use native.Mathlib.Omega.{arith}
 use lib.ListN.{length, getD, set, length-set}
 use lib.Seq.{sets, getD-set-same, getD-set-other}
-use Rattle.scheme.specs.Scheme.{span}
+use Rattle.scheme.specs.Lists.{span}
 use Rattle.scheme.proofs.Tests.{none-below}
 use Rattle.scheme.proofs.Lists.{map-span-length, map-span-at}
 use Rattle.keys.specs.Parts.{Raised}

@@ -7,7 +7,8 @@ use Prim.Native.Nat.{ℕ, suc, _+_, _*_, _-_, _%_, _<_}
 use native.Mathlib.Omega.{arith}
 use lib.ListN.{getD}
 use borrow.Author.Tests.{le-leb, lt-leb}
-use Rattle.scheme.specs.Scheme.{span, members, q, sixteen, sum, Plan, items, places, in-set, users-in, mask, noise, noise-start, column, row-value, share, shares}
+use Rattle.scheme.specs.Lists.{span, members}
+use Rattle.scheme.specs.Scheme.{q, sixteen, sum, Plan, items, places, in-set, users-in, mask, noise, noise-start, column, row-value, share, shares}
 use Rattle.scheme.specs.Good.{Good}
 use Rattle.scheme.proofs.Lists.{span-in, map-same, members-in}
 use Rattle.scheme.proofs.Sums.{sum-same}

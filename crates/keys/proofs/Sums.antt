@@ -12,7 +12,8 @@ use native.Mathlib.Omega.{arith}
 use lib.ListN.{getD}
 use Rattle.algebra.specs.Sums.{In}
 use Rattle.algebra.proofs.Residue.{mul-mod}
-use Rattle.scheme.specs.Scheme.{span, keep, members, q, sixteen, sum, row-value}
+use Rattle.scheme.specs.Lists.{span, keep, members}
+use Rattle.scheme.specs.Scheme.{q, sixteen, sum, row-value}
 use Rattle.scheme.proofs.Lists.{span-append, span-in, members-append}
 use Rattle.scheme.proofs.Sums.{sum-same, sum-shift, sum-small, sum-append}
 use Rattle.scheme.proofs.Modular.{sixteen-sums}

@@ -6,7 +6,7 @@ use mathlib.Core.Bool.{Bool, true, false}
 use mathlib.Core.List.{List, [], _++_, append-nil}
 use Prim.Native.Nat.{ℕ, _+_}
 use native.Mathlib.Nat.{zero-add}
-use Rattle.scheme.specs.Scheme.{keep, members, rows}
+use Rattle.scheme.specs.Lists.{keep, members, rows}
 use Rattle.scheme.proofs.Lists.{members-append, rows-append}
 
 module _ (t : ℕ → Bool) (f : ℕ → List ℕ) (v : ℕ) where

@@ -12,7 +12,8 @@ use mathlib.Core.Path.{_≡_}
 use mathlib.Core.List.{List}
 use Prim.Native.Nat.{ℕ, _+_, _*_, _-_, _%_, _≤_, _<_}
 use lib.ListN.{length, getD}
-use Rattle.scheme.specs.Scheme.{span, members, q, sixteen, sum, Plan, items, places, in-set, list-length}
+use Rattle.scheme.specs.Lists.{span, members}
+use Rattle.scheme.specs.Scheme.{q, sixteen, sum, Plan, items, places, in-set, list-length}
 use Rattle.scheme.specs.Good.{Good}
 
 pub record Ready (p : Plan) (k : ℕ) (xs : List ℕ) : Type 0 where

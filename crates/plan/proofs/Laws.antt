@@ -14,7 +14,8 @@ use native.Mathlib.Omega.{arith}
 use lib.Count as machine
 use lib.ListN.{length}
 use lib.Pow.{pow-mono}
-use Rattle.scheme.specs.Scheme.{Plan, items, places, rank, ones, usable, usable-with, usable-sets, sets-with, list-length, key-length, reply-start}
+use Rattle.scheme.specs.Lists.{rank}
+use Rattle.scheme.specs.Scheme.{Plan, items, places, ones, usable, usable-with, usable-sets, sets-with, list-length, key-length, reply-start}
 use Rattle.scheme.specs.Good.{Good}
 use Rattle.scheme.proofs.Tests.{both}
 use Rattle.scheme.proofs.Sets.{usable-below}

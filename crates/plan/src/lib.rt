@@ -1,5 +1,6 @@
 // Plans and sets of document 01: their tests, and where things lie in the lists that a plan fixes.
-//   Plan, MOST_USERS ..                               K, U, T and M, as they come; their limits
+//   Plan                                              K, U, T and M, as they come
+//   MOST_USERS .., USERS ..                           their limits; the lengths of arrays
 //   is_good, start_refusal                            tests 1 and 4
 //   holds, is_usable, has_enough, is_usable_with      sets of users
 //   row_length, list_length, key_length               how long lent lists are: 0 for what tests 1 and 4 refuse
@@ -9,13 +10,14 @@
 ghost use mathlib.Core.Path.{_≡_};
 ghost use Prim.Native.Nat.{_+_, _*_, _^_, _≤_, _<_};
 ghost use lib.ListN.{length};
-ghost use Rattle.scheme.specs.Scheme.{plan-good, start-refusal, in-set, usable, usable-with, usable-sets, sets-with, places, rank, list-length, key-length, reply-start};
+ghost use Rattle.scheme.specs.Lists.{rank};
+ghost use Rattle.scheme.specs.Scheme.{plan-good, start-refusal, in-set, usable, usable-with, usable-sets, sets-with, places, list-length, key-length, reply-start};
 ghost use Rattle.scheme.specs.Good.{Good};
 ghost use Rattle.plan.specs.Plan.{plan-of};
 ghost use Rattle.plan.specs.Counts.{usable-rule, holding-rule};
 ghost use Rattle.plan.specs.Lengths.{row-len, list-len, key-len};
 
-// "K airfields, 3 to 8 .. T at least 1 .. M blocks, 1 to 16 .. L is at most 96"
+// "K airfields, 3 to 8 .. T at least 1 .. M blocks, 1 to 16"
 pub const LEAST_USERS: u32 = 3;
 
 pub const MOST_USERS: u32 = 8;
@@ -26,7 +28,19 @@ pub const LEAST_BLOCKS: u32 = 1;
 
 pub const MOST_BLOCKS: u32 = 16;
 
-pub const MOST_PLACES: usize = 96;
+// The same as lengths: a number for each user, for each block.
+pub const USERS: usize = MOST_USERS as usize;
+
+pub const BLOCKS: usize = MOST_BLOCKS as usize;
+
+// "L is at most 96": U - T is at most K - 2.
+pub const MOST_PLACES: usize = BLOCKS * (USERS - 2);
+
+// "At most 768 first elements are held": a number for each user and place.
+pub const FIRSTS: usize = USERS * MOST_PLACES;
+
+// A number for each user and block: the replies that are held, and the grids of key maker and solver.
+pub const CELLS: usize = USERS * BLOCKS;
 
 pub struct Plan {
     pub users: u32,

@@ -6,7 +6,8 @@ use mathlib.Core.Bool.{true}
 use mathlib.Core.List.{List, map}
 use Prim.Native.Nat.{ℕ, _≤_}
 use lib.ListN.{getD, take}
-use Rattle.scheme.specs.Scheme.{span, sixteen, plan-good, places, in-set, total-at}
+use Rattle.scheme.specs.Lists.{span, padded}
+use Rattle.scheme.specs.Scheme.{sixteen, plan-good, places, in-set, total-at}
 use Rattle.scheme.specs.Promise.{admissible}
 use Rattle.scheme.specs.Totals.{Follows}
 use Rattle.scheme.specs.Service.{replied, values}
@@ -14,7 +15,6 @@ use Rattle.scheme.proofs.Lists.{map-span-length}
 use Rattle.scheme.proofs.Well.{Finishing, finishing, replied-survives}
 use Rattle.plan.specs.Plan.{plan-of}
 use Rattle.client.proofs.Shown.{Ready, message-is-sent, part-is-sent}
-use Rattle.solve.specs.Solve.{padded}
 use Rattle.solve.proofs.Filled.{padded-take}
 use Rattle.service.specs.View.{view}
 use Rattle.finish.specs.Promise.{Finish-right}

@@ -17,7 +17,8 @@ use Rattle.algebra.specs.Sums.{In}
 use Rattle.algebra.specs.Cauchy.{coefficient, value}
 use Rattle.algebra.proofs.Field.{mul-zero}
 use Rattle.algebra.proofs.Sums.{sum-same, sum-add, sum-zero}
-use Rattle.scheme.specs.Scheme.{span, rows, each, Arithmetic, Plan, items, places, usable, usable-with, users-in, sets-with, list-length, mask, noise, noise-start, column, row-value, share, shares, key, key-length}
+use Rattle.scheme.specs.Lists.{span, rows, each}
+use Rattle.scheme.specs.Scheme.{Arithmetic, Plan, items, places, usable, usable-with, users-in, sets-with, list-length, mask, noise, noise-start, column, row-value, share, shares, key, key-length}
 use Rattle.scheme.specs.Promise.{Key-add}
 use Rattle.scheme.specs.Laws.{Laws}
 use Rattle.scheme.proofs.Tests.{both}

@@ -13,8 +13,9 @@ use native.Mathlib.Omega.{arith}
 use lib.Dec.{eqb}
 use lib.ListN.{length, getD}
 use Rattle.algebra.specs.Sums.{In}
-use Rattle.scheme.specs.Scheme.{span, Arithmetic, elements, sum, Plan, items, places, in-set, ones, users-in}
-use Rattle.scheme.specs.Totals.{all-of, explains, explains-all, total-of, totals, Choice, One-choice, Some-choice}
+use Rattle.scheme.specs.Lists.{span, all-of}
+use Rattle.scheme.specs.Scheme.{Arithmetic, elements, sum, Plan, items, places, in-set, ones, users-in}
+use Rattle.scheme.specs.Totals.{explains, explains-all, total-of, totals, Choice, One-choice, Some-choice}
 use Rattle.scheme.specs.Laws.{Laws}
 use Rattle.scheme.proofs.Tests.{holds, both, joined}
 use Rattle.scheme.proofs.Lists.{span-in, map-same, in-members}

@@ -15,7 +15,8 @@ use lib.ListN.{getD}
 use borrow.Author.Tests.{eq-eqb, ne-eqb}
 use Rattle.algebra.specs.Sums.{In}
 use Rattle.algebra.proofs.Sums.{sum-same as field-sum-same, sum-pick}
-use Rattle.scheme.specs.Scheme.{span, sixteen, Plan, plan-good, items, places, in-set, users-in, total-at}
+use Rattle.scheme.specs.Lists.{span}
+use Rattle.scheme.specs.Scheme.{sixteen, Plan, plan-good, items, places, in-set, users-in, total-at}
 use Rattle.scheme.specs.Promise.{Table, admissible}
 use Rattle.scheme.specs.Good.{Good}
 use Rattle.scheme.specs.Laws.{Laws}

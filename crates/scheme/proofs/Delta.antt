@@ -19,7 +19,8 @@ use Rattle.algebra.specs.Cauchy.{coefficient, value, System, weight, solution}
 use Rattle.algebra.proofs.Field.{zero-add, mul-zero}
 use Rattle.algebra.proofs.Sums.{sum-same, sum-append, sum-zero}
 use Rattle.algebra.proofs.Cauchy.{solves}
-use Rattle.scheme.specs.Scheme.{span, rank, Arithmetic, Plan, items, places, in-set, ones, usable, users-in, usable-sets, list-length, mask, noise, noise-start, column, share}
+use Rattle.scheme.specs.Lists.{span, rank}
+use Rattle.scheme.specs.Scheme.{Arithmetic, Plan, items, places, in-set, ones, usable, users-in, usable-sets, list-length, mask, noise, noise-start, column, share}
 use Rattle.scheme.specs.Laws.{Laws}
 use Rattle.scheme.specs.Delta.{colluders-in, kept, given, shift, delta, translation}
 use Rattle.scheme.proofs.Lists.{span-append, span-in, span-once, span-length, map-span-at, members-once, rank-at, high, low}

@@ -14,8 +14,8 @@ use native.Mathlib.Decide.{decLe}
 use native.Mathlib.Omega.{arith}
 use lib.Dec.{eqb}
 use borrow.Author.Tests.{eqb-true}
-use Rattle.scheme.specs.Scheme.{span, Plan, in-set, ones}
-use Rattle.scheme.specs.Totals.{all-of}
+use Rattle.scheme.specs.Lists.{span, all-of}
+use Rattle.scheme.specs.Scheme.{Plan, in-set, ones}
 use Rattle.scheme.specs.Service.{is-held, element-of, with-element, set-of, complete-set, values}
 use Rattle.scheme.proofs.Tests.{both, holds}
 use Rattle.scheme.proofs.Lists.{high, low, in-span}

@@ -18,7 +18,8 @@ use lib.ListN.{length, getD, take, drop, length-append, List·getD-append}
 use lib.Seq.{drop-append-add}
 use borrow.Author.Tests.{lt-ltb, ltb-true}
 use Rattle.algebra.specs.Sums.{In}
-use Rattle.scheme.specs.Scheme.{span, rank, rows, each, Arithmetic, elements, Plan, places, in-set, usable, usable-with, sets-with, mask, share, shares, key, key-length, reply-start, reply}
+use Rattle.scheme.specs.Lists.{span, rank, rows, each}
+use Rattle.scheme.specs.Scheme.{Arithmetic, elements, Plan, places, in-set, usable, usable-with, sets-with, mask, share, shares, key, key-length, reply-start, reply}
 use Rattle.scheme.specs.Laws.{Laws}
 use Rattle.scheme.proofs.Tests.{both, joined}
 use Rattle.scheme.proofs.Lists.{map-span-length, map-span-at, rows-length, rows-at}

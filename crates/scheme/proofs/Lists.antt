@@ -21,7 +21,7 @@ use native.Mathlib.Omega.{arith}
 use lib.ListN.{length, getD, take, drop, set, replicate, length-append, drop-of-length-le}
 use lib.Seq.{sets, sets-eq, take-at, drop-at, getD-at}
 use Rattle.algebra.specs.Sums.{In, Distinct}
-use Rattle.scheme.specs.Scheme.{span, keep, members, rank, rows}
+use Rattle.scheme.specs.Lists.{span, keep, members, rank, rows}
 use Rattle.scheme.proofs.Tests.{holds}
 
 -- ---- span

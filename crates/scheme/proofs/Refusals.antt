@@ -1,9 +1,9 @@
--- Refusals: what `then`, `unless` and `written` come to.
+-- Refusals: what `then`, `unless` and `after` come to.
 --   then-taken, then-refused         the first of two refusals
 --   then-zero                        both are 0
 --   unless-held, unless-failed       one test
 --   unless-zero                      the number is not 0, so the test held
---   written-taken, written-refused   a lent buffer
+--   after-taken, after-refused   what a call leaves
 --   start-taken                      a call that start's tests let pass has a good plan and one of its users
 -- Assumes nothing.
 use mathlib.Core.Path.{_≡_, refl, ap}
@@ -12,7 +12,7 @@ use mathlib.Core.List.{List}
 use Prim.Native.Nat.{ℕ, zero, suc, _≤_}
 use native.Mathlib.Omega.{arith}
 use borrow.Author.Tests.{leb-true}
-use Rattle.scheme.specs.Scheme.{Plan, is-user, _then_, unless, start-refusal, written}
+use Rattle.scheme.specs.Scheme.{Plan, is-user, _then_, unless, start-refusal, after}
 use Rattle.scheme.specs.Good.{Good}
 use Rattle.scheme.proofs.Tests.{both}
 use Rattle.scheme.proofs.Good.{good}
@@ -44,14 +44,14 @@ unfolding unless
 unless-zero true n e = refl
 unless-zero false n e = absurd (omega arith)
 
-pub written-taken : {a : ℕ} → a ≡ 0 → (new old : List ℕ) → written a new old ≡ new
-unfolding written
-written-taken e new old = ap (λ (n : ℕ). written n new old) e
+pub after-taken : {A : Type 0} {n : ℕ} → n ≡ 0 → (new old : A) → after n new old ≡ new
+unfolding after
+after-taken e new old = ap (λ (n : ℕ). after n new old) e
 
-pub written-refused : {a : ℕ} → (a ≡ 0 → ⊥) → (new old : List ℕ) → written a new old ≡ old
-unfolding written
-written-refused {a = zero} h new old = absurd (h refl)
-written-refused {a = suc a} h new old = refl
+pub after-refused : {A : Type 0} {n : ℕ} → (n ≡ 0 → ⊥) → (new old : A) → after n new old ≡ old
+unfolding after
+after-refused {n = zero} h new old = absurd (h refl)
+after-refused {n = suc n} h new old = refl
 
 pub start-taken : (p : Plan) (k : ℕ) → start-refusal p k ≡ 0 → Good p × (1 ≤ k) × (k ≤ p .users)
 unfolding start-refusal is-user

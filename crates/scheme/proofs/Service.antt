@@ -12,7 +12,8 @@ use Prim.Native.Nat.{ℕ, zero, suc, _<_}
 use native.Mathlib.Omega.{arith}
 use lib.Dec.{eqb}
 use borrow.Author.Tests.{lt-ltb, ltb-true, eqb-false}
-use Rattle.scheme.specs.Scheme.{span, Arithmetic, sixteen, Plan, plan-good, places, total-at, _then_, unless}
+use Rattle.scheme.specs.Lists.{span}
+use Rattle.scheme.specs.Scheme.{Arithmetic, sixteen, Plan, plan-good, places, total-at, _then_, unless}
 use Rattle.scheme.specs.Totals.{One-choice, Some-choice, Rules-explain, Totals-right}
 use Rattle.scheme.specs.Service.{has-plan, State, replied, Record, plan-record, open-record, first-record, close-record, reply-record, finish-record, Answer, opened, totalled, refused, refusal, planned-state, opened-state, next-state, answer-of, is-finish, values, explained-by, totals-by, Steps, refuses, accepts, totals-up, disagrees, Runs, more, Well}
 use Rattle.scheme.specs.ServicePromise.{One-answer, Answered, Always-answers, Refused-unchanged, As-new, Finish-right, Unexplained, Sixteen-exactly, Never-sixteen, Demand-2}

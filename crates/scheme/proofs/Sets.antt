@@ -15,7 +15,8 @@ use lib.Dec.{ltb, eqb}
 use lib.ListN.{length}
 use borrow.Author.Tests.{ltb-true, leb-true}
 use Rattle.algebra.specs.Sums.{In}
-use Rattle.scheme.specs.Scheme.{keep, members, rank, Plan, items, places, in-set, ones, usable, users-in, usable-sets, list-length, noise-start}
+use Rattle.scheme.specs.Lists.{keep, members, rank}
+use Rattle.scheme.specs.Scheme.{Plan, items, places, in-set, ones, usable, users-in, usable-sets, list-length, noise-start}
 use Rattle.scheme.specs.Delta.{colluders-in}
 use Rattle.scheme.proofs.Tests.{both}
 use Rattle.scheme.proofs.Lists.{members-in, members-fewer, rank-lt, digits-lt}

@@ -19,7 +19,8 @@ use Rattle.algebra.specs.Cauchy.{System, value}
 use Rattle.algebra.proofs.Field.{add-comm, add-cancel}
 use Rattle.algebra.proofs.Sums.{sum-same as field-sum-same, sum-add, sum-append}
 use Rattle.algebra.proofs.Cauchy.{unique}
-use Rattle.scheme.specs.Scheme.{span, Arithmetic, sum, Plan, items, places, in-set, ones, usable, users-in, mask, noise, column, share, shares, key, first-message, reply, total-at}
+use Rattle.scheme.specs.Lists.{span}
+use Rattle.scheme.specs.Scheme.{Arithmetic, sum, Plan, items, places, in-set, ones, usable, users-in, mask, noise, column, share, shares, key, first-message, reply, total-at}
 use Rattle.scheme.specs.Promise.{Table, Shown, admissible, shown}
 use Rattle.scheme.specs.Laws.{Laws}
 use Rattle.scheme.proofs.Lists.{span-append, span-in, in-span, span-once, span-length, map-span-at, members-once}

@@ -15,7 +15,8 @@ use native.Mathlib.Omega.{arith}
 use lib.ListN.{getD}
 use borrow.Author.Tests.{eq-eqb}
 use Rattle.algebra.specs.Sums.{In}
-use Rattle.scheme.specs.Scheme.{span, Arithmetic, sixteen, Plan, places, in-set, usable, users-in, list-length, key, first-message, reply, total-at}
+use Rattle.scheme.specs.Lists.{span}
+use Rattle.scheme.specs.Scheme.{Arithmetic, sixteen, Plan, places, in-set, usable, users-in, list-length, key, first-message, reply, total-at}
 use Rattle.scheme.specs.Promise.{Table, Shown, admissible, list-good, shown}
 use Rattle.scheme.specs.Totals.{Follows, Totals-right, Choice, Rules-explain}
 use Rattle.scheme.specs.Laws.{Laws}

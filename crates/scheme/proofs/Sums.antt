@@ -17,7 +17,8 @@ use Rattle.algebra.specs.Sums.{In, sum as field-sum}
 use Rattle.algebra.specs.Cauchy.{value}
 use Rattle.algebra.proofs.Field.{mul-cancel}
 use Rattle.algebra.proofs.Sums.{sum-same as field-sum-same, sum-append as field-sum-append}
-use Rattle.scheme.specs.Scheme.{span, Arithmetic, sum, row-value}
+use Rattle.scheme.specs.Lists.{span}
+use Rattle.scheme.specs.Scheme.{Arithmetic, sum, row-value}
 use Rattle.scheme.specs.Laws.{Laws}
 use Rattle.scheme.proofs.Lists.{span-in}
 

@@ -18,8 +18,9 @@ use Rattle.algebra.specs.Cauchy.{System, coefficient, value, solution}
 use Rattle.algebra.proofs.Field.{add-sub}
 use Rattle.algebra.proofs.Sums.{sum-same as field-sum-same}
 use Rattle.algebra.proofs.Cauchy.{solves}
-use Rattle.scheme.specs.Scheme.{span, Arithmetic, sixteen, elements, sum, Plan, plan-good, in-set, ones, users-in, row-value}
-use Rattle.scheme.specs.Totals.{all-of, explains}
+use Rattle.scheme.specs.Lists.{span, all-of}
+use Rattle.scheme.specs.Scheme.{Arithmetic, sixteen, elements, sum, Plan, plan-good, in-set, ones, users-in, row-value}
+use Rattle.scheme.specs.Totals.{explains}
 use Rattle.scheme.specs.Laws.{Laws}
 use Rattle.scheme.specs.Sharp.{smallest, Threshold-needed, Sums-open}
 use Rattle.scheme.proofs.Tests.{joined}

@@ -17,7 +17,8 @@ use Rattle.algebra.specs.Field.{Field, sub}
 use Rattle.algebra.specs.Sums.{sum as field-sum}
 use Rattle.algebra.proofs.Field.{add-swap, add-sub, sub-is}
 use Rattle.algebra.proofs.Sums.{sum-sub}
-use Rattle.scheme.specs.Scheme.{span, each, Arithmetic, elements, Plan, items, places, in-set, ones, usable, usable-with, users-in, sets-with, list-length, mask, share, shares, key, first-message, reply, total-at}
+use Rattle.scheme.specs.Lists.{span, each}
+use Rattle.scheme.specs.Scheme.{Arithmetic, elements, Plan, items, places, in-set, ones, usable, usable-with, users-in, sets-with, list-length, mask, share, shares, key, first-message, reply, total-at}
 use Rattle.scheme.specs.Promise.{Table, list-good, shown, Alike, Nothing-told}
 use Rattle.scheme.specs.Laws.{Laws}
 use Rattle.scheme.specs.Delta.{colluders-in, given, shift, gap-of, table-delta, partner, back}

@@ -26,9 +26,10 @@ use Rattle.algebra.specs.Cauchy.{System, coefficient, value, solution}
 use Rattle.algebra.proofs.Field.{sub-is}
 use Rattle.algebra.proofs.Sums.{sum-same as field-sum-same, sum-add}
 use Rattle.algebra.proofs.Cauchy.{solves, unique}
-use Rattle.scheme.specs.Scheme.{span, Arithmetic, elements, sum, Plan, items, places, in-set, ones, usable, users-in, mask, noise, column, row-value, share, shares, key, first-message, total-at}
+use Rattle.scheme.specs.Lists.{span, all-of}
+use Rattle.scheme.specs.Scheme.{Arithmetic, elements, sum, Plan, items, places, in-set, ones, usable, users-in, mask, noise, column, row-value, share, shares, key, first-message, total-at}
 use Rattle.scheme.specs.Promise.{Table, list-good}
-use Rattle.scheme.specs.Totals.{all-of, explains, explains-all, total-of, totals, Follows, One-choice, Totals-right, Some-choice, Rules-explain}
+use Rattle.scheme.specs.Totals.{explains, explains-all, total-of, totals, Follows, One-choice, Totals-right, Some-choice, Rules-explain}
 use Rattle.scheme.specs.Laws.{Laws}
 use Rattle.scheme.proofs.Tests.{both, joined}
 use Rattle.scheme.proofs.Lists.{span-in, in-span, span-once, span-length, span-next, span-end, map-same, map-span-length, map-span-at, members-once}

@@ -13,7 +13,8 @@ use lib.ListN.{length, getD}
 use Rattle.algebra.specs.Field.{sub}
 use Rattle.algebra.specs.Sums.{sum}
 use Rattle.algebra.specs.Cauchy.{value, solution}
-use Rattle.scheme.specs.Scheme.{span, members, each, Arithmetic, Plan, items, places, in-set, users-in, usable-sets, list-length}
+use Rattle.scheme.specs.Lists.{span, members, each}
+use Rattle.scheme.specs.Scheme.{Arithmetic, Plan, items, places, in-set, users-in, usable-sets, list-length}
 use Rattle.scheme.specs.Promise.{Table}
 use Rattle.scheme.specs.Laws.{Laws}
 

@@ -13,7 +13,8 @@ use mathlib.Core.List.{List, map}
 use Prim.Native.Nat.{ℕ, _^_, _≤_, _<_}
 use lib.Dec.{eqb}
 use lib.ListN.{length}
-use Rattle.scheme.specs.Scheme.{span, each, Arithmetic, sixteen, elements, Plan, plan-good, places, in-set, ones, usable, users-in, list-length, key, key-length, first-message, reply, total-at}
+use Rattle.scheme.specs.Lists.{span, each}
+use Rattle.scheme.specs.Scheme.{Arithmetic, sixteen, elements, Plan, plan-good, places, in-set, ones, usable, users-in, list-length, key, key-length, first-message, reply, total-at}
 
 -- a row of figures for each user
 abbrev pub Table : Type 0

@@ -1,12 +1,11 @@
 -- The scheme of document 01 (section 4.3 of Zhao and Sun), over an arithmetic as a parameter.
---   span, members, rank, rows, each    lists of numbers
 --   Arithmetic, modular, sixteen       elements; modulo q; modulo 65521
 --   Plan, plan-good, items, places     K, U, T, M; U - T and L
 --   in-set, ones, usable               a set of airfields as a number; its size
 --   list-length, mask, noise           the random list and what stands where
 --   column, row-value, share, key      shares and keys
 --   first-message, reply, total-at     messages and totals
---   Stage, start-refusal, key-refusal, message-refusal, reply-refusal, written    what the calls answer and leave
+--   Stage, start-refusal, key-refusal, message-refusal, reply-refusal, after    what the calls answer and leave
 -- Document 01's airfield is a user here, and its S of an airfield is that user's mask. Assumes nothing: these are definitions.
 use mathlib.Core.Bool.{Bool, true, false, _&&_, not, cond}
 use mathlib.Core.List.{List, [], _∷_, _++_, map}
@@ -14,34 +13,8 @@ use Prim.Native.Nat.{ℕ, zero, suc, _+_, _*_, _-_, _/_, _%_, _^_}
 use lib.Dec.{ltb, leb, eqb}
 use lib.ListN.{length, getD, take, drop}
 use Rattle.algebra.specs.Residue.{inverse}
-
--- ---- LISTS OF NUMBERS
--- the n numbers from k on
-abbrev pub span : (n k : ℕ) → List ℕ
-span zero k = []
-span (suc n) k = k ∷ span n (suc k)
-
--- of the n numbers from k on, those that pass the test
-abbrev pub keep : Bool → ℕ → List ℕ → List ℕ
-keep true k l = k ∷ l
-keep false k l = l
-
-abbrev pub members : (test : ℕ → Bool) → (n k : ℕ) → List ℕ
-members t zero k = []
-members t (suc n) k = keep (t k) k (members t n (suc k))
-
--- how many numbers below v pass the test
-unfoldable pub rank : (test : ℕ → Bool) → (v : ℕ) → ℕ
-rank t v = length (members t v 0)
-
--- one list for each number, one behind the other
-abbrev pub rows : (ℕ → List ℕ) → List ℕ → List ℕ
-rows f [] = []
-rows f (v ∷ l) = f v ++ rows f l
-
--- two lists place by place, over n places
-abbrev pub each : (ℕ → ℕ → ℕ) → (n : ℕ) → List ℕ → List ℕ → List ℕ
-each f n xs ys = map (λ i. f (getD xs i 0) (getD ys i 0)) (span n 0)
+use Rattle.scheme.specs.Limits.{least-users, most-users, least-collusion, least-blocks, most-blocks}
+use Rattle.scheme.specs.Lists.{span, members, rank, rows, each}
 
 -- ---- ARITHMETIC
 -- elements are the numbers below size; sums and differences are elements, a product may be unreduced;
@@ -89,8 +62,8 @@ pub record Plan : Type 0 where
 
 unfoldable pub plan-good : Plan → Bool
 plan-good p =
-    ((leb 3 (p .users) && leb (p .users) 8) && (leb 1 (p .collusion) && ltb (p .collusion) (p .threshold)))
-    && (ltb (p .threshold) (p .users) && (leb 1 (p .blocks) && leb (p .blocks) 16))
+    ((leb least-users (p .users) && leb (p .users) most-users) && (leb least-collusion (p .collusion) && ltb (p .collusion) (p .threshold)))
+    && (ltb (p .threshold) (p .users) && (leb least-blocks (p .blocks) && leb (p .blocks) most-blocks))
 
 -- U - T items a block, and L places a row of figures
 unfoldable pub items : Plan → ℕ
@@ -227,7 +200,7 @@ reply-refusal A p k g ks v =
     start-refusal p k then unless (not (is-fresh g)) 18 then unless (eqb (length ks) (key-length p k)) 2 then unless (elements A ks) 3
     then unless (usable p v) 5 then unless (in-set v k) 6 then unless (open-to v g) 19
 
--- a lent buffer at exit: the new words, or after a refusal the old ones
-unfoldable pub written : (refusal : ℕ) → (new old : List ℕ) → List ℕ
-written zero new old = new
-written (suc n) new old = old
+-- what a call leaves, of its state or in a lent buffer: the new value, or after a refusal the old one
+unfoldable pub after : {A : Type 0} → (refusal : ℕ) → (new old : A) → A
+after zero new old = new
+after (suc n) new old = old

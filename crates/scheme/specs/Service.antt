@@ -14,8 +14,9 @@ use mathlib.Core.List.{List, [], _∷_}
 use mathlib.Core.Option.{Option, none, some}
 use Prim.Native.Nat.{ℕ, zero, suc, _+_, _-_, _^_, _<_}
 use lib.Dec.{ltb, leb, eqb}
-use Rattle.scheme.specs.Scheme.{span, Arithmetic, Plan, plan-good, is-user, places, in-set, ones, usable, _then_, unless}
-use Rattle.scheme.specs.Totals.{all-of, explains-all, totals}
+use Rattle.scheme.specs.Lists.{span, all-of}
+use Rattle.scheme.specs.Scheme.{Arithmetic, Plan, plan-good, is-user, places, in-set, ones, usable, _then_, unless}
+use Rattle.scheme.specs.Totals.{explains-all, totals}
 
 -- no plan yet; idle, gathering, replying
 pub data Phase : Type 0 where

@@ -11,7 +11,8 @@ use mathlib.Core.Logic.{_↔_}
 use mathlib.Core.Bool.{true}
 use mathlib.Core.List.{List, _∷_, map}
 use Prim.Native.Nat.{ℕ}
-use Rattle.scheme.specs.Scheme.{span, Arithmetic, sixteen, places, ones, total-at}
+use Rattle.scheme.specs.Lists.{span}
+use Rattle.scheme.specs.Scheme.{Arithmetic, sixteen, places, ones, total-at}
 use Rattle.scheme.specs.Promise.{Table, admissible, list-good}
 use Rattle.scheme.specs.Totals.{Follows}
 use Rattle.scheme.specs.Service.{State, new-state, replied, Record, open-record, finish-record, Answer, opened, totalled, refused, refusal, planned-state, values, explained-by, Steps, Runs, Well}

@@ -1,5 +1,4 @@
 -- Demand 2 of one round, over an arithmetic: which sums and noise explain the complete replies, and the total.
---   all-of                  a test of each number of a list
 --   explains, explains-all  unknowns of a block, and of every block, that explain the replies of a set
 --   total-of, totals        the survivors' first messages less the sums of the masks
 --   Follows                 first messages and replies that follow the rules from one random list and one table
@@ -14,12 +13,9 @@ use mathlib.Core.List.{List, [], _∷_, map}
 use Prim.Native.Nat.{ℕ, _-_, _/_, _%_, _≤_, _<_}
 use lib.Dec.{eqb}
 use lib.ListN.{length, getD}
-use Rattle.scheme.specs.Scheme.{span, Arithmetic, elements, sum, Plan, items, places, in-set, ones, usable, users-in, row-value, key, first-message, reply, total-at}
+use Rattle.scheme.specs.Lists.{span, all-of}
+use Rattle.scheme.specs.Scheme.{Arithmetic, elements, sum, Plan, items, places, in-set, ones, usable, users-in, row-value, key, first-message, reply, total-at}
 use Rattle.scheme.specs.Promise.{Table, admissible, list-good}
-
-unfoldable pub all-of : (ℕ → Bool) → List ℕ → Bool
-all-of t [] = true
-all-of t (k ∷ l) = t k && all-of t l
 
 -- U unknowns of a block, the sums of the masks and then the noise: elements that give the value of each user of the set
 unfoldable pub explains : Arithmetic → Plan → (set : ℕ) → (value : (k : ℕ) → ℕ) → (unknowns : List ℕ) → Bool

@@ -11,8 +11,7 @@ use native.Mathlib.Numerals.{add-one}
 use native.Mathlib.Omega.{arith}
 use lib.Pow.{pow-mono}
 use borrow.Author.Tests.{le-leb, lt-ltb}
-use Rattle.scheme.specs.Scheme.{span}
-use Rattle.scheme.specs.Totals.{all-of}
+use Rattle.scheme.specs.Lists.{span, all-of}
 use Rattle.scheme.specs.Service.{is-held, set-of}
 use Rattle.scheme.proofs.Lists.{span-in}
 use Rattle.scheme.proofs.Totals.{all-of-same}

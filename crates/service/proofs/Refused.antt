@@ -5,7 +5,6 @@
 --   Fit, fit, unfit     what element-refusal tells
 --   stopped             the first tests answer, whatever follows
 --   turned, taken       an array after a refusal, and after none
---   after-refused       the state after a refusal
 --   close-refused, close-taken     what close hands back
 -- Assumes nothing.
 use mathlib.Core.Path.{_≡_, refl, sym, _∙_}
@@ -14,14 +13,14 @@ use mathlib.Core.List.{List}
 use Prim.Native.Nat.{ℕ, zero, suc, _≤_}
 use lib.Dec.{ltb, leb}
 use borrow.Author.Tests.{leb-true}
-use Rattle.scheme.specs.Scheme.{q, _then_, unless, written}
+use Rattle.scheme.specs.Scheme.{q, _then_, unless, after}
 use Rattle.scheme.specs.Service.{gathered}
 use Rattle.scheme.proofs.Tests.{holds, both}
-use Rattle.scheme.proofs.Refusals.{then-refused, unless-zero, written-taken, written-refused}
+use Rattle.scheme.proofs.Refusals.{then-refused, unless-zero, after-taken, after-refused}
 use Rattle.scheme.proofs.Well.{test-held}
 use Rattle.service.specs.declared.Service.{Service}
 use Rattle.service.specs.View.{view}
-use Rattle.service.specs.Calls.{after, element-refusal, close-refusal, closed, close-answer, close-step}
+use Rattle.service.specs.Calls.{element-refusal, close-refusal, closed, close-answer, close-step}
 
 pub under : (b c : Bool) (n : ℕ) {l m : ℕ} → b ≡ c → (b ≡ true → l ≡ m) → (unless b (suc n) then l) ≡ (unless c (suc n) then m)
 unfolding unless _then_
@@ -70,16 +69,11 @@ unfolding _then_
 stopped zero b c n e h = then-refused (λ z. h (e ∙ z)) c ∙ sym e
 stopped (suc a) b c n e h = sym e
 
-pub turned : {r n : ℕ} → (n ≡ 0 → ⊥) → r ≡ n → (new old : List ℕ) → (n ≡ r) × (old ≡ written r new old)
-turned h e new old = (sym e, sym (written-refused (λ z. h (sym e ∙ z)) new old))
+pub turned : {r n : ℕ} → (n ≡ 0 → ⊥) → r ≡ n → (new old : List ℕ) → (n ≡ r) × (old ≡ after r new old)
+turned h e new old = (sym e, sym (after-refused (λ z. h (sym e ∙ z)) new old))
 
-pub taken : {r : ℕ} → r ≡ 0 → (new old : List ℕ) → (0 ≡ r) × (new ≡ written r new old)
-taken e new old = (sym e, sym (written-taken e new old))
-
-pub after-refused : {n : ℕ} → (n ≡ 0 → ⊥) → (t s : Service) → after n t s ≡ s
-unfolding after
-after-refused {n = zero} h t s = absurd (h refl)
-after-refused {n = suc n} h t s = refl
+pub taken : {r : ℕ} → r ≡ 0 → (new old : List ℕ) → (0 ≡ r) × (new ≡ after r new old)
+taken e new old = (sym e, sym (after-taken e new old))
 
 -- ---- close
 pub close-refused : (s : Service) {n : ℕ} → (n ≡ 0 → ⊥) → close-refusal s ≡ n → record { number = n; set = 0; service = s } ≡ close-step s

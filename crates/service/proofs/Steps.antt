@@ -11,20 +11,20 @@ use native.Mathlib.Omega.{arith}
 use lib.Dec.{ltb}
 use lib.ListN.{length, length-set, length-replicate}
 use borrow.Author.Tests.{lt-ltb, ltb-true}
-use Rattle.scheme.specs.Scheme.{sixteen, places, _then_, unless, written}
+use Rattle.scheme.specs.Scheme.{sixteen, places, _then_, unless, after}
 use Rattle.scheme.specs.Service.{has-plan, gathered, Answer, silent, Record, plan-record, open-record, first-record, close-record, reply-record, refusal, next-state, answer-of, is-finish, Steps, refuses, accepts}
 use Rattle.scheme.specs.Service as scheme
 use Rattle.scheme.proofs.Tests.{holds}
-use Rattle.scheme.proofs.Refusals.{unless-zero}
+use Rattle.scheme.proofs.Refusals.{unless-zero, after-refused}
 use Rattle.scheme.proofs.Well.{test-held, new-well, steps-well}
 use Rattle.plan.specs.Plan.{plan-of}
 use Rattle.service.specs.declared.Phase.the-variants.{Gathering}
 use Rattle.service.specs.declared.Service.{Service}
 use Rattle.service.specs.declared.Closed.{Closed}
 use Rattle.service.specs.View.{phase-of, view, Formed}
-use Rattle.service.specs.Calls.{after, nothing-first, nothing-reply, new-service, planned, plan-step, open-refusal, opened, open-step, first-left, first-step, reply-left, reply-step, close-refusal, closed, close-answer, close-step}
+use Rattle.service.specs.Calls.{nothing-first, nothing-reply, new-service, planned, plan-step, open-refusal, opened, open-step, first-left, first-step, reply-left, reply-step, close-refusal, closed, close-answer, close-step}
 use Rattle.service.specs.Promise.{told, Is-step, New-formed, Plan-steps, Open-steps, First-steps, Reply-steps, Close-steps, Refused-unchanged, Opens-as-new}
-use Rattle.service.proofs.Refused.{after-refused, close-refused}
+use Rattle.service.proofs.Refused.{close-refused}
 use Rattle.service.proofs.Same.{plan-same, open-same, first-same, reply-same, close-same, new-view, planned-view, opened-view, closed-view, put-first, put-reply, first-view, reply-view}
 
 -- ---- a step from its parts
@@ -105,13 +105,13 @@ open-steps s r w =
     })
 
 -- ---- elements
-first-after : (s : Service) (n : ℕ) (xs : List ℕ) → record { head = s .head; first = written n xs (s .first); reply = s .reply } ≡ after n (record { head = s .head; first = xs; reply = s .reply }) s
-unfolding written after
+first-after : (s : Service) (n : ℕ) (xs : List ℕ) → record { head = s .head; first = after n xs (s .first); reply = s .reply } ≡ after n (record { head = s .head; first = xs; reply = s .reply }) s
+unfolding after
 first-after s zero xs = refl
 first-after s (suc n) xs = refl
 
-reply-after : (s : Service) (n : ℕ) (xs : List ℕ) → record { head = s .head; first = s .first; reply = written n xs (s .reply) } ≡ after n (record { head = s .head; first = s .first; reply = xs }) s
-unfolding written after
+reply-after : (s : Service) (n : ℕ) (xs : List ℕ) → record { head = s .head; first = s .first; reply = after n xs (s .reply) } ≡ after n (record { head = s .head; first = s .first; reply = xs }) s
+unfolding after
 reply-after s zero xs = refl
 reply-after s (suc n) xs = refl
 

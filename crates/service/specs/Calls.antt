@@ -1,5 +1,4 @@
 -- What each call of the service answers and leaves, for every state value.
---   after                                  the new state, or after a refusal the old one
 --   new-service                            before any record
 --   plan-step, open-step, first-step, close-step, reply-step     the calls, one for each kind of record
 --   lent, stepped, closing                 the same where head and arrays stand apart
@@ -11,7 +10,7 @@ use mathlib.Core.List.{List}
 use Prim.Native.Nat.{ℕ, zero, suc, _+_}
 use lib.Dec.{ltb, leb, eqb}
 use lib.ListN.{getD, set, replicate}
-use Rattle.scheme.specs.Scheme.{q, plan-good, is-user, places, in-set, ones, _then_, unless, written}
+use Rattle.scheme.specs.Scheme.{q, plan-good, is-user, places, in-set, ones, _then_, unless, after}
 use Rattle.scheme.specs.Service.{has-plan, is-gathering, is-replying, gathered}
 use Rattle.plan.specs.declared.Plan.{Plan}
 use Rattle.plan.specs.Plan.{plan-of}
@@ -23,10 +22,6 @@ use Rattle.service.specs.declared.Closed.{Closed}
 use Rattle.service.specs.declared.SteppedHead.{SteppedHead}
 use Rattle.service.specs.declared.ClosedHead.{ClosedHead}
 use Rattle.service.specs.View.{phase-of, slot, view}
-
-unfoldable pub after : (refusal : ℕ) → (new old : Service) → Service
-after zero t s = t
-after (suc n) t s = s
 
 unfoldable pub nothing-first : List ℕ
 nothing-first = replicate 768 0
@@ -96,7 +91,7 @@ first-refusal h xs k i x =
     then unless (ltb i (h .places)) 8 then unless (ltb x q) 3 then unless (ltb (slot 96 k i) 768) 8 then unless (eqb (getD xs (slot 96 k i) 0) 0) 13
 
 unfoldable pub first-left : Head → (first : List ℕ) → (k place element : ℕ) → List ℕ
-first-left h xs k i x = written (first-refusal h xs k i x) (set xs (slot 96 k i) (x + 1)) xs
+first-left h xs k i x = after (first-refusal h xs k i x) (set xs (slot 96 k i) (x + 1)) xs
 
 unfoldable pub first-step : Service → (k place element : ℕ) → Stepped
 first-step s k i x =
@@ -113,7 +108,7 @@ reply-refusal h ys k b x =
     then unless (in-set (h .survivors) k) 14 then unless (eqb (getD ys (slot 16 k b) 0) 0) 13
 
 unfoldable pub reply-left : Head → (reply : List ℕ) → (k block element : ℕ) → List ℕ
-reply-left h ys k b x = written (reply-refusal h ys k b x) (set ys (slot 16 k b) (x + 1)) ys
+reply-left h ys k b x = after (reply-refusal h ys k b x) (set ys (slot 16 k b) (x + 1)) ys
 
 unfoldable pub reply-step : Service → (k block element : ℕ) → Stepped
 reply-step s k b x =

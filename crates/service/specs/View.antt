@@ -12,8 +12,8 @@ use mathlib.Core.Option.{Option, none, some}
 use Prim.Native.Nat.{ℕ, zero, suc, _+_, _*_, _-_}
 use lib.Dec.{ltb, leb, eqb}
 use lib.ListN.{length, getD}
-use Rattle.scheme.specs.Scheme.{span, sixteen, places}
-use Rattle.scheme.specs.Totals.{all-of}
+use Rattle.scheme.specs.Lists.{span, all-of}
+use Rattle.scheme.specs.Scheme.{sixteen, places}
 use Rattle.scheme.specs.Service as scheme
 use Rattle.plan.specs.Plan.{plan-of}
 use Rattle.service.specs.declared.Phase.{Phase}

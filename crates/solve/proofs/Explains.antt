@@ -13,12 +13,13 @@ use native.Mathlib.Omega.{arith}
 use lib.ListN.{length, getD, take}
 use lib.Seq.{take-at, getD-take}
 use borrow.Author.Tests.{eq-eqb, eqb-true}
-use Rattle.scheme.specs.Scheme.{span, q, sixteen, Plan, row-value}
+use Rattle.scheme.specs.Lists.{span, padded}
+use Rattle.scheme.specs.Scheme.{q, sixteen, Plan, row-value}
 use Rattle.scheme.proofs.Lists.{span-in, in-span, map-span-length}
 use Rattle.scheme.proofs.Keys.{elements-map}
 use Rattle.scheme.proofs.Sums.{sum-same}
 use Rattle.scheme.proofs.Totals.{all-of-in, at-all-of, in-at, unknown, Explained}
-use Rattle.solve.specs.Solve.{laws16, Points, Square, padded, filled, unknown-at, solution-of, dot-of, fits-of}
+use Rattle.solve.specs.Solve.{laws16, Points, Square, filled, unknown-at, solution-of, dot-of, fits-of}
 use Rattle.solve.proofs.Right.{dot-row, solve-right}
 
 pub points-some : {most more n m : ℕ} {xs : List ℕ} → Points most m xs → most ≤ more → n ≤ m → Points more n xs

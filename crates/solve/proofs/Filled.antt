@@ -12,9 +12,9 @@ use native.Mathlib.Nat.{zero-add}
 use native.Mathlib.Omega.{arith}
 use lib.ListN.{length, getD, take, set, replicate, length-append, length-replicate, List·getD-append}
 use lib.Seq.{getD-append-add, set-append-seam, take-append-seam}
-use Rattle.scheme.specs.Scheme.{span}
+use Rattle.scheme.specs.Lists.{span, padded}
 use Rattle.scheme.proofs.Lists.{span-append, map-span-length, map-span-at, zeros-at}
-use Rattle.solve.specs.Solve.{padded, filled}
+use Rattle.solve.specs.Solve.{filled}
 
 module _ (n : ℕ) (l : List ℕ) where
   pub padded-at : (i : ℕ) → i < length l → getD (padded n l) i 0 ≡ getD l i 0

@@ -12,7 +12,7 @@ use native.Mathlib.Decide.{decLt}
 use native.Mathlib.Omega.{arith}
 use lib.ListN.{length, getD, set, replicate, length-set, length-replicate}
 use lib.Seq.{getD-set-same, getD-set-other, ext-getD}
-use Rattle.scheme.specs.Scheme.{span}
+use Rattle.scheme.specs.Lists.{span}
 use Rattle.scheme.proofs.Tests.{none-below}
 use Rattle.scheme.proofs.Lists.{map-span-length, map-span-at, zeros-at}
 use Rattle.solve.specs.Solve.{unknown-at, cell, grid, block, Put, unknowns-of}

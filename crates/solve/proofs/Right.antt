@@ -15,7 +15,8 @@ use Rattle.algebra.specs.Sums.{In}
 use Rattle.algebra.specs.Cauchy.{System, solution}
 use Rattle.algebra.proofs.Sums.{sum-same as field-sum-same}
 use Rattle.algebra.proofs.Cauchy.{solves}
-use Rattle.scheme.specs.Scheme.{span, q, sixteen, row-value}
+use Rattle.scheme.specs.Lists.{span}
+use Rattle.scheme.specs.Scheme.{q, sixteen, row-value}
 use Rattle.scheme.specs.Laws.{Laws}
 use Rattle.scheme.proofs.Lists.{in-span, span-once}
 use Rattle.scheme.proofs.Sums.{sum-same, sum-shift, el-same}

@@ -20,8 +20,8 @@ use Rattle.algebra.specs.Sums.{In, sum as field-sum}
 use Rattle.algebra.specs.Cauchy.{weight}
 use Rattle.algebra.proofs.Field.{expand}
 use Rattle.algebra.proofs.Sums.{sum-same as field-sum-same, sum-scale as field-sum-scale}
-use Rattle.scheme.specs.Scheme.{span, q, sixteen}
-use Rattle.scheme.specs.Totals.{all-of}
+use Rattle.scheme.specs.Lists.{span, all-of}
+use Rattle.scheme.specs.Scheme.{q, sixteen}
 use Rattle.scheme.specs.Laws.{Laws}
 use Rattle.scheme.proofs.Lists.{span-in, map-span-at}
 use Rattle.scheme.proofs.Sums.{sum-same, sum-el, sum-small}

@@ -17,7 +17,8 @@ use Rattle.algebra.specs.Field.{Field, sub}
 use Rattle.algebra.specs.Cauchy.{gap, weight}
 use Rattle.algebra.proofs.Field.{expand, one-mul}
 use Rattle.algebra.proofs.Residue.{mods}
-use Rattle.scheme.specs.Scheme.{span, q, sixteen, sum}
+use Rattle.scheme.specs.Lists.{span}
+use Rattle.scheme.specs.Scheme.{q, sixteen, sum}
 use Rattle.scheme.specs.Laws.{Laws}
 use Rattle.scheme.proofs.Lists.{span-start, span-next, span-end}
 use Rattle.scheme.proofs.Sums.{sum-append}

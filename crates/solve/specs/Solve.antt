@@ -23,8 +23,8 @@ use lib.Dec.{eqb, lit<}
 use lib.ListN.{length, getD, replicate}
 use Rattle.algebra.specs.Residue.{inverse}
 use Rattle.algebra.specs.Cauchy.{weight, solution}
-use Rattle.scheme.specs.Scheme.{span, q, sixteen, sum}
-use Rattle.scheme.specs.Totals.{all-of}
+use Rattle.scheme.specs.Lists.{span, all-of, padded}
+use Rattle.scheme.specs.Scheme.{q, sixteen, sum}
 use Rattle.scheme.specs.Laws.{Laws}
 use Rattle.scheme.specs.Modular.{sixteen-field}
 
@@ -50,9 +50,6 @@ pub record Square (rows columns : List ℕ) (n : ℕ) : Type 0 where
   pub columns-good : Points 7 n columns
 
 -- ---- LISTS OF A FIXED LENGTH
-unfoldable pub padded : (n : ℕ) → List ℕ → List ℕ
-padded n l = l ++ replicate (n - length l) 0
-
 unfoldable pub filled : (n : ℕ) → (ℕ → ℕ) → List ℕ
 filled n f = padded 8 (map f (span n 0))
 

@@ -11,8 +11,8 @@ ghost use mathlib.Core.Path.{_≡_};
 ghost use Prim.Native.Nat.{_+_, _*_, _-_, _%_, _≤_, _<_};
 ghost use lib.Dec.{eqb};
 ghost use lib.ListN.{length, getD, replicate};
-ghost use Rattle.scheme.specs.Scheme.{span, q, sixteen, sum};
-ghost use Rattle.scheme.specs.Totals.{all-of};
+ghost use Rattle.scheme.specs.Lists.{span, all-of};
+ghost use Rattle.scheme.specs.Scheme.{q, sixteen, sum};
 ghost use Rattle.solve.specs.Solve.{Points, Near, Ready, gap-of, gap-at, weight-at, weights-of, filled, product, Factors, combined, inverse-at, Put, unknowns-of, row-fits};
 
 // A plan has at most 16 blocks; with eight rows that makes 128 cells.

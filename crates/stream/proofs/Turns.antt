@@ -14,7 +14,8 @@ use native.Mathlib.Omega.{arith}
 use lib.Dec.{lit<}
 use lib.ListN.{length, getD, take, length-append}
 use borrow.Author.Tests.{ne-eqb}
-use Rattle.scheme.specs.Scheme.{span, sixteen, Plan, places, plan-good}
+use Rattle.scheme.specs.Lists.{span, padded}
+use Rattle.scheme.specs.Scheme.{sixteen, Plan, places, plan-good}
 use Rattle.scheme.specs.Good.{Good}
 use Rattle.scheme.specs.Totals.{total-of, totals}
 use Rattle.scheme.specs.Service.{Record, plan-record, open-record, first-record, close-record, reply-record, finish-record, Answer, planned, opened, closed, totalled, refused, totals-by}
@@ -26,7 +27,6 @@ use Rattle.plan.proofs.Laws.{places-le}
 use Rattle.service.specs.declared.Service.{Service}
 use Rattle.service.specs.View.{view}
 use Rattle.service.specs.Promise.{told}
-use Rattle.solve.specs.Solve.{padded}
 use Rattle.finish.specs.Finish.{choice, finish-refusal, finish-answer, finish-step}
 use Rattle.finish.proofs.Answers.{answer-number}
 use Rattle.solve.proofs.Filled.{padded-take}

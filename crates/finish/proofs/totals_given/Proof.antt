@@ -8,6 +8,7 @@ use lib.ListN.{length}
 use lib.Count as machine
 use borrow.Author.Needs.{needs}
 use borrow.Author.Tests.{lt-leb, not-true, not-false}
+use Rattle.scheme.specs.Lists.{padded}
 use Rattle.scheme.specs.Scheme.{sixteen, plan-good, ones, unless, _then_}
 use Rattle.scheme.specs.Service.{has-plan, is-replying, replied, explained-by, totals-by}
 use Rattle.scheme.proofs.Good.{good}
@@ -15,7 +16,6 @@ use Rattle.scheme.proofs.Held.{complete-below}
 use Rattle.scheme.proofs.Refusals.{unless-held, unless-failed}
 use Rattle.plan.specs.Plan.{plan-of}
 use Rattle.plan.proofs.Laws.{ones-same}
-use Rattle.solve.specs.Solve.{padded}
 use Rattle.service.specs.declared.Service.{Service}
 use Rattle.service.specs.Calls.{lent}
 use Rattle.service.specs.View.{phase-of, view}

@@ -5,11 +5,11 @@ use Prim.Native.Nat.{ℕ}
 use native.Mathlib.Omega.{arith}
 use borrow.Author.Needs.{needs}
 use borrow.Author.Tests.{not-true, not-false}
+use Rattle.scheme.specs.Lists.{padded}
 use Rattle.scheme.specs.Scheme.{items, places}
 use Rattle.scheme.proofs.Tests.{holds}
 use Rattle.plan.specs.Plan.{plan-of}
 use Rattle.plan.proofs.Laws.{places-le}
-use Rattle.solve.specs.Solve.{padded}
 use Rattle.finish.specs.Parts.{Blocks-solved, First-sums}
 use Rattle.finish.proofs.Answers.{prepared-own, solved-same}
 use Rattle.finish.proofs.Blocks.{listed-few, listed-points}

@@ -7,7 +7,8 @@ use native.Mathlib.Omega.{arith}
 use lib.ListN.{length, getD, set}
 use lib.Seq.{sets, length-sets}
 use borrow.Author.Needs.{needs}
-use Rattle.scheme.specs.Scheme.{span, mask}
+use Rattle.scheme.specs.Lists.{span}
+use Rattle.scheme.specs.Scheme.{mask}
 use Rattle.scheme.proofs.Lists.{sets-more}
 use Rattle.plan.specs.Plan.{plan-of}
 use Rattle.keys.proofs.Places.{rows-in, row-in}

@@ -7,9 +7,10 @@ use native.Mathlib.Omega.{arith}
 use lib.ListN.{length}
 use lib.Seq.{sets}
 use borrow.Author.Needs.{needs}
-use Rattle.scheme.specs.Scheme.{span, rows, sixteen, Plan, places, sets-with, mask, shares, key, key-length, key-refusal, written}
+use Rattle.scheme.specs.Lists.{span, rows}
+use Rattle.scheme.specs.Scheme.{sixteen, Plan, places, sets-with, mask, shares, key, key-length, key-refusal, after}
 use Rattle.scheme.proofs.Lists.{map-span-length, sets-whole}
-use Rattle.scheme.proofs.Refusals.{written-taken, written-refused}
+use Rattle.scheme.proofs.Refusals.{after-taken, after-refused}
 use Rattle.scheme.proofs.Keys.{key-is-long}
 use Rattle.plan.specs.Plan.{plan-of}
 use Rattle.plan.proofs.Laws.{masks-inside}
@@ -32,8 +33,8 @@ module _ (p : Plan) (k : ℕ) (xs old middle new : List ℕ) (row : ℕ) (e : ro
       (ap (λ (n : ℕ). sets (sets old 0 masks) n rest) (sym (zero-add (length masks) ∙ map-span-length (mask p xs k) (places p) 0))
       ∙ sets-append old 0 masks rest ∙ sets-whole old (key sixteen p xs k) (key-is-long sixteen p xs k ∙ sym l))
 
-  key-written : {refusal : ℕ} → refusal ≡ 0 → new ≡ written refusal (key sixteen p xs k) old
-  key-written z = key-whole ∙ sym (written-taken z _ _)
+  key-written : {refusal : ℕ} → refusal ≡ 0 → new ≡ after refusal (key sixteen p xs k) old
+  key-written z = key-whole ∙ sym (after-taken z _ _)
 
 -- past the refusals
 module _ (c : tie.Else1) where
@@ -50,7 +51,7 @@ refusal-requires c κs = search needs
 returns : tie.Need-returns
 returns c =
     let e = c .before .refusal .ensures in
-    (e, sym (written-refused (λ z. c .if1 .taken (e ∙ z)) _ _))
+    (e, sym (after-refused (λ z. c .if1 .taken (e ∙ z)) _ _))
 
 places-of-requires : tie.Need-places-of-requires
 places-of-requires c κs = taken c .0 .good

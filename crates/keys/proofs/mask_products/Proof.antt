@@ -8,7 +8,8 @@ use native.Mathlib.Omega.{arith}
 use lib.ListN.{length, getD, replicate, length-replicate}
 use lib.Seq.{sets, length-sets}
 use borrow.Author.Needs.{needs}
-use Rattle.scheme.specs.Scheme.{span, q, Plan, items, places}
+use Rattle.scheme.specs.Lists.{span}
+use Rattle.scheme.specs.Scheme.{q, Plan, items, places}
 use Rattle.scheme.proofs.Tests.{none-below}
 use Rattle.scheme.proofs.Lists.{zeros-at}
 use Rattle.plan.specs.Plan.{plan-of}

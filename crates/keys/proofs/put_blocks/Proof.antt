@@ -8,7 +8,8 @@ use lib.ListN.{length, getD, set}
 use lib.Seq.{sets, length-sets}
 use denote.Ref.{now}
 use borrow.Author.Needs.{needs}
-use Rattle.scheme.specs.Scheme.{span, q}
+use Rattle.scheme.specs.Lists.{span}
+use Rattle.scheme.specs.Scheme.{q}
 use Rattle.scheme.proofs.Lists.{sets-more}
 use Rattle.keys.specs.Parts.{block-value}
 use Rattle.keys.proofs.Sums.{dotted-part}

@@ -7,7 +7,7 @@ use native.Mathlib.Omega.{arith}
 use lib.Seq.{sets}
 use denote.Ref.{now}
 use borrow.Author.Needs.{needs}
-use Rattle.scheme.specs.Scheme.{span}
+use Rattle.scheme.specs.Lists.{span}
 use Rattle.scheme.proofs.Tests.{past}
 use Rattle.keys.specs.Parts.{block-value}
 use Rattle.keys.proofs.put_by.Statement.{statement}

@@ -10,7 +10,8 @@ use lib.ListN.{length}
 use lib.Seq.{sets, length-sets}
 use denote.Ref.{now}
 use borrow.Author.Needs.{needs}
-use Rattle.scheme.specs.Scheme.{members, rank, rows, sixteen, Plan, items, places, in-set, usable, usable-with, sets-with, noise-start, shares, reply-start}
+use Rattle.scheme.specs.Lists.{members, rank, rows}
+use Rattle.scheme.specs.Scheme.{sixteen, Plan, items, places, in-set, usable, usable-with, sets-with, noise-start, shares, reply-start}
 use Rattle.scheme.proofs.Tests.{joined}
 use Rattle.scheme.proofs.Lists.{rows-length}
 use Rattle.scheme.proofs.Keys.{shares-length}

@@ -7,7 +7,8 @@ use lib.ListN.{getD}
 use lib.Seq.{sets}
 use denote.Ref.{now}
 use borrow.Author.Needs.{needs}
-use Rattle.scheme.specs.Scheme.{span, q}
+use Rattle.scheme.specs.Lists.{span}
+use Rattle.scheme.specs.Scheme.{q}
 use Rattle.scheme.proofs.Lists.{span-in, map-same}
 use Rattle.keys.specs.Parts.{weighed, part-at, block-value, set-sum}
 use Rattle.keys.proofs.write_shares.Statement.{statement}

@@ -8,8 +8,7 @@ use Prim.Native.Nat.{ℕ, _+_, _-_}
 use native.Mathlib.Nat.{add-zero}
 use native.Mathlib.Omega.{arith}
 use borrow.Author.Needs.{needs}
-use Rattle.scheme.specs.Scheme.{span}
-use Rattle.scheme.specs.Totals.{all-of}
+use Rattle.scheme.specs.Lists.{span, all-of}
 use Rattle.scheme.specs.Service.{is-held, complete-set}
 use Rattle.service.specs.View.{look, row-held}
 use Rattle.service.proofs.Complete.{look-row, Gathering, gathering-start, gathering-end, gathering-bit, gathering-inside, gathering-next}

@@ -2,8 +2,9 @@
 -- Assumes nothing.
 use mathlib.Core.Path.{sym, _∙_}
 use borrow.Author.Needs.{needs}
-use Rattle.service.specs.Calls.{open-step, opened, after}
-use Rattle.service.proofs.Refused.{after-refused}
+use Rattle.service.specs.Calls.{open-step, opened}
+use Rattle.scheme.specs.Scheme.{after}
+use Rattle.scheme.proofs.Refusals.{after-refused}
 use Rattle.service.proofs.open_lent.Statement.{statement}
 use Rattle.service.proofs.open_lent.Tie as tie
 

@@ -4,13 +4,13 @@ use mathlib.Core.Path.{_≡_, sym, _∙_}
 use mathlib.Core.Bool.{true, false}
 use borrow.Author.Needs.{needs}
 use borrow.Author.Tests.{not-true, not-false}
-use Rattle.scheme.specs.Scheme.{plan-good, unless, _then_}
+use Rattle.scheme.specs.Scheme.{plan-good, unless, _then_, after}
 use Rattle.scheme.specs.Service.{has-plan}
 use Rattle.scheme.proofs.Good.{good}
 use Rattle.scheme.proofs.Refusals.{unless-zero}
 use Rattle.plan.specs.Plan.{plan-of}
 use Rattle.service.specs.View.{phase-of}
-use Rattle.service.specs.Calls.{plan-step, plan-refusal, planned, after}
+use Rattle.service.specs.Calls.{plan-step, plan-refusal, planned}
 use Rattle.service.proofs.Refused.{unless-not-zero}
 use Rattle.service.proofs.plan_lent.Statement.{statement}
 use Rattle.service.proofs.plan_lent.Tie as tie

@@ -5,7 +5,8 @@ use Prim.Native.Nat.{ℕ, _+_, _*_, _%_, _≤_}
 use native.Mathlib.Nat.{zero-mul}
 use native.Mathlib.Omega.{arith}
 use borrow.Author.Needs.{needs}
-use Rattle.scheme.specs.Scheme.{span, q, sixteen, sum}
+use Rattle.scheme.specs.Lists.{span}
+use Rattle.scheme.specs.Scheme.{q, sixteen, sum}
 use Rattle.solve.specs.Solve.{cell, product, combined}
 use Rattle.solve.proofs.Turns.{sum-both, sum-short}
 use Rattle.solve.proofs.dot.Statement.{statement}

@@ -5,8 +5,7 @@ use Prim.Native.Nat.{_*_, _-_, _≤_}
 use native.Mathlib.Omega.{arith}
 use borrow.Author.Needs.{needs}
 use borrow.Author.Tests.{not-true, not-false}
-use Rattle.scheme.specs.Scheme.{span}
-use Rattle.scheme.specs.Totals.{all-of}
+use Rattle.scheme.specs.Lists.{span, all-of}
 use Rattle.scheme.proofs.Totals.{all-of-pass, all-of-stop, all-of-end}
 use Rattle.solve.specs.Solve.{row-fits}
 use Rattle.solve.proofs.Solution.{near, filled-factors, row-same}

@@ -10,8 +10,7 @@ use lib.Dec.{eqb}
 use lib.ListN.{getD}
 use borrow.Author.Needs.{needs}
 use borrow.Author.Tests.{eq-eqb, ne-eqb}
-use Rattle.scheme.specs.Scheme.{span}
-use Rattle.scheme.specs.Totals.{all-of}
+use Rattle.scheme.specs.Lists.{span, all-of}
 use Rattle.scheme.proofs.Tests.{and-true, and-false}
 use Rattle.scheme.proofs.Lists.{span-start}
 use Rattle.scheme.proofs.Totals.{all-of-pass, all-of-stop, all-of-end}

@@ -2,7 +2,7 @@
 -- Assumes nothing.
 use mathlib.Core.Path.{sym, ap, _∙_}
 use borrow.Author.Needs.{needs}
-use Rattle.scheme.proofs.Refusals.{written-taken, written-refused}
+use Rattle.scheme.proofs.Refusals.{after-taken, after-refused}
 use Rattle.service.specs.declared.Head.{Head}
 use Rattle.service.specs.Calls.{lent}
 use Rattle.finish.specs.declared.Finished.{Finished}
@@ -27,7 +27,7 @@ returns c =
     let e = x .finish-lent .ensures ∙ ap (λ (h : Head). finish-step (lent h (a .first .now) (a .reply .now))) (x .before .before .before .head-at .ensures) in
     let n = ap (λ (t : Finished). t .number) e in
     let h = kept-right _ _ n (c .if1 .taken) (ap (λ (t : Finished). t .service) e) (finish-kept _ (λ z. c .if1 .taken (n ∙ z))) in
-    (h .0, (h .1, sym (written-refused (λ z. c .if1 .taken (n ∙ z)) _ _)))
+    (h .0, (h .1, sym (after-refused (λ z. c .if1 .taken (n ∙ z)) _ _)))
 
 numbers-requires : tie.Need-numbers-requires
 numbers-requires c κs = search needs
@@ -39,7 +39,7 @@ returns-2 c =
     let a = x .before .before .before .before .before .args in
     let e = x .finish-lent .ensures ∙ ap (λ (h : Head). finish-step (lent h (a .first .now) (a .reply .now))) (x .before .before .before .head-at .ensures) in
     let h = taken-right _ _ (ap (λ (t : Finished). t .number) e) (c .before .before .if1 .left) (ap (λ (t : Finished). t .service) e) (same-head (c .numbers .ensures)) in
-    (h .0, (h .1, ap (λ (t : Finished). t .totals) e ∙ sym (written-taken (sym (h .0)) _ _)))
+    (h .0, (h .1, ap (λ (t : Finished). t .totals) e ∙ sym (after-taken (sym (h .0)) _ _)))
 
 pub cutawheno-service-finish-spec : {M : Type 1} → statement M
 cutawheno-service-finish-spec = tie.close (tie.spec head-at-requires finish-lent-requires returns numbers-requires returns-2)
