@@ -5,10 +5,11 @@ use mathlib.Core.Path.{_≡_, refl, sym, ap, _∙_}
 use mathlib.Core.Logic.{_≢_}
 use Rattle.scheme.specs.Service.{Record, plan-record, open-record, first-record, close-record, reply-record, finish-record, refused}
 use Rattle.scheme.proofs.Refusals.{then-refused}
+use Rattle.scheme.proofs.Refusals.{after-refused}
 use Rattle.service.specs.declared.Service.{Service}
 use Rattle.service.specs.declared.Closed.{Closed}
 use Rattle.service.specs.Calls.{plan-step, plan-refusal, open-step, close-refusal}
-use Rattle.service.proofs.Refused.{stopped, after-refused, close-refused}
+use Rattle.service.proofs.Refused.{stopped, close-refused}
 use Rattle.finish.specs.declared.Finished.{Finished}
 use Rattle.finish.specs.Finish.{finish-refusal}
 use Rattle.finish.proofs.Answers.{finish-refuses}

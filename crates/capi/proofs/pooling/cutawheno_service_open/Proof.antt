@@ -5,7 +5,7 @@ use borrow.Author.Needs.{needs}
 use Rattle.service.specs.declared.Head.{Head}
 use Rattle.service.specs.declared.Stepped.{Stepped}
 use Rattle.service.specs.Calls.{lent, open-step}
-use Rattle.service.proofs.Refused.{after-refused}
+use Rattle.scheme.proofs.Refusals.{after-refused}
 use Rattle.capi.specs.Lent.{open-left}
 use Rattle.capi.proofs.Lent.{same-head, taken-right, kept-right}
 use Rattle.capi.proofs.pooling.cutawheno_service_open.Statement.{statement}

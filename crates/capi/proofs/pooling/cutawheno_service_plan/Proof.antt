@@ -5,7 +5,7 @@ use borrow.Author.Needs.{needs}
 use Rattle.service.specs.declared.Head.{Head}
 use Rattle.service.specs.declared.Stepped.{Stepped}
 use Rattle.service.specs.Calls.{lent, plan-step}
-use Rattle.service.proofs.Refused.{after-refused}
+use Rattle.scheme.proofs.Refusals.{after-refused}
 use Rattle.capi.specs.Plans.{code-plan}
 use Rattle.capi.specs.Lent.{plan-left}
 use Rattle.capi.proofs.Lent.{same-head, taken-right, kept-right}
