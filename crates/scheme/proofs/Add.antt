@@ -88,14 +88,16 @@ module _ (A : Arithmetic) (p : Plan) (L : Laws A (p .users) (p .threshold)) (xs 
           let r : j - suc (items p) < p .collusion = omega arith in
           rw (lt-leb j (items p) s) (ap el (noise-add v b (j - suc (items p)) u h r) ∙ L .el-add (noise p xs v b i) (noise p ys v b i))
 
-  pub share-add : (k v b : ℕ) → 1 ≤ k → k ≤ p .users → usable p v ≡ true → b < p .blocks → share A p plus k v b ≡ A .add (share A p xs k v b) (share A p ys k v b)
+  pub share-add : (k v b : ℕ) → 1 ≤ k → k ≤ p .users → usable p v ≡ true → b < p .blocks →
+      share A p plus k v b ≡ A .add (share A p xs k v b) (share A p ys k v b)
   unfolding share
   share-add k v b lo hi u h =
       let n = p .threshold in
       let r : p .threshold ≤ p .threshold = omega arith in
       el-same A _ _ L (row-value-small A _ _ L n k (column A p plus v b)) (L .add-small _ _)
       (row-value-el A _ _ L n k (column A p plus v b) (lo, hi) r
-      ∙ sum-same K (span n 1) _ _ (λ j i. let s = span-in n 1 j i in ap (K .mul (coefficient K row col k j)) (column-add v b j u h (s .0) (omega (arith, s .1))))
+      ∙ sum-same K (span n 1) _ _
+      (λ j i. let s = span-in n 1 j i in ap (K .mul (coefficient K row col k j)) (column-add v b j u h (s .0) (omega (arith, s .1))))
       ∙ value-add K row col (span n 1) k (λ j. el (column A p xs v b j)) (λ j. el (column A p ys v b j))
       ∙ ap₂ (λ a b. a ⊕ b) (sym (row-value-el A _ _ L n k (column A p xs v b) (lo, hi) r)) (sym (row-value-el A _ _ L n k (column A p ys v b) (lo, hi) r))
       ∙ sym (L .el-add (row-value A n k (column A p xs v b)) (row-value A n k (column A p ys v b))))
@@ -111,13 +113,18 @@ module _ (A : Arithmetic) (p : Plan) (L : Laws A (p .users) (p .threshold)) (xs 
   unfolding key key-length sets-with usable-with shares
   key-plus k lo hi =
       ap₂ _++_
-      (map-same _ _ (span (places p) 0) (λ i m. mask-add k i lo hi (omega (arith, span-in (places p) 0 i m .1))) ∙ map-each (mask p xs k) (mask p ys k) (places p))
+      (map-same _ _ (span (places p) 0) (λ i m. mask-add k i lo hi (omega (arith, span-in (places p) 0 i m .1)))
+      ∙ map-each (mask p xs k) (mask p ys k) (places p))
       (rows-same (shares A p plus k) (λ v. each (A .add) (p .blocks) (shares A p xs k v) (shares A p ys k v)) (sets-with p k) (λ v m.
       let u = both _ _ (members-in (usable-with p k) (2 ^ p .users) 0 v m .2) .0 in
-      map-same _ _ (span (p .blocks) 0) (λ b i. share-add k v b lo hi u (omega (arith, span-in (p .blocks) 0 b i .1))) ∙ map-each (share A p xs k v) (share A p ys k v) (p .blocks))
+      map-same _ _ (span (p .blocks) 0) (λ b i. share-add k v b lo hi u (omega (arith, span-in (p .blocks) 0 b i .1)))
+      ∙ map-each (share A p xs k v) (share A p ys k v) (p .blocks))
       ∙ rows-each (A .add) (p .blocks) (shares A p xs k) (shares A p ys k) (shares-length A p xs k) (shares-length A p ys k) (sets-with p k))
-      ∙ ap (λ (n : ℕ). each (A .add) n (map (mask p xs k) (span (places p) 0)) (map (mask p ys k) (span (places p) 0)) ++ each (A .add) (length (sets-with p k) * p .blocks) (rows (shares A p xs k) (sets-with p k)) (rows (shares A p ys k) (sets-with p k))) (sym (map-span-length (mask p xs k) (places p) 0))
-      ∙ sym (each-append (A .add) (length (sets-with p k) * p .blocks) (map (mask p xs k) (span (places p) 0)) (map (mask p ys k) (span (places p) 0)) (rows (shares A p xs k) (sets-with p k)) (rows (shares A p ys k) (sets-with p k))
+      ∙ ap (λ (n : ℕ). each (A .add) n (map (mask p xs k) (span (places p) 0)) (map (mask p ys k) (span (places p) 0)) ++ each (A .add)
+      (length (sets-with p k) * p .blocks) (rows (shares A p xs k) (sets-with p k)) (rows (shares A p ys k) (sets-with p k)))
+      (sym (map-span-length (mask p xs k) (places p) 0))
+      ∙ sym (each-append (A .add) (length (sets-with p k) * p .blocks) (map (mask p xs k) (span (places p) 0)) (map (mask p ys k) (span (places p) 0))
+      (rows (shares A p xs k) (sets-with p k)) (rows (shares A p ys k) (sets-with p k))
       (map-span-length (mask p xs k) (places p) 0 ∙ sym (map-span-length (mask p ys k) (places p) 0)))
       ∙ ap (λ (n : ℕ). each (A .add) (n + length (sets-with p k) * p .blocks) (key A p xs k) (key A p ys k)) (map-span-length (mask p xs k) (places p) 0)
 

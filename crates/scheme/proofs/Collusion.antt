@@ -84,7 +84,8 @@ module _ (p : Plan) (ok : plan-good p ≡ true) where
   unfolding figure
   place-same k i ne = rw (ne-eqb i last ne)
 
-  totals-same : (w i : ℕ) → i < places p → ((k : ℕ) → In k (users-in p w) → figure 0 k i ≡ figure 1 k i) → total-at sixteen p (table 0) w i ≡ total-at sixteen p (table 1) w i
+  totals-same : (w i : ℕ) → i < places p → ((k : ℕ) → In k (users-in p w) → figure 0 k i ≡ figure 1 k i) →
+      total-at sixteen p (table 0) w i ≡ total-at sixteen p (table 1) w i
   unfolding total-at
   totals-same w i h f = sum-same sixteen (users-in p w) _ _ (λ k m. table-at 0 k i h ∙ f k m ∙ sym (table-at 1 k i h))
 
@@ -95,7 +96,9 @@ module _ (p : Plan) (ok : plan-good p ≡ true) where
       sum-el sixteen _ _ L (users-in p (first (p .users))) (λ k. getD (table n k) last 0)
       ∙ field-sum-same K (users-in p (first (p .users))) _ (λ k. L .el (cond (eqb k (p .users)) n 0)) (λ k m.
       ap (L .el) (table-at n k last last-lt ∙ ap (λ (t : Bool). cond t (cond (eqb k (p .users)) n 0) 0) (eq-eqb last last refl)))
-      ∙ sum-pick K (users-in p (first (p .users))) _ (p .users) (members-once (in-set (first (p .users))) (p .users) 1) (in-users p _ (p .users) (omega (arith, g .users-low)) (omega arith) (first-in (p .users) (p .users) (omega (arith, g .users-low)) (omega arith))) (λ k m ne.
+      ∙ sum-pick K (users-in p (first (p .users))) _ (p .users) (members-once (in-set (first (p .users))) (p .users) 1)
+      (in-users p _ (p .users) (omega (arith, g .users-low)) (omega arith)
+      (first-in (p .users) (p .users) (omega (arith, g .users-low)) (omega arith))) (λ k m ne.
       ap (λ (t : Bool). L .el (cond t n 0)) (ne-eqb k (p .users) ne) ∙ L .el-zero)
       ∙ ap (λ (t : Bool). L .el (cond t n 0)) (eq-eqb (p .users) (p .users) refl)
 
@@ -112,15 +115,20 @@ module _ (p : Plan) (ok : plan-good p ≡ true) where
     x-admissible = table-good 0 (omega arith);
     y-admissible = table-good 1 (omega arith);
     alike = record {
-      own = λ k lo hi e. map-same (figure 0 k) (figure 1 k) (span (places p) 0) (λ i m. user-same k i (λ d. omega (arith, d, first-out (p .collusion + 1) k e, g .collusion-high, g .threshold-high)));
-      totals = λ i h. totals-same (first (p .users - 1)) i h (λ k m. user-same k i (λ d. omega (arith, d, g .users-low, first-out (p .users - 1) k (users-in-in p (first (p .users - 1)) k m .2))));
+      own = λ k lo hi e. map-same (figure 0 k) (figure 1 k) (span (places p) 0)
+          (λ i m. user-same k i (λ d. omega (arith, d, first-out (p .collusion + 1) k e, g .collusion-high, g .threshold-high)));
+      totals = λ i h. totals-same (first (p .users - 1)) i h
+          (λ k m. user-same k i (λ d. omega (arith, d, g .users-low, first-out (p .users - 1) k (users-in-in p (first (p .users - 1)) k m .2))));
     };
     no-matching = λ m.
         let settled =
-        last-total sixteen p L (first (p .users - 1)) (first (p .collusion + 1)) (table 0) (table 1) (zeros p) (m .partner (zeros p)) (m .same (zeros p) (zeros-good sixteen p L))
-        (first-size (p .users) (p .collusion + 1) (omega (arith, g .collusion-high, g .threshold-high))) (g .collusion-high) (first (p .users)) 0 (first-usable p (p .users) (omega arith) (omega (arith, g .threshold-high)))
+        last-total sixteen p L (first (p .users - 1)) (first (p .collusion + 1)) (table 0) (table 1) (zeros p) (m .partner (zeros p))
+        (m .same (zeros p) (zeros-good sixteen p L))
+        (first-size (p .users) (p .collusion + 1) (omega (arith, g .collusion-high, g .threshold-high))) (g .collusion-high) (first (p .users)) 0
+        (first-usable p (p .users) (omega arith) (omega (arith, g .threshold-high)))
         (λ k n. let s = users-in-in p (first (p .collusion + 1)) k n in first-in (p .users) k (s .0) (s .1)) (omega (arith, g .blocks-low))
-        (λ j lo hi. totals-same (first (p .users)) _ (place-lt p 0 j (omega (arith, g .blocks-low)) lo (omega arith)) (λ k n. place-same k _ (λ d. omega (arith, d)))) in
+        (λ j lo hi. totals-same (first (p .users)) _ (place-lt p 0 j (omega (arith, g .blocks-low)) lo (omega arith))
+        (λ k n. place-same k _ (λ d. omega (arith, d)))) in
         let e : _≡_ {A = ℕ} 0 1 = el-same sixteen _ _ L (omega arith) (omega arith) (sym (total-all 0) ∙ ap (L .el) settled ∙ total-all 1) in
         omega arith;
   }

@@ -38,10 +38,12 @@ module _ (p : Plan) (c : ℕ) (more : p .collusion ≤ p .threshold) (few : ones
   kept-items = omega (arith, colluders-few p c w few)
 
 -- the solution of a system whose right-hand sides are all zero
-solution-zero : (K : Field) (row col : ℕ → K .F) (rs cs : List ℕ) (f : ℕ → K .F) → ((k : ℕ) → In k rs → f k ≡ K .𝟘) → (i : ℕ) → solution K row col rs cs f i ≡ K .𝟘
+solution-zero : (K : Field) (row col : ℕ → K .F) (rs cs : List ℕ) (f : ℕ → K .F) → ((k : ℕ) → In k rs → f k ≡ K .𝟘) → (i : ℕ) →
+    solution K row col rs cs f i ≡ K .𝟘
 solution-zero K row col rs cs f h i =
     ap (K .mul (weight K col row cs rs i))
-    (sum-zero K rs _ (λ k m. ap (λ x. K .mul (coefficient K row col k i) (K .mul (weight K row col rs cs k) x)) (h k m) ∙ ap (K .mul (coefficient K row col k i)) (mul-zero K _) ∙ mul-zero K _))
+    (sum-zero K rs _ (λ k m. ap (λ x. K .mul (coefficient K row col k i) (K .mul (weight K row col rs cs k) x)) (h k m)
+    ∙ ap (K .mul (coefficient K row col k i)) (mul-zero K _) ∙ mul-zero K _))
     ∙ mul-zero K _
 
 module _ (A : Arithmetic) (p : Plan) (L : Laws A (p .users) (p .threshold)) (c : ℕ) (d : (k place : ℕ) → L .K .F) (e : (set block item : ℕ) → L .K .F)
@@ -91,7 +93,8 @@ module _ (A : Arithmetic) (p : Plan) (L : Laws A (p .users) (p .threshold)) (c :
     pub shift-hidden : (k : ℕ) → In k (colluders-in p c w) → value K row col (span (p .threshold) 1) k (shift A p L c d e w b) ≡ 𝟘
     unfolding n cs solved rest
     shift-hidden k m =
-        ap (λ (l : List ℕ). value K row col l k (shift A p L c d e w b)) (ap (λ (i : ℕ). span i 1) (sym (kept-whole p c more few w)) ∙ span-append n (length cs) 1)
+        ap (λ (l : List ℕ). value K row col l k (shift A p L c d e w b))
+        (ap (λ (i : ℕ). span i 1) (sym (kept-whole p c more few w)) ∙ span-append n (length cs) 1)
         ∙ sum-append K (span n 1) (span (length cs) (1 + n)) _
         ∙ ap₂ (λ x y. x ⊕ y)
         (sum-same K (span n 1) _ _ (λ j h. ap (K .mul (coefficient K row col k j)) (shift-given j (omega (arith, span-in n 1 j h .1)))))
@@ -112,7 +115,9 @@ module _ (A : Arithmetic) (p : Plan) (L : Laws A (p .users) (p .threshold)) (c :
         pick (yes h) = shift-given j h ∙ z j lo
         pick (no h) =
             shift-solved j (omega arith)
-            ∙ solution-zero K row col cs solved rest (λ k m. ap neg (value-zero K row col (span n 1) k (given A p L c d e w b) (λ i l. z i (span-in n 1 i l .0))) ∙ sym (zero-add K (neg 𝟘)) ∙ K .add-neg 𝟘) j
+            ∙ solution-zero K row col cs solved rest
+            (λ k m. ap neg (value-zero K row col (span n 1) k (given A p L c d e w b) (λ i l. z i (span-in n 1 i l .0))) ∙ sym (zero-add K (neg 𝟘))
+            ∙ K .add-neg 𝟘) j
 
   -- ---- the translation at a mask, at a noise element and in a column
   abbrev Δ : List ℕ
@@ -128,14 +133,23 @@ module _ (A : Arithmetic) (p : Plan) (L : Laws A (p .users) (p .threshold)) (c :
       let s : suc (k - 1) ≡ k = omega arith in
       rw (lt-ltb _ _ (mask-lt p k i lo hi h), high (k - 1) i (places p) h, low (k - 1) i (places p) h, s)
 
-  delta-high : (v b i : ℕ) → usable p v ≡ true → b < p .blocks → i < p .collusion → delta A p L c d e (noise-start p v b + i) ≡ shift A p L c d e v b (suc (items p) + i)
+  delta-high : (v b i : ℕ) → usable p v ≡ true → b < p .blocks → i < p .collusion →
+      delta A p L c d e (noise-start p v b + i) ≡ shift A p L c d e v b (suc (items p) + i)
   unfolding delta noise-start usable-sets
   delta-high v b i u h l =
       let r : ℕ = rank (usable p) v in
       let m : ℕ = p .users * places p in
       let t : p .users * places p + (r * p .blocks + b) * p .collusion + i - p .users * places p ≡ (r * p .blocks + b) * p .collusion + i = omega arith in
       let f : p .users * places p ≤ p .users * places p + (r * p .blocks + b) * p .collusion + i = omega arith in
-      rw (le-ltb _ _ f, t, high (r * p .blocks + b) i (p .collusion) l, low (r * p .blocks + b) i (p .collusion) l, high r b (p .blocks) h, low r b (p .blocks) h, rank-at (usable p) (2 ^ p .users) v (usable-below p v u) u)
+      rw (
+        le-ltb _ _ f,
+        t,
+        high (r * p .blocks + b) i (p .collusion) l,
+        low (r * p .blocks + b) i (p .collusion) l,
+        high r b (p .blocks) h,
+        low r b (p .blocks) h,
+        rank-at (usable p) (2 ^ p .users) v (usable-below p v u) u,
+      )
 
   pub delta-mask : (k i : ℕ) → 1 ≤ k → k ≤ p .users → i < places p → el (mask p Δ k i) ≡ d k i
   unfolding mask list-length
@@ -173,5 +187,6 @@ module _ (A : Arithmetic) (p : Plan) (L : Laws A (p .users) (p .threshold)) (c :
       let m = p .threshold in
       el-same A _ _ L (row-value-small A _ _ L m k (column A p Δ v b)) (zero-small A _ _ L)
       (row-value-el A _ _ L m k (column A p Δ v b) (lo, hi) (omega arith)
-      ∙ sum-same K (span m 1) _ _ (λ j i. let s = span-in m 1 j i in ap (K .mul (coefficient K row col k j)) (delta-column v b j u h (s .0) (omega (arith, s .1))))
+      ∙ sum-same K (span m 1) _ _
+      (λ j i. let s = span-in m 1 j i in ap (K .mul (coefficient K row col k j)) (delta-column v b j u h (s .0) (omega (arith, s .1))))
       ∙ z ∙ sym (L .el-zero))

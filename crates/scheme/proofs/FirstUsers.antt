@@ -57,7 +57,8 @@ unfolding first ones
 first-size zero zero h = refl
 first-size zero (suc m) h = absurd (omega arith)
 first-size (suc n) zero h = zero-add _ ∙ first-size n zero (omega arith)
-first-size (suc n) (suc m) h = ap₂ _+_ (low (first m) 1 2 (omega arith)) (ap (ones n) (high (first m) 1 2 (omega arith)) ∙ first-size n m (omega arith)) ∙ one
+first-size (suc n) (suc m) h = ap₂ _+_ (low (first m) 1 2 (omega arith)) (ap (ones n) (high (first m) 1 2 (omega arith)) ∙ first-size n m (omega arith))
+    ∙ one
   where
     one : 1 + m ≡ suc m
     one = omega arith
@@ -71,4 +72,5 @@ first-below (suc n) (suc m) h = omega (arith, first-below n m (omega arith), pow
 
 pub first-usable : (p : Plan) (m : ℕ) → m ≤ p .users → p .threshold ≤ m → usable p (first m) ≡ true
 unfolding usable
-first-usable p m hi lo = joined (lt-ltb _ _ (first-below (p .users) m hi)) (le-leb (p .threshold) (ones (p .users) (first m)) (omega (arith, first-size (p .users) m hi)))
+first-usable p m hi lo = joined (lt-ltb _ _ (first-below (p .users) m hi))
+    (le-leb (p .threshold) (ones (p .users) (first m)) (omega (arith, first-size (p .users) m hi)))

@@ -79,7 +79,8 @@ module _ (A : Arithmetic) (p : Plan) (xs : List ℕ) (k : ℕ) where
   unfolding reply reply-start key sets-with usable-with
   key-reply v u e =
       ap (λ (n : ℕ). take (p .blocks) (drop (n + rank (usable-with p k) v * p .blocks) (key A p xs k))) (sym (map-span-length (mask p xs k) (places p) 0))
-      ∙ ap (take (p .blocks)) (drop-append-add (map (mask p xs k) (span (places p) 0)) (rows (shares A p xs k) (sets-with p k)) (rank (usable-with p k) v * p .blocks))
+      ∙ ap (take (p .blocks))
+      (drop-append-add (map (mask p xs k) (span (places p) 0)) (rows (shares A p xs k) (sets-with p k)) (rank (usable-with p k) v * p .blocks))
       ∙ rows-at (shares A p xs k) (p .blocks) shares-length (usable-with p k) (2 ^ p .users) v (usable-below p v u) (joined u e)
 
 -- ---- lists of elements
@@ -113,4 +114,5 @@ unfolding key mask shares share
 key-elements A n m L p xs k h =
     elements-append A (map (mask p xs k) (span (places p) 0)) (rows (shares A p xs k) (sets-with p k))
     (elements-map A (mask p xs k) (span (places p) 0) (λ i l. elements-at A (zero-small A n m L) xs ((k - 1) * places p + i) h))
-    (elements-rows A (shares A p xs k) (sets-with p k) (λ v l. elements-map A (share A p xs k v) (span (p .blocks) 0) (λ b i. row-value-small A n m L (p .threshold) k _)))
+    (elements-rows A (shares A p xs k) (sets-with p k)
+    (λ v l. elements-map A (share A p xs k v) (span (p .blocks) 0) (λ b i. row-value-small A n m L (p .threshold) k _)))

@@ -194,7 +194,8 @@ unfolding rank
 rows-at f m h t n v l e =
     let a = rows f (members t v 0) in
     let b = rows f (members t (n - suc v) (suc v)) in
-    ap (λ (r : List ℕ). take m (drop (length (members t v 0) * m) r)) (ap (rows f) (members-split t n v l e) ∙ rows-append f (members t v 0) (v ∷ members t (n - suc v) (suc v)))
+    ap (λ (r : List ℕ). take m (drop (length (members t v 0) * m) r))
+    (ap (rows f) (members-split t n v l e) ∙ rows-append f (members t v 0) (v ∷ members t (n - suc v) (suc v)))
     ∙ ap (take m) (drop-at a (f v ++ b) _ (rows-length f m h (members t v 0))) ∙ take-at (f v) b m (h v)
 
 -- ---- writing

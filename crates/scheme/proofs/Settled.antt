@@ -35,7 +35,8 @@ module _ (A : Arithmetic) (p : Plan) (L : Laws A (p .users) (p .threshold)) (v c
   open Field K using (F, add as _⊕_)
 
   infixl 65 _⊕_
-  read-first : (zs : List ℕ) (z : Table) (k i : ℕ) → i < places p → getD (first-message A p (key A p zs k) (z k)) i 0 ≡ A .add (getD (z k) i 0) (mask p zs k i)
+  read-first : (zs : List ℕ) (z : Table) (k i : ℕ) → i < places p →
+      getD (first-message A p (key A p zs k) (z k)) i 0 ≡ A .add (getD (z k) i 0) (mask p zs k i)
   unfolding first-message
   read-first zs z k i h = each-at (A .add) (places p) (z k) (key A p zs k) i h ∙ ap (A .add (getD (z k) i 0)) (key-mask A p zs k i h)
 
@@ -45,17 +46,20 @@ module _ (A : Arithmetic) (p : Plan) (L : Laws A (p .users) (p .threshold)) (v c
       sym (L .el-add _ _)
       ∙ ap el (sym (read-first xs x k i h)
       ∙ ap (λ (l : List ℕ). getD l i 0)
-      (map-back (λ k. first-message A p (key A p xs k) (x k)) (λ k. first-message A p (key A p ys k) (y k)) (span (p .users) 1) (ap (λ (s : Shown). s .firsts) same) k (in-span (p .users) 1 k lo (omega arith)))
+      (map-back (λ k. first-message A p (key A p xs k) (x k)) (λ k. first-message A p (key A p ys k) (y k)) (span (p .users) 1)
+      (ap (λ (s : Shown). s .firsts) same) k (in-span (p .users) 1 k lo (omega arith)))
       ∙ read-first ys y k i h)
       ∙ L .el-add _ _
 
   masks : (zs : List ℕ) (w i : ℕ) → ℕ
   masks zs w i = sum A (users-in p w) (λ k. mask p zs k i)
 
-  spread : (z : Table) (zs : List ℕ) (w i : ℕ) → el (total-at A p z w i) ⊕ el (masks zs w i) ≡ field-sum K (users-in p w) (λ k. el (getD (z k) i 0) ⊕ el (mask p zs k i))
+  spread : (z : Table) (zs : List ℕ) (w i : ℕ) →
+      el (total-at A p z w i) ⊕ el (masks zs w i) ≡ field-sum K (users-in p w) (λ k. el (getD (z k) i 0) ⊕ el (mask p zs k i))
   unfolding total-at masks
   spread z zs w i =
-      ap₂ _⊕_ (sum-el A _ _ L (users-in p w) (λ k. getD (z k) i 0)) (sum-el A _ _ L (users-in p w) (λ k. mask p zs k i)) ∙ sym (sum-add K (users-in p w) _ _)
+      ap₂ _⊕_ (sum-el A _ _ L (users-in p w) (λ k. getD (z k) i 0)) (sum-el A _ _ L (users-in p w) (λ k. mask p zs k i))
+      ∙ sym (sum-add K (users-in p w) _ _)
 
   sums-same : (w i : ℕ) → i < places p → el (total-at A p x w i) ⊕ el (masks xs w i) ≡ el (total-at A p y w i) ⊕ el (masks ys w i)
   sums-same w i h =
@@ -76,7 +80,8 @@ module _ (A : Arithmetic) (p : Plan) (L : Laws A (p .users) (p .threshold)) (v c
       el-same A _ _ L (elements-at A (zero-small A _ _ L) (x k) i (a .1)) (elements-at A (zero-small A _ _ L) (y k) i (b .1))
       (add-cancel K (el (mask p xs k i))
       (add-comm K _ _ ∙ masked-same k i (s .0) (s .1) h
-      ∙ ap (λ (n : ℕ). el (getD (y k) i 0) ⊕ el n) (sym (key-mask A p ys k i h) ∙ ap (λ (l : List ℕ). getD l i 0) (sym (key-same k m)) ∙ key-mask A p xs k i h)
+      ∙ ap (λ (n : ℕ). el (getD (y k) i 0) ⊕ el n)
+      (sym (key-mask A p ys k i h) ∙ ap (λ (l : List ℕ). getD l i 0) (sym (key-same k m)) ∙ key-mask A p xs k i h)
       ∙ add-comm K _ _)))
 
   -- ---- T + 1 colluders in a usable set, at a block
@@ -130,19 +135,23 @@ module _ (A : Arithmetic) (p : Plan) (L : Laws A (p .users) (p .threshold)) (v c
         ∙ sum-append K (span (items p - 1) 1) (span (suc (p .collusion)) (1 + (items p - 1))) _
         ∙ ap (λ (i : ℕ). before k f ⊕ value K row col (span (suc (p .collusion)) i) k f) d
 
-    share-value : (zs : List ℕ) (k : ℕ) → In k (users-in p c) → el (getD (reply p (key A p zs k) k w) b 0) ≡ value K row col (span (p .threshold) 1) k (cells zs)
+    share-value : (zs : List ℕ) (k : ℕ) → In k (users-in p c) →
+        el (getD (reply p (key A p zs k) k w) b 0) ≡ value K row col (span (p .threshold) 1) k (cells zs)
     unfolding share shares
     share-value zs k m =
-        ap el (ap (λ (l : List ℕ). getD l b 0) (key-reply A p zs k w u (inside k m)) ∙ map-span-at (share A p zs k w) (p .blocks) 0 b h ∙ ap (share A p zs k w) (zero-add b))
+        ap el (ap (λ (l : List ℕ). getD l b 0) (key-reply A p zs k w u (inside k m)) ∙ map-span-at (share A p zs k w) (p .blocks) 0 b h
+        ∙ ap (share A p zs k w) (zero-add b))
         ∙ row-value-el A _ _ L (p .threshold) k (column A p zs w b) (user k m) (omega arith)
 
-    pub last-total : ((j : ℕ) → 1 ≤ j → j < items p → total-at A p x w (place j) ≡ total-at A p y w (place j)) → total-at A p x w (place (items p)) ≡ total-at A p y w (place (items p))
+    pub last-total : ((j : ℕ) → 1 ≤ j → j < items p → total-at A p x w (place j) ≡ total-at A p y w (place j)) →
+        total-at A p x w (place (items p)) ≡ total-at A p y w (place (items p))
     unfolding before items total-at solved
     last-total others =
         el-same A _ _ L (sum-small A _ _ L (users-in p w) _) (sum-small A _ _ L (users-in p w) _)
         (add-cancel K (el (masks xs w (place (items p))))
         (add-comm K _ _ ∙ sums-same w (place (items p)) (place-lt p b (items p) h (omega arith) (omega arith))
-        ∙ ap (λ t. el (total-at A p y w (place (items p))) ⊕ t) (sym (sum-cell ys (items p) (omega arith)) ∙ sym settled ∙ sum-cell xs (items p) (omega arith))
+        ∙ ap (λ t. el (total-at A p y w (place (items p))) ⊕ t)
+        (sym (sum-cell ys (items p) (omega arith)) ∙ sym settled ∙ sum-cell xs (items p) (omega arith))
         ∙ add-comm K _ _))
       where
         low-cell : (j : ℕ) → 1 ≤ j → j < items p → cells xs j ≡ cells ys j
@@ -163,4 +172,5 @@ module _ (A : Arithmetic) (p : Plan) (L : Laws A (p .users) (p .threshold)) (v c
             unique system (cells xs) (cells ys) (λ k m.
             add-cancel K (before k (cells xs))
             (sym (split k (cells xs)) ∙ sym (share-value xs k m) ∙ ap (λ (l : List ℕ). el (getD (reply p l k w) b 0)) (key-same k m) ∙ share-value ys k m
-            ∙ split k (cells ys) ∙ ap (λ t. t ⊕ value K row col solved k (cells ys)) (sym (before-same k)))) (items p) (in-span (suc (p .collusion)) (items p) (items p) (omega arith) (omega arith))
+            ∙ split k (cells ys) ∙ ap (λ t. t ⊕ value K row col solved k (cells ys)) (sym (before-same k)))) (items p)
+            (in-span (suc (p .collusion)) (items p) (items p) (omega arith) (omega arith))

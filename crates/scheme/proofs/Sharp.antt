@@ -43,9 +43,11 @@ zeros p = map (λ i. 0) (span (list-length p) 0)
 
 pub zeros-good : (A : Arithmetic) (p : Plan) → Laws A (p .users) (p .threshold) → list-good A p (zeros p) ≡ true
 unfolding list-good zeros
-zeros-good A p L = joined (eq-eqb _ _ (map-span-length (λ i. 0) (list-length p) 0)) (elements-map A (λ i. 0) (span (list-length p) 0) (λ i h. zero-small A _ _ L))
+zeros-good A p L = joined (eq-eqb _ _ (map-span-length (λ i. 0) (list-length p) 0))
+    (elements-map A (λ i. 0) (span (list-length p) 0) (λ i h. zero-small A _ _ L))
 
-module _ (A : Arithmetic) (p : Plan) (L : Laws A (p .users) (p .threshold)) (v c : ℕ) (x y : Table) (ax : admissible A p x) (ay : admissible A p y) (u : usable p v ≡ true) where
+module _ (A : Arithmetic) (p : Plan) (L : Laws A (p .users) (p .threshold)) (v c : ℕ) (x y : Table) (ax : admissible A p x) (ay : admissible A p y)
+    (u : usable p v ≡ true) where
   pub totals-told : (xs ys : List ℕ) → list-good A p xs ≡ true → list-good A p ys ≡ true → shown A p v c xs x ≡ shown A p v c ys y
       → (i : ℕ) → i < places p → total-at A p x v i ≡ total-at A p y v i
   unfolding shown Totals-right Rules-explain
@@ -68,11 +70,13 @@ module _ (A : Arithmetic) (p : Plan) (L : Laws A (p .users) (p .threshold)) (v c
       second = record {
         first = λ k i lo hi e l.
             ap (λ (l : List ℕ). getD l i 0)
-            (map-back (λ k. first-message A p (key A p xs k) (x k)) (λ k. first-message A p (key A p ys k) (y k)) (span (p .users) 1) (ap (λ (s : Shown). s .firsts) same) k (in-span (p .users) 1 k lo (omega arith)));
+            (map-back (λ k. first-message A p (key A p xs k) (x k)) (λ k. first-message A p (key A p ys k) (y k)) (span (p .users) 1)
+            (ap (λ (s : Shown). s .firsts) same) k (in-span (p .users) 1 k lo (omega arith)));
         survives = λ k lo hi e. e;
         answer = λ k b lo hi e l.
             ap (λ (l : List ℕ). getD l b 0)
-            (map-back (λ k. reply p (key A p xs k) k v) (λ k. reply p (key A p ys k) k v) (users-in p v) (ap (λ (s : Shown). s .replies) same) k (in-users p v k lo hi e));
+            (map-back (λ k. reply p (key A p xs k) k v) (λ k. reply p (key A p ys k) k v) (users-in p v) (ap (λ (s : Shown). s .replies) same) k
+            (in-users p v k lo hi e));
       }
 
       found : Choice A p v replies

@@ -31,7 +31,8 @@ use Rattle.scheme.proofs.Keys.{elements-map}
 use Rattle.scheme.proofs.Modular.{sixteen-laws}
 use Rattle.scheme.proofs.Totals.{at-all-of, in-at, unknown}
 
-module _ (A : Arithmetic) (p : Plan) (L : Laws A (p .users) (p .threshold)) (r : ℕ) (y : (k : ℕ) → ℕ) (c : ℕ) (fewer : ones (p .users) r + 1 ≡ p .threshold) where
+module _ (A : Arithmetic) (p : Plan) (L : Laws A (p .users) (p .threshold)) (r : ℕ) (y : (k : ℕ) → ℕ) (c : ℕ)
+    (fewer : ones (p .users) r + 1 ≡ p .threshold) where
   open Laws L using (K, el, val, row, col)
 
   rs : List ℕ

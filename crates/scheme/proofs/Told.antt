@@ -39,7 +39,8 @@ unfolding list-good
 list-elements A p xs ok = both (eqb (length xs) (list-length p)) (elements A xs) ok .1
 
 -- place by place with a function that gives elements, a list is a random list
-each-good : (A : Arithmetic) (p : Plan) (f : ℕ → ℕ → ℕ) → ((a b : ℕ) → f a b < A .size) → (xs ys : List ℕ) → list-good A p (each f (list-length p) xs ys) ≡ true
+each-good : (A : Arithmetic) (p : Plan) (f : ℕ → ℕ → ℕ) → ((a b : ℕ) → f a b < A .size) → (xs ys : List ℕ) →
+    list-good A p (each f (list-length p) xs ys) ≡ true
 unfolding list-good
 each-good A p f h xs ys =
     joined (eq-eqb _ _ (each-length f (list-length p) xs ys)) (elements-map A (λ i. f (getD xs i 0) (getD ys i 0)) (span (list-length p) 0) (λ i m. h _ _))
@@ -50,7 +51,8 @@ each-undo : (A : Arithmetic) (p : Plan) (f g : ℕ → ℕ → ℕ) → 0 < A .s
 each-undo A p f g z h xs ys ok =
     let n = list-length p in
     map-same _ (λ i. getD xs i 0) (span n 0) (λ i m.
-    ap (λ (a : ℕ). g a (getD ys i 0)) (each-at f n xs ys i (omega (arith, span-in n 0 i m .1))) ∙ h (getD xs i 0) (getD ys i 0) (elements-at A z xs i (list-elements A p xs ok)))
+    ap (λ (a : ℕ). g a (getD ys i 0)) (each-at f n xs ys i (omega (arith, span-in n 0 i m .1)))
+    ∙ h (getD xs i 0) (getD ys i 0) (elements-at A z xs i (list-elements A p xs ok)))
     ∙ ap (λ (n : ℕ). map (λ i. getD xs i 0) (span n 0)) (sym (list-long A p xs ok)) ∙ whole-list xs
 
 module _ (A : Arithmetic) (p : Plan) (L : Laws A (p .users) (p .threshold)) where
@@ -65,13 +67,15 @@ module _ (A : Arithmetic) (p : Plan) (L : Laws A (p .users) (p .threshold)) wher
   add-none a b h e = el-same A _ _ L (L .add-small a b) h (L .el-add a b ∙ ap (λ x. el a ⊕ x) e ∙ K .add-zero (el a))
 
   subtract-add : (a b : ℕ) → a < A .size → A .subtract (A .add a b) b ≡ a
-  subtract-add a b h = el-same A _ _ L (L .subtract-small _ b) h (L .el-subtract _ b ∙ ap (λ x. sub K x (el b)) (L .el-add a b) ∙ sub-is K (K .add-comm (el b) (el a)))
+  subtract-add a b h = el-same A _ _ L (L .subtract-small _ b) h
+      (L .el-subtract _ b ∙ ap (λ x. sub K x (el b)) (L .el-add a b) ∙ sub-is K (K .add-comm (el b) (el a)))
 
   add-subtract : (a b : ℕ) → a < A .size → A .add (A .subtract a b) b ≡ a
   add-subtract a b h =
       el-same A _ _ L (L .add-small _ b) h (L .el-add _ b ∙ ap (λ x. x ⊕ el b) (L .el-subtract a b) ∙ K .add-comm _ (el b) ∙ add-sub K (el a) (el b))
 
-  module _ (v c : ℕ) (x y : Table) (more : p .collusion ≤ p .threshold) (few : ones (p .users) c ≤ p .collusion) (u : usable p v ≡ true) (al : Alike A p v c x y) where
+  module _ (v c : ℕ) (x y : Table) (more : p .collusion ≤ p .threshold) (few : ones (p .users) c ≤ p .collusion) (u : usable p v ≡ true)
+      (al : Alike A p v c x y) where
     d : (k place : ℕ) → F
     d = gap-of A p L c x y
 
@@ -94,7 +98,8 @@ module _ (A : Arithmetic) (p : Plan) (L : Laws A (p .users) (p .threshold)) wher
             rw (le-leb j (items p) l)
             (sum-sub K (users-in p v) (λ k. el (getD (x k) i 0)) (λ k. el (getD (y k) i 0))
             ∙ ap (λ a. sub K a (field-sum K (users-in p v) (λ k. el (getD (y k) i 0))))
-            (sym (sum-el A _ _ L (users-in p v) (λ k. getD (x k) i 0)) ∙ ap el (al .totals i (place-lt p b j h lo l)) ∙ sum-el A _ _ L (users-in p v) (λ k. getD (y k) i 0))
+            (sym (sum-el A _ _ L (users-in p v) (λ k. getD (x k) i 0)) ∙ ap el (al .totals i (place-lt p b j h lo l))
+            ∙ sum-el A _ _ L (users-in p v) (λ k. getD (y k) i 0))
             ∙ sub-is K (K .add-zero _))
         pick (no l) = let s : items p < j = omega arith in rw (lt-leb j (items p) s)
 
@@ -103,7 +108,8 @@ module _ (A : Arithmetic) (p : Plan) (L : Laws A (p .users) (p .threshold)) wher
     unfolding Δ table-delta d e
     reply-zero k b lo hi h =
         delta-share A p L c d e more few k v b lo hi u h
-        (value-zero K row col (span (p .threshold) 1) k (shift A p L c d e v b) (λ j m. shift-zero A p L c d e more few v b (λ j. given-zero b j h) j (span-in (p .threshold) 1 j m .0)))
+        (value-zero K row col (span (p .threshold) 1) k (shift A p L c d e v b)
+        (λ j m. shift-zero A p L c d e more few v b (λ j. given-zero b j h) j (span-in (p .threshold) 1 j m .0)))
 
     colluder-zero : (k w b : ℕ) → 1 ≤ k → k ≤ p .users → in-set c k ≡ true → usable p w ≡ true → in-set w k ≡ true → b < p .blocks → share A p Δ k w b ≡ 0
     unfolding Δ table-delta d e colluders-in
@@ -134,7 +140,8 @@ module _ (A : Arithmetic) (p : Plan) (L : Laws A (p .users) (p .threshold)) wher
           ∙ add-swap K (el (mask p xs k i)) b _ ∙ ap (λ s. b ⊕ s) (sym (mask-moved k i lo hi h)) ∙ sym (L .el-add (getD (y k) i 0) (mask p ys k i)))
           ∙ sym (ap (A .add (getD (y k) i 0)) (key-mask A p ys k i h)))
 
-      shares-same : (k w : ℕ) → 1 ≤ k → k ≤ p .users → usable p w ≡ true → ((b : ℕ) → b < p .blocks → share A p Δ k w b ≡ 0) → shares A p xs k w ≡ shares A p ys k w
+      shares-same : (k w : ℕ) → 1 ≤ k → k ≤ p .users → usable p w ≡ true → ((b : ℕ) → b < p .blocks → share A p Δ k w b ≡ 0) →
+          shares A p xs k w ≡ shares A p ys k w
       unfolding shares share ys partner Δ
       shares-same k w lo hi r none =
           map-same _ _ (span (p .blocks) 0) (λ b m.
@@ -150,7 +157,9 @@ module _ (A : Arithmetic) (p : Plan) (L : Laws A (p .users) (p .threshold)) wher
       mask-same k i lo hi own h =
           el-same A _ _ L (elements-at A z xs ((k - 1) * places p + i) (list-elements A p xs ok))
           (elements-at A z ys ((k - 1) * places p + i) (list-elements A p ys (each-good A p (A .add) (L .add-small) xs Δ)))
-          (sym (mask-moved k i lo hi h ∙ ap (λ a. el (mask p xs k i) ⊕ a) (ap (λ (l : List ℕ). sub K (el (getD l i 0)) (el (getD (y k) i 0))) (al .own k lo hi own) ∙ sub-is K (K .add-zero _)) ∙ K .add-zero _))
+          (sym (mask-moved k i lo hi h
+          ∙ ap (λ a. el (mask p xs k i) ⊕ a)
+          (ap (λ (l : List ℕ). sub K (el (getD l i 0)) (el (getD (y k) i 0))) (al .own k lo hi own) ∙ sub-is K (K .add-zero _)) ∙ K .add-zero _))
 
       key-same : (k : ℕ) → 1 ≤ k → k ≤ p .users → in-set c k ≡ true → key A p xs k ≡ key A p ys k
       unfolding key sets-with usable-with

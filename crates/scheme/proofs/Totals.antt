@@ -88,7 +88,12 @@ pub record Enough (p : Plan) (rs : List ℕ) : Type 0 where
 pub enough : (p : Plan) (r : ℕ) → p .threshold ≤ ones (p .users) r → Enough p (users-in p r)
 unfolding users-in
 enough p r h =
-    record { once = members-once (in-set r) (p .users) 1; inside = λ k m. let s = users-in-in p r k m in (s .0, s .1); many = omega (arith, users-in-size p r) }
+    record {
+      once = members-once (in-set r) (p .users) 1;
+      inside = λ k m. let s = users-in-in p r k m in (s .0, s .1);
+      many = omega
+          (arith, users-in-size p r);
+    }
 
 -- ---- unknowns that explain the values of the first n rows of a list
 abbrev pub unknown : List ℕ → (j : ℕ) → ℕ
@@ -104,7 +109,8 @@ module _ (A : Arithmetic) (p : Plan) where
       → (b : ℕ) → b < p .blocks → Explained A p (users-in p r) (length (users-in p r)) (λ k. y k b) (f b)
   unfolding explains-all explains
   explained r y f h b l =
-      let s = both (eqb (length (f b)) (p .threshold) && elements A (f b)) _ (all-of-in _ (span (p .blocks) 0) h b (in-span (p .blocks) 0 b (omega arith) (omega arith))) in
+      let s = both (eqb (length (f b)) (p .threshold) && elements A (f b)) _
+      (all-of-in _ (span (p .blocks) 0) h b (in-span (p .blocks) 0 b (omega arith) (omega arith))) in
       let t = both (eqb (length (f b)) (p .threshold)) (elements A (f b)) (s .0) in
       record { long = eqb-true _ _ (t .0); small = t .1; fits = λ a i. eqb-true _ _ (all-of-in _ (users-in p r) (s .1) _ (in-at (users-in p r) a i)) }
 
@@ -118,7 +124,8 @@ module _ (A : Arithmetic) (p : Plan) where
 
   -- columns 1 to U as a list of unknowns
   explained-columns : (rs : List ℕ) (y f : (k : ℕ) → ℕ) → ((j : ℕ) → f j < A .size)
-      → ((a : ℕ) → a < length rs → row-value A (p .threshold) (getD rs a 0) f ≡ y (getD rs a 0)) → Explained A p rs (length rs) y (map f (span (p .threshold) 1))
+      → ((a : ℕ) → a < length rs → row-value A (p .threshold) (getD rs a 0) f ≡ y (getD rs a 0)) →
+      Explained A p rs (length rs) y (map f (span (p .threshold) 1))
   unfolding row-value
   explained-columns rs y f small h = record {
     long = map-span-length f (p .threshold) 1;
@@ -173,7 +180,8 @@ module _ (A : Arithmetic) (p : Plan) (L : Laws A (p .users) (p .threshold)) wher
       let s : suc i - 1 ≡ i = omega arith in
       el-same A _ _ L (elements-at A (zero-small A _ _ L) w i (g .small)) (elements-at A (zero-small A _ _ L) v i (h .small))
       (ap (λ (a : ℕ). el (getD w a 0)) (sym s)
-      ∙ columns-known rs e (unknown w) (unknown v) (λ a m. g .fits a (omega arith) ∙ sym (h .fits a (omega arith))) (suc i) (omega arith) (omega (arith, g .long))
+      ∙ columns-known rs e (unknown w) (unknown v) (λ a m. g .fits a (omega arith) ∙ sym (h .fits a (omega arith))) (suc i) (omega arith)
+      (omega (arith, g .long))
       ∙ ap (λ (a : ℕ). el (getD v a 0)) s))
 
   pub one-choice : One-choice A p
@@ -205,7 +213,8 @@ module _ (A : Arithmetic) (p : Plan) (L : Laws A (p .users) (p .threshold)) wher
           let e = enough p r (omega arith) in
           let i : a < p .threshold = omega (arith, users-in-size p r) in
           el-same A _ _ L (row-value-small A _ _ L (p .threshold) (getD rs a 0) (solved b)) (small (getD rs a 0) b)
-          (row-el rs e a i (solved b) ∙ field-sum-same K (span (p .threshold) 1) _ _ (λ j h. ap (K .mul (coefficient K row col (getD rs a 0) j)) (L .el-val _))
+          (row-el rs e a i (solved b)
+          ∙ field-sum-same K (span (p .threshold) 1) _ _ (λ j h. ap (K .mul (coefficient K row col (getD rs a 0) j)) (L .el-val _))
           ∙ solves (system rs e) (λ a. el (y (getD rs a 0) b)) a (in-span (p .threshold) 0 a (omega arith) (omega arith))))
 
   -- ---- replies that follow the rules are explained by the columns of the random list
@@ -230,8 +239,10 @@ module _ (A : Arithmetic) (p : Plan) (L : Laws A (p .users) (p .threshold)) wher
         ∙ map-span-at (share A p xs k v) (p .blocks) 0 b i ∙ ap (share A p xs k v) (zero-add b))));
   }
 
-  module _ (xs : List ℕ) (x : Table) (v r : ℕ) (firsts replies : (k at : ℕ) → ℕ) (f : (block : ℕ) → List ℕ) (ok : list-good A p xs ≡ true) (u : usable p v ≡ true)
-      (many : p .threshold ≤ ones (p .users) r) (rules : Follows A p xs x v r firsts replies) (h : explains-all A p r replies f ≡ true) (i : ℕ) (inside : i < places p) where
+  module _ (xs : List ℕ) (x : Table) (v r : ℕ) (firsts replies : (k at : ℕ) → ℕ) (f : (block : ℕ) → List ℕ) (ok : list-good A p xs ≡ true)
+      (u : usable p v ≡ true)
+      (many : p .threshold ≤ ones (p .users) r) (rules : Follows A p xs x v r firsts replies) (h : explains-all A p r replies f ≡ true) (i : ℕ)
+      (inside : i < places p) where
     sum-right : getD (f (i / items p)) (i % items p) 0 ≡ sum A (users-in p v) (λ k. mask p xs k i)
     unfolding places items column One-choice Rules-explain rules-explain
     sum-right =
@@ -240,7 +251,8 @@ module _ (A : Arithmetic) (p : Plan) (L : Laws A (p .users) (p .threshold)) wher
         let b = i / items p in
         let e : i / items p * items p + (1 + i % items p - 1) ≡ i = omega (arith, div-add-mod' i (items p)) in
         let c = rules-explain xs x v r firsts replies ok u rules in
-        ap (λ (w : List ℕ). getD w (i % items p) 0) (one-choice r replies f (c .choice) many h (c .right) b (div-lt-iff-lt-mul {k = items p} {x = i} {y = p .blocks} some .1 inside))
+        ap (λ (w : List ℕ). getD w (i % items p) 0)
+        (one-choice r replies f (c .choice) many h (c .right) b (div-lt-iff-lt-mul {k = items p} {x = i} {y = p .blocks} some .1 inside))
         ∙ map-span-at (column A p xs v b) (p .threshold) 1 (i % items p) (omega (arith, l))
         ∙ rw (le-leb (1 + i % items p) (items p) (omega (arith, l))) (ap (λ (i : ℕ). sum A (users-in p v) (λ k. mask p xs k i)) e)
 
@@ -250,7 +262,8 @@ module _ (A : Arithmetic) (p : Plan) (L : Laws A (p .users) (p .threshold)) wher
         let l = users-in p v in
         ap₂ (A .subtract) (sum-same A l _ (λ k. A .add (getD (x k) i 0) (mask p xs k i)) (λ k m.
         let s = users-in-in p v k m in
-        rules .first k i (s .0) (s .1) (s .2) inside ∙ each-at (A .add) (places p) (x k) (key A p xs k) i inside ∙ ap (A .add (getD (x k) i 0)) (key-mask A p xs k i inside))) sum-right
+        rules .first k i (s .0) (s .1) (s .2) inside ∙ each-at (A .add) (places p) (x k) (key A p xs k) i inside
+        ∙ ap (A .add (getD (x k) i 0)) (key-mask A p xs k i inside))) sum-right
         ∙ el-same A _ _ L (L .subtract-small _ _) (sum-small A _ _ L l (λ k. getD (x k) i 0))
         (L .el-subtract _ _
         ∙ ap₂ (sub K)

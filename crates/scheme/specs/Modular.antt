@@ -36,7 +36,8 @@ module _ {q : ℕ} (prime : Prime q) where
     el-multiply = λ a b. el-path (simp mods);
     row = residue prime;
     col = residue prime;
-    coefficient-right = λ k j h l. el-path (simp mods (inverse-right prime (omega (arith, h .0)) (omega (arith, h .1, l .1)) ∙ sym (mod-eq-of-lt (prime .two))));
+    coefficient-right = λ k j h l. el-path
+        (simp mods (inverse-right prime (omega (arith, h .0)) (omega (arith, h .1, l .1)) ∙ sym (mod-eq-of-lt (prime .two))));
     rows-apart = λ i k h l. apart (omega (arith, h .1)) (omega (arith, l .1));
     columns-apart = λ i j h l. apart (omega (arith, h .1)) (omega (arith, l .1));
     meet = λ k j h l e. apart {a = k + j} (omega (arith, h .1, l .1)) (prime-positive prime) (omega (arith, h .0)) (el-path (simp mods) ∙ e);
