@@ -30,7 +30,7 @@ unfolding key-from key-of message asked tried planned opened firsts replies pool
     Scheme.share Scheme.shares Scheme.key Scheme.key-length Scheme.first-message Scheme.reply-start Scheme.reply Scheme._then_ unless
     Scheme.is-fresh Scheme.open-to Scheme.start-refusal Scheme.key-refusal Scheme.message-refusal Scheme.reply-refusal Scheme.after
     Lists.all-of Totals.explains Totals.explains-all Totals.total-of Totals.totals
-    Delta.colluders-in Delta.kept Delta.given Delta.shift Delta.delta Delta.translation Delta.gap-of Delta.table-delta Delta.partner
+    Delta.colluders-in Delta.kept Delta.unsolved Delta.shift Delta.delta Delta.translation Delta.difference Delta.table-delta Delta.partner
     Service.has-plan Service.is-gathering Service.is-replying Service.is-held Service.element-of Service.set-of Service.complete-set Service.gathered
     Service.replied Service.explained-by Service.totals-by
     Client.stage-of Client.moved Client.part-of

@@ -1,6 +1,6 @@
 -- What the translation does: the masks move as said, the columns of a set's block by `shift`, and no colluder's share moves.
 --   kept-whole, kept-items       how many columns are solved
---   shift-given, shift-hidden, shift-zero     the columns
+--   shift-unsolved, shift-hidden, shift-zero     the columns
 --   delta-mask, delta-column     the masks and the columns of the translation
 --   delta-share                  a share that a row does not see is 0
 -- Assumes nothing.
@@ -22,7 +22,7 @@ use Rattle.algebra.proofs.Cauchy.{solves}
 use Rattle.scheme.specs.Lists.{span, rank}
 use Rattle.scheme.specs.Scheme.{Arithmetic, Plan, items, places, in-set, ones, usable, users-in, usable-sets, list-length, mask, noise, noise-start, column, share}
 use Rattle.scheme.specs.Laws.{Laws}
-use Rattle.scheme.specs.Delta.{colluders-in, kept, given, shift, delta, translation}
+use Rattle.scheme.specs.Delta.{colluders-in, kept, unsolved, shift, delta, translation}
 use Rattle.scheme.proofs.Lists.{span-append, span-in, span-once, span-length, map-span-at, members-once, rank-at, high, low}
 use Rattle.scheme.proofs.Sums.{el-same, zero-small, sum-el, row-value-el, row-value-small}
 use Rattle.scheme.proofs.Sets.{users-in-in, usable-below, colluders-few, colluders-in-in, place-lt, mask-lt, noise-lt}
@@ -64,7 +64,7 @@ module _ (A : Arithmetic) (p : Plan) (L : Laws A (p .users) (p .threshold)) (c :
     solved = span (length cs) (suc n)
 
     rest : ℕ → F
-    rest k = neg (value K row col (span n 1) k (given A p L c d e w b))
+    rest k = neg (value K row col (span n 1) k (unsolved A p L c d e w b))
 
     in-range : (j : ℕ) → In j solved → (1 ≤ j) × (j ≤ p .threshold)
     unfolding n cs solved
@@ -81,9 +81,9 @@ module _ (A : Arithmetic) (p : Plan) (L : Laws A (p .users) (p .threshold)) (c :
       meet = λ k i h l. L .meet k i (colluders-in-in p c w k h) (in-range i l);
     }
 
-    pub shift-given : (j : ℕ) → j ≤ kept p c w → shift A p L c d e w b j ≡ given A p L c d e w b j
+    pub shift-unsolved : (j : ℕ) → j ≤ kept p c w → shift A p L c d e w b j ≡ unsolved A p L c d e w b j
     unfolding shift
-    shift-given j h = rw (le-leb j (kept p c w) h)
+    shift-unsolved j h = rw (le-leb j (kept p c w) h)
 
     shift-solved : (j : ℕ) → kept p c w < j → shift A p L c d e w b j ≡ solution K row col cs solved rest j
     unfolding shift n cs solved rest
@@ -97,7 +97,7 @@ module _ (A : Arithmetic) (p : Plan) (L : Laws A (p .users) (p .threshold)) (c :
         (ap (λ (i : ℕ). span i 1) (sym (kept-whole p c more few w)) ∙ span-append n (length cs) 1)
         ∙ sum-append K (span n 1) (span (length cs) (1 + n)) _
         ∙ ap₂ (λ x y. x ⊕ y)
-        (sum-same K (span n 1) _ _ (λ j h. ap (K .mul (coefficient K row col k j)) (shift-given j (omega (arith, span-in n 1 j h .1)))))
+        (sum-same K (span n 1) _ _ (λ j h. ap (K .mul (coefficient K row col k j)) (shift-unsolved j (omega (arith, span-in n 1 j h .1)))))
         (ap (λ (i : ℕ). value K row col (span (length cs) i) k (shift A p L c d e w b)) one
         ∙ sum-same K solved _ _ (λ j h. ap (K .mul (coefficient K row col k j)) (shift-solved j (omega (arith, span-in (length cs) (suc n) j h .0))))
         ∙ solves system rest k m)
@@ -106,17 +106,17 @@ module _ (A : Arithmetic) (p : Plan) (L : Laws A (p .users) (p .threshold)) (c :
         one : 1 + kept p c w ≡ suc (kept p c w)
         one = omega arith
 
-    -- where nothing is given to move, no column does
-    pub shift-zero : ((j : ℕ) → 1 ≤ j → given A p L c d e w b j ≡ 𝟘) → (j : ℕ) → 1 ≤ j → shift A p L c d e w b j ≡ 𝟘
+    -- where no column that is not solved moves, none does
+    pub shift-zero : ((j : ℕ) → 1 ≤ j → unsolved A p L c d e w b j ≡ 𝟘) → (j : ℕ) → 1 ≤ j → shift A p L c d e w b j ≡ 𝟘
     unfolding n cs solved rest
     shift-zero z j lo = pick (decLe j (kept p c w))
       where
         pick : Dec (j ≤ kept p c w) → shift A p L c d e w b j ≡ 𝟘
-        pick (yes h) = shift-given j h ∙ z j lo
+        pick (yes h) = shift-unsolved j h ∙ z j lo
         pick (no h) =
             shift-solved j (omega arith)
             ∙ solution-zero K row col cs solved rest
-            (λ k m. ap neg (value-zero K row col (span n 1) k (given A p L c d e w b) (λ i l. z i (span-in n 1 i l .0))) ∙ sym (zero-add K (neg 𝟘))
+            (λ k m. ap neg (value-zero K row col (span n 1) k (unsolved A p L c d e w b) (λ i l. z i (span-in n 1 i l .0))) ∙ sym (zero-add K (neg 𝟘))
             ∙ K .add-neg 𝟘) j
 
   -- ---- the translation at a mask, at a noise element and in a column
@@ -160,7 +160,7 @@ module _ (A : Arithmetic) (p : Plan) (L : Laws A (p .users) (p .threshold)) (c :
   delta-noise v b i u h l = at (noise-start p v b + i) (noise-lt p v b i u h l) ∙ delta-high v b i u h l
 
   pub delta-column : (v b j : ℕ) → usable p v ≡ true → b < p .blocks → 1 ≤ j → j ≤ p .threshold → el (column A p Δ v b j) ≡ shift A p L c d e v b j
-  unfolding column items given
+  unfolding column items unsolved
   delta-column v b j u h lo hi = pick (decLe j (items p))
     where
       place : ℕ
@@ -168,11 +168,11 @@ module _ (A : Arithmetic) (p : Plan) (L : Laws A (p .users) (p .threshold)) (c :
 
       pick : Dec (j ≤ items p) → el (column A p Δ v b j) ≡ shift A p L c d e v b j
       pick (yes l) =
-          let g : given A p L c d e v b j ≡ field-sum K (users-in p v) (λ k. d k place) = rw (le-leb j (items p) l) in
+          let g : unsolved A p L c d e v b j ≡ field-sum K (users-in p v) (λ k. d k place) = rw (le-leb j (items p) l) in
           rw (le-leb j (items p) l)
           (sum-el A _ _ L (users-in p v) (λ k. mask p Δ k place)
           ∙ sum-same K (users-in p v) _ _ (λ k m. let s = users-in-in p v k m in delta-mask k place (s .0) (s .1) (place-lt p b j h lo l))
-          ∙ sym (shift-given v b j (omega (arith, kept-items p c more few v)) ∙ g))
+          ∙ sym (shift-unsolved v b j (omega (arith, kept-items p c more few v)) ∙ g))
       pick (no l) =
           let s : items p < j = omega arith in
           let r : j - suc (items p) < p .collusion = omega arith in

@@ -21,7 +21,7 @@ use Rattle.scheme.specs.Lists.{span, each}
 use Rattle.scheme.specs.Scheme.{Arithmetic, elements, Plan, items, places, in-set, ones, usable, usable-with, users-in, sets-with, list-length, mask, share, shares, key, first-message, reply, total-at}
 use Rattle.scheme.specs.Promise.{Table, list-good, shown, Alike, Nothing-told}
 use Rattle.scheme.specs.Laws.{Laws}
-use Rattle.scheme.specs.Delta.{colluders-in, given, shift, gap-of, table-delta, partner, back}
+use Rattle.scheme.specs.Delta.{colluders-in, unsolved, shift, difference, table-delta, partner, back}
 use Rattle.scheme.proofs.Tests.{both, joined}
 use Rattle.scheme.proofs.Lists.{map-same, members-in, in-members, rows-same, span-in}
 use Rattle.scheme.proofs.Sums.{el-same, zero-small, sum-el, row-value-small}
@@ -77,7 +77,7 @@ module _ (A : Arithmetic) (p : Plan) (L : Laws A (p .users) (p .threshold)) wher
   module _ (v c : ℕ) (x y : Table) (more : p .collusion ≤ p .threshold) (few : ones (p .users) c ≤ p .collusion) (u : usable p v ≡ true)
       (al : Alike A p v c x y) where
     d : (k place : ℕ) → F
-    d = gap-of A p L c x y
+    d = difference A p L c x y
 
     e : (set block item : ℕ) → F
     e w b i = 𝟘
@@ -86,14 +86,14 @@ module _ (A : Arithmetic) (p : Plan) (L : Laws A (p .users) (p .threshold)) wher
     Δ = table-delta A p L c x y
 
     -- the sums of the survivors' masks do not move
-    given-zero : (b j : ℕ) → b < p .blocks → 1 ≤ j → given A p L c d e v b j ≡ 𝟘
-    unfolding given d e gap-of total-at
-    given-zero b j h lo = pick (decLe j (items p))
+    unsolved-zero : (b j : ℕ) → b < p .blocks → 1 ≤ j → unsolved A p L c d e v b j ≡ 𝟘
+    unfolding unsolved d e difference total-at
+    unsolved-zero b j h lo = pick (decLe j (items p))
       where
         i : ℕ
         i = b * items p + (j - 1)
 
-        pick : Dec (j ≤ items p) → given A p L c d e v b j ≡ 𝟘
+        pick : Dec (j ≤ items p) → unsolved A p L c d e v b j ≡ 𝟘
         pick (yes l) =
             rw (le-leb j (items p) l)
             (sum-sub K (users-in p v) (λ k. el (getD (x k) i 0)) (λ k. el (getD (y k) i 0))
@@ -109,7 +109,7 @@ module _ (A : Arithmetic) (p : Plan) (L : Laws A (p .users) (p .threshold)) wher
     reply-zero k b lo hi h =
         delta-share A p L c d e more few k v b lo hi u h
         (value-zero K row col (span (p .threshold) 1) k (shift A p L c d e v b)
-        (λ j m. shift-zero A p L c d e more few v b (λ j. given-zero b j h) j (span-in (p .threshold) 1 j m .0)))
+        (λ j m. shift-zero A p L c d e more few v b (λ j. unsolved-zero b j h) j (span-in (p .threshold) 1 j m .0)))
 
     colluder-zero : (k w b : ℕ) → 1 ≤ k → k ≤ p .users → in-set c k ≡ true → usable p w ≡ true → in-set w k ≡ true → b < p .blocks → share A p Δ k w b ≡ 0
     unfolding Δ table-delta d e colluders-in
@@ -128,7 +128,7 @@ module _ (A : Arithmetic) (p : Plan) (L : Laws A (p .users) (p .threshold)) wher
           ∙ ap (λ a. el (mask p xs k i) ⊕ a) (delta-mask A p L c d e more few k i lo hi h)
 
       first-same : (k : ℕ) → 1 ≤ k → k ≤ p .users → first-message A p (key A p xs k) (x k) ≡ first-message A p (key A p ys k) (y k)
-      unfolding first-message d gap-of
+      unfolding first-message d difference
       first-same k lo hi =
           map-same _ _ (span (places p) 0) (λ i m.
           let h : i < places p = omega (arith, span-in (places p) 0 i m .1) in
@@ -153,7 +153,7 @@ module _ (A : Arithmetic) (p : Plan) (L : Laws A (p .users) (p .threshold)) wher
       reply-same k lo hi i = key-reply A p xs k v u i ∙ shares-same k v lo hi u (λ b h. reply-zero k b lo hi h) ∙ sym (key-reply A p ys k v u i)
 
       mask-same : (k i : ℕ) → 1 ≤ k → k ≤ p .users → in-set c k ≡ true → i < places p → mask p xs k i ≡ mask p ys k i
-      unfolding mask d gap-of ys partner Δ
+      unfolding mask d difference ys partner Δ
       mask-same k i lo hi own h =
           el-same A _ _ L (elements-at A z xs ((k - 1) * places p + i) (list-elements A p xs ok))
           (elements-at A z ys ((k - 1) * places p + i) (list-elements A p ys (each-good A p (A .add) (L .add-small) xs Δ)))

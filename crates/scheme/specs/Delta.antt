@@ -1,8 +1,8 @@
 -- The translation behind demand 3: the partner of a random list is the list plus one fixed list Δ, place by place.
 --   colluders-in, kept   the colluders in a set; how many columns of the set are not solved for them
---   given, shift         by how much the columns of a set's block move: as given, and the last ones so that no colluder's share moves
+--   unsolved, shift      by how much the columns of a set's block move: as the masks and the given noise do; the last ones so that no colluder's share moves
 --   delta, translation   the amount at each place of the list; Δ, the list of these amounts
---   gap-of, table-delta  Δ for two tables: the masks move by their difference, the noise that is not solved stays
+--   difference, table-delta   Δ for two tables: the masks move by their difference, the noise that is not solved stays
 --   partner, back        a list plus Δ, and less Δ
 -- Assumes nothing: these are definitions.
 use mathlib.Core.Bool.{_&&_, cond}
@@ -29,14 +29,14 @@ module _ (A : Arithmetic) (p : Plan) (L : Laws A (p .users) (p .threshold)) (c :
 
   -- d: by how much each mask moves; e: each noise element that is not solved
   module _ (d : (k place : ℕ) → K .F) (e : (set block item : ℕ) → K .F) where
-    unfoldable pub given : (set block j : ℕ) → K .F
-    given w b j = cond (leb j (items p)) (sum K (users-in p w) (λ k. d k (b * items p + (j - 1)))) (e w b (j - suc (items p)))
+    unfoldable pub unsolved : (set block j : ℕ) → K .F
+    unsolved w b j = cond (leb j (items p)) (sum K (users-in p w) (λ k. d k (b * items p + (j - 1)))) (e w b (j - suc (items p)))
 
     unfoldable pub shift : (set block j : ℕ) → K .F
     shift w b j =
         let n = kept p c w in
         let cs = colluders-in p c w in
-        cond (leb j n) (given w b j) (solution K row col cs (span (length cs) (suc n)) (λ k. K .neg (value K row col (span n 1) k (given w b))) j)
+        cond (leb j n) (unsolved w b j) (solution K row col cs (span (length cs) (suc n)) (λ k. K .neg (value K row col (span n 1) k (unsolved w b))) j)
 
     unfoldable pub delta : (at : ℕ) → K .F
     delta n =
@@ -48,11 +48,11 @@ module _ (A : Arithmetic) (p : Plan) (L : Laws A (p .users) (p .threshold)) (c :
     unfoldable pub translation : List ℕ
     translation = map (λ n. val (delta n)) (span (list-length p) 0)
 
-  unfoldable pub gap-of : Table → Table → (k place : ℕ) → K .F
-  gap-of x y k i = sub K (el (getD (x k) i 0)) (el (getD (y k) i 0))
+  unfoldable pub difference : Table → Table → (k place : ℕ) → K .F
+  difference x y k i = sub K (el (getD (x k) i 0)) (el (getD (y k) i 0))
 
   unfoldable pub table-delta : Table → Table → List ℕ
-  table-delta x y = translation (gap-of x y) (λ w b i. K .𝟘)
+  table-delta x y = translation (difference x y) (λ w b i. K .𝟘)
 
   -- THE PARTNER of a list for the tables x and y, and the list of which it is the partner
   unfoldable pub partner : Table → Table → List ℕ → List ℕ
