@@ -278,7 +278,7 @@ fn sum_rows(products: &[u16; CELLS], set: u32, users: u32) -> [u32; BLOCKS]
 fn add_row(sums: &mut [u32; BLOCKS], products: &[u16; CELLS], from: usize)
     requires { ⌜ (from + most-blocks ≤ cells) × (length (now sums) ≡ most-blocks) ⌝ }
     requires { ⌜ ((b : ℕ) → b < most-blocks → getD (now sums) b 0 ≤ most-threshold * most-number) ⌝ }
-    ensures { λ r. ⌜ Row-added most-number (now (products .entry)) from (now (sums .entry)) (now (sums .exit)) ⌝ }
+    ensures { λ r. ⌜ Row-added most-number (now (products .entry)) from most-blocks (now (sums .entry)) (now (sums .exit)) ⌝ }
 {
     let mut i = 0;
     while i < BLOCKS {
@@ -288,7 +288,7 @@ fn add_row(sums: &mut [u32; BLOCKS], products: &[u16; CELLS], from: usize)
 }
 
 fn widened(a: u16) -> u32
-    ensures { λ r. ⌜ (r ≡ a) × (a ≤ most-number) ⌝ }
+    ensures { λ r. ⌜ (r ≡ a) × (r ≤ most-number) ⌝ }
 {
     a as u32
 }

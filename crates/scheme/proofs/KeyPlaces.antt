@@ -1,11 +1,11 @@
 -- Where masks, sums, noise and shares lie.
---   row-in, row-next                                 row k, from 0, of n rows
---   rows-in                                          the masks of all users in the random list
---   noise-block, noise-set, noise-skip, noise-room   the noise of a block, of the next set
---   reply-set, reply-skip                            the shares for the next set that holds a user
+--   row-in, row-next                       row k, from 0, of n rows
+--   rows-in                                the masks of all users in the random list
+--   noise-block, noise-next, noise-room    the noise of a block, of the next set; it lies in the list
+--   reply-next                             the shares for the next set that holds a user
 -- Assumes nothing.
 use mathlib.Core.Path.{_≡_, sym, ap, _∙_}
-use mathlib.Core.Bool.{true, false}
+use mathlib.Core.Bool.{Bool, true, false, cond}
 use Prim.Native.Nat.{ℕ, _+_, _*_, _^_, _≤_, _<_}
 use native.Mathlib.Nat.{suc-mul, add-mul, zero-mul, mul-le-mul-right, add-zero, mul-assoc}
 use native.Mathlib.Numerals.{add-one}
@@ -26,7 +26,14 @@ pub rows-in : (p : Plan) → p .users * places p ≤ list-length p
 unfolding list-length
 rows-in p = omega arith
 
--- ---- noise
+-- what lies behind the rows of the numbers below v + 1 that pass a test
+rank-next : (t : ℕ → Bool) (v n : ℕ) → rank t (v + 1) * n ≡ rank t v * n + cond (t v) n 0
+rank-next t v n = ap (λ (m : ℕ). m * n) (rank-step t v) ∙ go (t v)
+  where
+    go : (b : Bool) → (rank t v + cond b 1 0) * n ≡ rank t v * n + cond b n 0
+    go true = sym (row-next (rank t v) n)
+    go false = rw (add-zero, add-zero)
+
 module _ (p : Plan) where
   noise-first : (v : ℕ) → noise-start p v 0 ≡ p .users * places p + rank (usable p) v * (p .blocks * p .collusion)
   unfolding noise-start
@@ -39,15 +46,8 @@ module _ (p : Plan) where
         let m : ℕ = rank (usable p) v * p .blocks in
         omega (arith, add-mul m b (p .collusion), add-mul m 0 (p .collusion), zero-mul (p .collusion))
 
-    pub noise-set : usable p v ≡ true → noise-start p v 0 + p .blocks * p .collusion ≡ noise-start p (v + 1) 0
-    noise-set u =
-        let s : ℕ = p .blocks * p .collusion in
-        omega (arith, noise-first v, noise-first (v + 1), row-next (rank (usable p) v) s, ap (λ (n : ℕ). n * s) (rw u at (rank-step (usable p) v)))
-
-    pub noise-skip : usable p v ≡ false → noise-start p v 0 ≡ noise-start p (v + 1) 0
-    noise-skip u =
-        let s : ℕ = p .blocks * p .collusion in
-        omega (arith, noise-first v, noise-first (v + 1), ap (λ (n : ℕ). n * s) (rw (u, add-zero) at (rank-step (usable p) v)))
+    pub noise-next : noise-start p (v + 1) 0 ≡ noise-start p v 0 + cond (usable p v) (p .blocks * p .collusion) 0
+    noise-next = omega (arith, noise-first v, noise-first (v + 1), rank-next (usable p) v (p .blocks * p .collusion))
 
     pub noise-room : usable p v ≡ true → noise-start p v 0 + p .blocks * p .collusion ≤ list-length p
     unfolding list-length usable-sets
@@ -56,14 +56,6 @@ module _ (p : Plan) where
         let l = rank-lt (usable p) (2 ^ p .users) v (usable-below p v u) u in
         omega (arith, noise-first v, row-in (rank (usable p) v) n (p .blocks * p .collusion) l, mul-assoc n (p .blocks) (p .collusion))
 
--- ---- shares
-module _ (p : Plan) (k v : ℕ) where
-  pub reply-set : usable-with p k v ≡ true → reply-start p k v + p .blocks ≡ reply-start p k (v + 1)
-  unfolding reply-start
-  reply-set u =
-      let t = usable-with p k in
-      omega (arith, row-next (rank t v) (p .blocks), ap (λ (n : ℕ). n * p .blocks) (rw u at (rank-step t v)))
-
-  pub reply-skip : usable-with p k v ≡ false → reply-start p k v ≡ reply-start p k (v + 1)
-  unfolding reply-start
-  reply-skip u = ap (λ (n : ℕ). places p + n * p .blocks) (sym (rw (u, add-zero) at (rank-step (usable-with p k) v)))
+    pub reply-next : (k : ℕ) → reply-start p k (v + 1) ≡ reply-start p k v + cond (usable-with p k v) (p .blocks) 0
+    unfolding reply-start
+    reply-next k = omega (arith, rank-next (usable-with p k) v (p .blocks))

@@ -3,11 +3,10 @@
 --   members-take, members-skip             the numbers that pass a test, of one number more: it passes, or not
 --   rows-take, rows-skip                   rows of them
 --   sum-take, sum-skip                     sums over them, from 1 on
---   row-more                               a row put into a list, one number more
---   row-before, row-at, row-behind         what lies before the row, its numbers, what lies behind it
+--   row-more, row-other, row-at            a row put into a list: one number more, what lies elsewhere, its numbers
 -- Assumes nothing.
 use mathlib.Core.Path.{_≡_, refl, sym, ap, ap₂, _∙_, subst}
-use mathlib.Core.Logic.{⊎-elim}
+use mathlib.Core.Logic.{_≢_, ⊎-elim}
 use mathlib.Core.Bool.{Bool, true, false}
 use mathlib.Core.List.{List, [], _∷_, _++_, map, append-nil}
 use Prim.Native.Nat.{ℕ, zero, suc, _+_, _≤_, _<_}
@@ -51,36 +50,31 @@ module _ {A : Arithmetic} {n m : ℕ} (L : Laws A n m) (t : ℕ → Bool) (k : �
   sum-skip e = ap (λ (l : List ℕ). sum A l f) (members-skip t k 1 (k + 1) (add-comm 1 k) e)
 
 -- ---- a row put into a list
-sets-before : (vs l : List ℕ) (i j : ℕ) → j < i → _≡_ {A = ℕ} (getD (sets l i vs) j 0) (getD l j 0)
-sets-before [] l i j h = refl
-sets-before (v ∷ vs) l i j h = sets-before vs (set l i v) (suc i) j (omega arith) ∙ getD-set-other l i j v 0 (λ e. omega arith)
-
-sets-behind : (vs l : List ℕ) (i j : ℕ) → i + length vs ≤ j → _≡_ {A = ℕ} (getD (sets l i vs) j 0) (getD l j 0)
-sets-behind [] l i j h = refl
-sets-behind (v ∷ vs) l i j h = sets-behind vs (set l i v) (suc i) j (omega arith) ∙ getD-set-other l i j v 0 (λ e. omega arith)
+sets-other : (vs l : List ℕ) (i j : ℕ) → ((b : ℕ) → b < length vs → j ≢ i + b) → _≡_ {A = ℕ} (getD (sets l i vs) j 0) (getD l j 0)
+sets-other [] l i j h = refl
+sets-other (v ∷ vs) l i j h =
+    sets-other vs (set l i v) (suc i) j (λ b m e. h (suc b) (omega arith) (omega arith))
+    ∙ getD-set-other l i j v 0 (λ e. h 0 (omega arith) (omega arith))
 
 sets-at : (vs l : List ℕ) (i b : ℕ) → b < length vs → i + length vs ≤ length l → _≡_ {A = ℕ} (getD (sets l i vs) (i + b) 0) (getD vs b 0)
 sets-at [] l i b h m = absurd (none-below b h)
 sets-at (v ∷ vs) l i zero h m =
-    ap (λ (n : ℕ). getD (sets (set l i v) (suc i) vs) n 0) (add-zero i) ∙ sets-before vs (set l i v) (suc i) i (omega arith)
+    ap (λ (n : ℕ). getD (sets (set l i v) (suc i) vs) n 0) (add-zero i) ∙ sets-other vs (set l i v) (suc i) i (λ b n e. omega arith)
     ∙ getD-set-same l i v 0 (omega arith)
 sets-at (v ∷ vs) l i (suc b) h m =
     ap (λ (n : ℕ). getD (sets (set l i v) (suc i) vs) n 0) (omega arith) ∙ sets-at vs (set l i v) (suc i) b (omega arith) (omega (arith, length-set l i v))
 
-module _ (old : List ℕ) (at : ℕ) (f : ℕ → ℕ) (n : ℕ) where
-  pub row-more : {new : List ℕ} {j x : ℕ} → new ≡ sets old at (map f (span n 0)) → j ≡ at + n → x ≡ f n
-      → set new j x ≡ sets old at (map f (span (n + 1) 0))
-  row-more {j = j} {x} e d y =
+module _ (old : List ℕ) (at : ℕ) (f : ℕ → ℕ) (n : ℕ) {new : List ℕ} (e : new ≡ sets old at (map f (span n 0))) where
+  pub row-more : {j x : ℕ} → j ≡ at + n → x ≡ f n → set new j x ≡ sets old at (map f (span (n + 1) 0))
+  row-more {j} {x} d y =
       ap (λ (l : List ℕ). set l j x) e ∙ ap₂ (λ (i z : ℕ). set (sets old at (map f (span n 0))) i z) d y ∙ sets-more old at n f
 
-  pub row-before : (j : ℕ) → j < at → getD (sets old at (map f (span n 0))) j 0 ≡ getD old j 0
-  row-before j h = sets-before (map f (span n 0)) old at j h
+  pub row-other : (j : ℕ) → ((b : ℕ) → b < n → j ≢ at + b) → getD new j 0 ≡ getD old j 0
+  row-other j h =
+      ap (λ (l : List ℕ). getD l j 0) e ∙ sets-other (map f (span n 0)) old at j (λ b m. h b (omega (arith, map-span-length f n 0)))
 
-  pub row-behind : (j : ℕ) → at + n ≤ j → getD (sets old at (map f (span n 0))) j 0 ≡ getD old j 0
-  row-behind j h = sets-behind (map f (span n 0)) old at j (omega (arith, map-span-length f n 0))
-
-  pub row-at : (b j : ℕ) → j ≡ at + b → b < n → at + n ≤ length old → getD (sets old at (map f (span n 0))) j 0 ≡ f b
-  row-at b j e h m =
+  pub row-at : (b j : ℕ) → j ≡ at + b → b < n → at + n ≤ length old → getD new j 0 ≡ f b
+  row-at b j d h m =
       let l = map-span-length f n 0 in
-      ap (λ (i : ℕ). getD (sets old at (map f (span n 0))) i 0) e
-      ∙ sets-at (map f (span n 0)) old at b (omega (arith, l)) (omega (arith, l)) ∙ map-span-at f n 0 b h ∙ ap f (zero-add b)
+      ap₂ (λ (r : List ℕ) (i : ℕ). getD r i 0) e d ∙ sets-at (map f (span n 0)) old at b (omega (arith, l)) (omega (arith, l))
+      ∙ map-span-at f n 0 b h ∙ ap f (zero-add b)

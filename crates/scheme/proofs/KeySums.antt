@@ -1,24 +1,28 @@
 -- Totals modulo q that a loop builds up, one summand a turn, and reduces once.
 --   weight-start, weight-more, weight-end    numbers times factors; reduced with a sum they are the value of a block
+--   added-start, added-more                  a row of numbers added to sums, one place a turn
+--   added-long, added-rest, added-at         the length and the next sum stay; those so far
 --   sums-start, sums-take, sums-skip         sums over the users of a set
 --   sums-end                                 reduced with the noise they are the shares
 -- Assumes nothing.
-use mathlib.Core.Path.{_≡_, sym, ap, _∙_}
+use mathlib.Core.Path.{_≡_, refl, sym, ap, ap₂, _∙_}
 use mathlib.Core.Bool.{true, false}
-use mathlib.Core.List.{List, map}
+use mathlib.Core.List.{List}
 use Prim.Native.Nat.{ℕ, _+_, _*_, _-_, _%_, _≤_, _<_}
 use native.Mathlib.Nat.{zero-add, zero-mod, mod-add-mod, add-mod-mod}
 use native.Mathlib.Omega.{arith}
-use lib.ListN.{getD, replicate, length-replicate}
+use lib.ListN.{length, getD, set, replicate, length-replicate}
+use lib.Seq.{length-sets}
 use Rattle.scheme.specs.Limits.{most-blocks}
 use Rattle.scheme.specs.Lists.{span}
 use Rattle.scheme.specs.Scheme.{modular, sum, Plan, in-set}
 use Rattle.scheme.specs.Laws.{Laws}
 use Rattle.scheme.specs.Weighed.{weighed}
 use Rattle.scheme.specs.KeyParts.{block-item, block-value, block-values, set-sum, share-from, shares-from, Row-added, Unreduced-weight, Unreduced-sums}
-use Rattle.scheme.proofs.Lists.{span-in, map-same, map-span-length, map-span-at, zeros-at}
+use Rattle.scheme.proofs.Tests.{none-below}
+use Rattle.scheme.proofs.Lists.{span-in, map-same, zeros-at}
 use Rattle.scheme.proofs.Weighed.{weighed-same, weighed-more}
-use Rattle.scheme.proofs.KeyRows.{sum-take, sum-skip}
+use Rattle.scheme.proofs.KeyRows.{below-more, sum-take, sum-skip, row-more, row-at, row-other}
 use Rattle.scheme.proofs.KeyPlaces.{row-next}
 
 -- ---- numbers times factors
@@ -43,6 +47,27 @@ weight-end {q} sums cs n xs start from b total e d =
     let same : from + i ≡ start + (b * n + i) = omega arith in
     ap (λ (j : ℕ). getD xs j 0) same))
 
+-- ---- a row added to sums
+pub added-start : (most : ℕ) (zs : List ℕ) (from : ℕ) (old : List ℕ) → Row-added most zs from 0 old old
+added-start most zs from old = record { small = λ b h. absurd (none-below b h); right = refl }
+
+module _ {most : ℕ} {zs : List ℕ} {from n : ℕ} {old new : List ℕ} (a : Row-added most zs from n old new) where
+  pub added-long : length new ≡ length old
+  added-long = ap length (a .right) ∙ simp length-sets
+
+  pub added-rest : getD new n 0 ≡ getD old n 0
+  added-rest = row-other old 0 _ n (a .right) n (λ b h e. omega arith)
+
+  pub added-at : n ≤ length old → (b : ℕ) → b < n → getD new b 0 ≡ getD old b 0 + getD zs (from + b) 0
+  added-at l b h = row-at old 0 _ n (a .right) b b (sym (zero-add b)) h (omega arith)
+
+  pub added-more : (x : ℕ) → (x ≡ getD zs (from + n) 0) × (x ≤ most) → Row-added most zs from (n + 1) old (set new n (getD new n 0 + x))
+  added-more x h =
+      record {
+        small = below-more (λ b. getD zs (from + b) 0 ≤ most) (a .small) (omega (arith, h .0, h .1));
+        right = row-more old 0 _ n (a .right) (sym (zero-add n)) (ap₂ _+_ added-rest (h .0));
+      }
+
 -- ---- sums over a set
 pub sums-start : (q most : ℕ) (zs : List ℕ) (v : ℕ) → Unreduced-sums q most zs v 0 (replicate most-blocks 0)
 unfolding sum set-sum
@@ -54,23 +79,19 @@ sums-start q most zs v =
     }
 
 module _ {q n m : ℕ} (L : Laws (modular q) n m) {most : ℕ} {zs : List ℕ} {v k : ℕ} {sums : List ℕ} (s : Unreduced-sums q most zs v k sums) where
-  pub sums-take : in-set v (k + 1) ≡ true → (from : ℕ) → from ≡ k * most-blocks → (new : List ℕ) → Row-added most zs from sums new
+  pub sums-take : in-set v (k + 1) ≡ true → (from : ℕ) → from ≡ k * most-blocks → (new : List ℕ) → Row-added most zs from most-blocks sums new
       → Unreduced-sums q most zs v (k + 1) new
   unfolding set-sum
   sums-take e from f new a =
-      let g : ℕ → ℕ = λ b. getD sums b 0 + getD zs (from + b) 0 in
-      rw (a .right) record {
-        long = map-span-length g most-blocks 0;
+      let added = added-at a (omega (arith, s .long)) in
+      record {
+        long = added-long a ∙ s .long;
         small = λ b h. omega (arith, added b h, s .small b h, a .small b h, row-next k most);
         right = λ b h.
             let d : from + b ≡ (k + 1 - 1) * most-blocks + b = omega arith in
             ap (λ (x : ℕ). x % q) (added b h ∙ ap (λ (i : ℕ). getD sums b 0 + getD zs i 0) d)
             ∙ sym (sum-take L (in-set v) k (λ j. getD zs ((j - 1) * most-blocks + b) 0) e ∙ rw (← s .right b h, mod-add-mod));
       }
-    where
-      added : (b : ℕ) → b < most-blocks
-          → getD (map (λ i. getD sums i 0 + getD zs (from + i) 0) (span most-blocks 0)) b 0 ≡ getD sums b 0 + getD zs (from + b) 0
-      added b h = map-span-at (λ i. getD sums i 0 + getD zs (from + i) 0) most-blocks 0 b h ∙ rw zero-add
 
   pub sums-skip : in-set v (k + 1) ≡ false → Unreduced-sums q most zs v (k + 1) sums
   unfolding set-sum

@@ -7,7 +7,7 @@
 --   key-whole                                            the masks and behind them the shares fill the buffer
 -- Assumes nothing.
 use mathlib.Core.Path.{_≡_, refl, sym, ap, ap₂, _∙_}
-use mathlib.Core.Bool.{true, false}
+use mathlib.Core.Bool.{true, false, cond}
 use mathlib.Core.List.{List, map}
 use Prim.Native.Nat.{ℕ, _+_, _*_, _^_, _≤_, _<_}
 use native.Mathlib.Nat.{zero-add, add-zero, zero-mul}
@@ -29,8 +29,8 @@ use Rattle.scheme.proofs.Refusals.{then-zero, unless-zero, start-taken}
 use Rattle.scheme.proofs.Sums.{el-same}
 use Rattle.scheme.proofs.Keys.{shares-length, key-is-long}
 use Rattle.scheme.proofs.Weighed.{weighed-small}
-use Rattle.scheme.proofs.KeyRows.{below-more, rows-take, rows-skip, row-before, row-at}
-use Rattle.scheme.proofs.KeyPlaces.{noise-set, noise-skip, reply-set, reply-skip}
+use Rattle.scheme.proofs.KeyRows.{below-more, rows-take, rows-skip, row-other, row-at}
+use Rattle.scheme.proofs.KeyPlaces.{noise-next, reply-next}
 use Rattle.scheme.proofs.KeyShares.{weighed-columns}
 
 pub key-accepted : (A : Arithmetic) (p : Plan) (k : ℕ) (xs : List ℕ) (out : ℕ) → key-refusal A p k xs out ≡ 0 → Key-input p k xs × (out ≡ key-length p k)
@@ -72,9 +72,9 @@ module _ {A : Arithmetic} {n m : ℕ} (L : Laws A n m) where
       record {
         long = length-sets old at (map f (span (p .blocks) 0)) ∙ z .long;
         each = below-more (λ i. (b : ℕ) → b < p .blocks → getD new (i * most-blocks + b) 0 ≡ value i b)
-            (λ i l b s. row-before old at f (p .blocks) (i * most-blocks + b) (omega arith) ∙ z .each i l b s)
+            (λ i l b s. row-other old at f (p .blocks) refl (i * most-blocks + b) (λ a m same. omega arith) ∙ z .each i l b s)
             (λ b s.
-            row-at old at f (p .blocks) b _ (ap (λ (a : ℕ). a + b) (sym d)) s (omega (arith, z .long)) ∙ alone c xs from b
+            row-at old at f (p .blocks) refl b _ (ap (λ (a : ℕ). a + b) (sym d)) s (omega (arith, z .long)) ∙ alone c xs from b
             ∙ ap (λ (a : ℕ). columns-value A u 1 (items p) (block-item xs a (items p) b)) e);
       }
 
@@ -94,18 +94,18 @@ written-start A p k xs old row e =
     }
 
 module _ {A : Arithmetic} {p : Plan} {k : ℕ} {xs old new : List ℕ} {noise at v : ℕ} (g : Written A p k xs old new noise at v) where
-  next-noise : usable p v ≡ true → noise + p .blocks * p .collusion ≡ noise-start p (v + 1) 0
-  next-noise u = ap (λ (n : ℕ). n + p .blocks * p .collusion) (g .noise-is) ∙ noise-set p v u
-
-  skipped : usable-with p k v ≡ false → (n : ℕ) → n ≡ noise-start p (v + 1) 0 → Written A p k xs old new n at (v + 1)
-  skipped w n e =
+  moved : (next : List ℕ) → next ≡ sets old (places p) (rows (shares A p xs k) (members (usable-with p k) (v + 1) 0)) →
+      Written A p k xs old next (noise + cond (usable p v) (p .blocks * p .collusion) 0) (at + cond (usable-with p k v) (p .blocks) 0) (v + 1)
+  moved next e =
       record {
-        noise-is = e;
-        at-is = g .at-is ∙ reply-skip p k v w;
-        written = g .written ∙ ap (sets old (places p)) (sym (rows-skip (usable-with p k) (shares A p xs k) v w));
+        noise-is = ap (λ (n : ℕ). n + cond (usable p v) (p .blocks * p .collusion) 0) (g .noise-is) ∙ sym (noise-next p v);
+        at-is = ap (λ (n : ℕ). n + cond (usable-with p k v) (p .blocks) 0) (g .at-is) ∙ sym (reply-next p v k);
+        written = e;
       }
 
-  -- a usable set that holds the user, a usable set that does not, a set that is not usable
+  left : usable-with p k v ≡ false → new ≡ sets old (places p) (rows (shares A p xs k) (members (usable-with p k) (v + 1) 0))
+  left w = g .written ∙ ap (sets old (places p)) (sym (rows-skip (usable-with p k) (shares A p xs k) v w))
+
   pub written-take : usable p v ≡ true → in-set v k ≡ true →
       Written A p k xs old (sets new at (shares A p xs k v)) (noise + p .blocks * p .collusion) (at + p .blocks) (v + 1)
   unfolding reply-start rank usable-with
@@ -113,23 +113,19 @@ module _ {A : Arithmetic} {p : Plan} {k : ℕ} {xs old new : List ℕ} {noise at
       let t = usable-with p k in
       let f = shares A p xs k in
       let l = members t v 0 in
-      let w = joined u i in
-      record {
-        noise-is = next-noise u;
-        at-is = ap (λ (a : ℕ). a + p .blocks) (g .at-is) ∙ reply-set p k v w;
-        written =
-            ap₂ (λ (o : List ℕ) (a : ℕ). sets o a (f v)) (g .written)
-            (g .at-is ∙ ap (λ (a : ℕ). places p + a) (sym (rows-length f (p .blocks) (shares-length A p xs k) l)))
-            ∙ sets-append old (places p) (rows f l) (f v) ∙ ap (sets old (places p)) (sym (rows-take t f v w));
-      }
+      rw (u, i) at
+      (moved (sets new at (f v))
+      (ap₂ (λ (o : List ℕ) (a : ℕ). sets o a (f v)) (g .written)
+      (g .at-is ∙ ap (λ (a : ℕ). places p + a) (sym (rows-length f (p .blocks) (shares-length A p xs k) l)))
+      ∙ sets-append old (places p) (rows f l) (f v) ∙ ap (sets old (places p)) (sym (rows-take t f v (joined u i)))))
 
   pub written-pass : usable p v ≡ true → in-set v k ≡ false → Written A p k xs old new (noise + p .blocks * p .collusion) at (v + 1)
   unfolding usable-with
-  written-pass u i = skipped (rw (u, i)) _ (next-noise u)
+  written-pass u i = rw (u, i, add-zero at) at (moved new (left (rw (u, i))))
 
   pub written-skip : usable p v ≡ false → Written A p k xs old new noise at (v + 1)
   unfolding usable-with
-  written-skip u = skipped (rw u) _ (g .noise-is ∙ noise-skip p v u)
+  written-skip u = rw (u, add-zero noise, add-zero at) at (moved new (left (rw u)))
 
   pub written-end : (row : ℕ) → row ≡ places p → v ≡ 2 ^ p .users → new ≡ sets old row (rows (shares A p xs k) (sets-with p k))
   unfolding sets-with

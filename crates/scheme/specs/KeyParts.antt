@@ -4,13 +4,14 @@
 --   block-item, block-value, block-values    the numbers of a block; a sum plus these times factors, for a block and for each
 --   Products                                 the first columns with the masks of all users, a row of most-blocks numbers a user
 --   set-sum, share-from, shares-from         sums of products over a set; the shares from these and the noise
---   Row-added                                a row of products added to a row of sums
+--   Row-added                                n products, from a place on, added to the first n of a row of sums
 --   Unreduced-weight, Unreduced-sums         totals modulo q that are not reduced yet, of summands up to `most`
 -- Assumes nothing: these are definitions.
 use mathlib.Core.Path.{_≡_}
 use mathlib.Core.List.{List, map}
 use Prim.Native.Nat.{ℕ, _+_, _*_, _-_, _%_, _≤_, _<_}
 use lib.ListN.{length, getD}
+use lib.Seq.{sets}
 use Rattle.scheme.specs.Limits.{most-blocks, cells}
 use Rattle.scheme.specs.Lists.{span, members}
 use Rattle.scheme.specs.Scheme.{Arithmetic, modular, sum, Plan, items, places, in-set, list-length}
@@ -58,9 +59,9 @@ unfoldable pub shares-from : Arithmetic → Plan → (products factors xs : List
 shares-from A p zs cs xs v from = map (share-from A p zs cs xs v from) (span (p .blocks) 0)
 
 -- ---- totals that are not reduced
-pub record Row-added (most : ℕ) (zs : List ℕ) (from : ℕ) (old new : List ℕ) : Type 0 where
-  pub small : (b : ℕ) → b < most-blocks → getD zs (from + b) 0 ≤ most
-  pub right : new ≡ map (λ b. getD old b 0 + getD zs (from + b) 0) (span most-blocks 0)
+pub record Row-added (most : ℕ) (zs : List ℕ) (from n : ℕ) (old new : List ℕ) : Type 0 where
+  pub small : (b : ℕ) → b < n → getD zs (from + b) 0 ≤ most
+  pub right : new ≡ sets old 0 (map (λ b. getD old b 0 + getD zs (from + b) 0) (span n 0))
 
 pub record Unreduced-weight (q most : ℕ) (cs : List ℕ) (n : ℕ) (f : ℕ → ℕ) (total : ℕ) : Type 0 where
   pub small : total ≤ n * most

@@ -1,26 +1,21 @@
 -- `keys::coefficients` meets its contract: one column a turn (KeyRows.row-more).
 use mathlib.Core.Path.{_≡_, refl, sym, ap, _∙_}
-use mathlib.Core.List.{List, map}
+use mathlib.Core.List.{map}
 use Prim.Native.Nat.{ℕ, _+_, _-_, _≤_}
 use native.Mathlib.Nat.{zero-add}
 use native.Mathlib.Omega.{arith}
-use lib.ListN.{length, getD}
+use lib.ListN.{length}
 use lib.Seq.{sets, length-sets}
 use borrow.Author.Needs.{needs}
 use Rattle.scheme.specs.Limits.{most-users}
 use Rattle.scheme.specs.Lists.{span}
 use Rattle.scheme.specs.Scheme.{sixteen}
-use Rattle.scheme.specs.KeyParts.{Coefficients}
 use Rattle.scheme.proofs.KeyRows.{row-more, row-at}
 use Rattle.keys.proofs.coefficients.Statement.{statement}
 use Rattle.keys.proofs.coefficients.Tie as tie
 
 abbrev those : (k first i : ℕ) → ℕ
 those k s i = sixteen .coefficient k (s + i)
-
-done : (k s n : ℕ) (old new : List ℕ) (i : ℕ) → i ≡ n → n ≤ length old → new ≡ sets old 0 (map (those k s) (span i 0)) → Coefficients sixteen k s n new
-done k s n old new i e l w =
-    record { each = λ j h. ap (λ (r : List ℕ). getD r j 0) w ∙ row-at old 0 (those k s) i j j (sym (zero-add j)) (omega arith) (omega arith) }
 
 abbrev Inv-loop : tie.InvT-loop
 Inv-loop user first n row₀ i₀ row i = (i ≤ n) × (row ≡ sets row₀ 0 (map (those user first) (span i 0)))
@@ -65,7 +60,8 @@ loop-again c =
 returns : tie.Need-returns Inv-loop μ-loop
 returns c =
     let l = c .before .loop in
-    done _ _ _ _ _ (l .i) (omega arith) (omega arith) (l .inv .1)
+    let a = c .before .before .args in
+    record { each = λ j h. row-at _ 0 (those (a .user) (a .first)) (l .i) (l .inv .1) j j (sym (zero-add j)) (omega arith) (omega arith) }
 
 pub coefficients-spec : {M : Type 1} → statement M
 coefficients-spec =

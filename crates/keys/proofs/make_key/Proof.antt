@@ -22,9 +22,6 @@ module _ (c : tie.Else1) where
       Key-input (plan-of (a .plan)) (a .user) (a .random .now) × (length (a .out .now) ≡ key-length (plan-of (a .plan)) (a .user))
   taken = key-accepted _ _ _ _ _ not-refused
 
-abbrev measured : tie.After-copy-masks → tie.After-places-of
-measured c = c .before .before
-
 refusal-requires : tie.Need-refusal-requires
 refusal-requires c κs = search needs
 
@@ -47,7 +44,7 @@ copy-masks-requires c κs =
 write-sets-requires : tie.Need-write-sets-requires
 write-sets-requires c κs =
     let m = c .before .before .before in
-    let d = measured m in
+    let d = m .before .before in
     let t = taken (d .before) in
     let e = d .places-of .ensures in
     (t .0, (e .0, e .1, m .copy-masks .kept .1 .1 .1 .0 ∙ t .1))
@@ -59,7 +56,7 @@ returns-2 : tie.Need-returns-2
 returns-2 c =
     let w = c .before .before in
     let m = w .before .before .before .before in
-    let d = measured m in
+    let d = m .before .before in
     let z = not-refused (d .before) in (
       sym z,
       key-whole _ _ _ _ _ _ _ _ (d .places-of .ensures .0) (taken (d .before) .1) (m .copy-masks .ensures) (w .write-sets .ensures)

@@ -1,13 +1,12 @@
 -- `keys::mask_products` meets its contract: one user a turn (KeyWriting.products-more).
-use mathlib.Core.Path.{_≡_, refl, sym, ap, _∙_}
-use mathlib.Core.List.{List}
+use mathlib.Core.Path.{_≡_, refl, sym, ap, _∙_, subst}
 use Prim.Native.Nat.{ℕ, _+_, _*_, _-_, _≤_}
 use native.Mathlib.Nat.{zero-mul}
 use native.Mathlib.Omega.{arith}
 use lib.ListN.{length}
 use borrow.Author.Needs.{needs}
 use Rattle.scheme.specs.Limits.{most-blocks}
-use Rattle.scheme.specs.Scheme.{sixteen, Plan, items, places}
+use Rattle.scheme.specs.Scheme.{sixteen, items, places}
 use Rattle.scheme.specs.KeyParts.{Products}
 use Rattle.scheme.proofs.Modular.{sixteen-sums}
 use Rattle.scheme.proofs.KeyPlaces.{row-in, row-next, rows-in}
@@ -15,9 +14,6 @@ use Rattle.scheme.proofs.KeyWriting.{products-start, products-more}
 use Rattle.plan.specs.Plan.{plan-of}
 use Rattle.keys.proofs.mask_products.Statement.{statement}
 use Rattle.keys.proofs.mask_products.Tie as tie
-
-done : {p : Plan} {u : ℕ} {xs : List ℕ} {k n : ℕ} {zs : List ℕ} → k ≡ n → Products sixteen p u xs k zs → Products sixteen p u xs n zs
-done e z = rw (← e) z
 
 abbrev Inv-loop : tie.InvT-loop
 Inv-loop plan user list row items low blocks zeros products₀ from₀ at₀ k₀ products from at k =
@@ -107,8 +103,9 @@ loop-again c =
 returns : tie.Need-returns Inv-loop μ-loop
 returns c =
     let l = c .before .before in
-    let e : l .loop .k ≡ begun l .args .plan .users = omega (arith, c .if1 .left, l .loop .inv .0) in
-    done e (l .loop .inv .3)
+    let a = begun l .args in
+    let e : l .loop .k ≡ a .plan .users = omega (arith, c .if1 .left, l .loop .inv .0) in
+    subst (λ n. Products sixteen (plan-of (a .plan)) (a .user) (a .list .now) n (l .loop .products)) e (l .loop .inv .3)
 
 pub mask-products-spec : {M : Type 1} → statement M
 mask-products-spec =

@@ -4,7 +4,7 @@ use native.Mathlib.Omega.{arith}
 use lib.ListN.{length}
 use borrow.Author.Tests.{eq-eqb, ne-eqb, not-true, not-false}
 use borrow.Author.Needs.{needs}
-use Rattle.scheme.specs.Scheme.{sixteen, elements, unless, start-refusal, key-refusal, list-length, key-length, _then_}
+use Rattle.scheme.specs.Scheme.{sixteen, elements, unless, start-refusal, key-refusal, list-length, _then_}
 use Rattle.scheme.proofs.Refusals.{then-refused, unless-held, unless-failed, start-taken}
 use Rattle.plan.specs.Plan.{plan-of}
 use Rattle.keys.proofs.refusal.Statement.{statement}
@@ -17,12 +17,9 @@ begun c = c .before .before .before
 start : (c : tie.Else1) → start-refusal (plan-of (begun c .args .plan)) (begun c .args .user) ≡ 0
 start c = sym (c .before .start-refusal .ensures) ∙ c .if1 .left
 
--- the list, and the buffer, has the right length
+-- the list has the right length
 list-long : (c : tie.Else2) → let a = begun (c .before .before) .args in length (a .random .now) ≡ list-length (plan-of (a .plan))
 list-long c = c .if2 .left ∙ c .before .list-of .ensures .0
-
-out-long : (c : tie.Else3) → let a = begun (c .before .before .before .before) .args in a .out ≡ key-length (plan-of (a .plan)) (a .user)
-out-long c = c .if3 .left ∙ c .before .key-of .ensures .0
 
 -- only test 3 is left
 test-3 : (c : tie.Else3) → let a = begun (c .before .before .before .before) .args in
@@ -30,7 +27,7 @@ test-3 : (c : tie.Else3) → let a = begun (c .before .before .before .before) .
 unfolding key-refusal _then_ unless
 test-3 c =
     let t = c .before .before in
-    rw (start (t .before .before), eq-eqb _ _ (list-long t), eq-eqb _ _ (out-long c))
+    rw (start (t .before .before), eq-eqb _ _ (list-long t), eq-eqb _ _ (c .if3 .left ∙ c .before .key-of .ensures .0))
 
 start-refusal-requires : tie.Need-start-refusal-requires
 start-refusal-requires c κs = search needs

@@ -1,7 +1,6 @@
 -- `keys::weigh` meets its contract: one number a turn (KeySums.weight-more).
 use mathlib.Core.Path.{_≡_}
-use mathlib.Core.List.{List}
-use Prim.Native.Nat.{ℕ, _+_, _-_, _≤_}
+use Prim.Native.Nat.{_+_, _-_, _≤_}
 use native.Mathlib.Omega.{arith}
 use lib.ListN.{getD}
 use borrow.Author.Needs.{needs}
@@ -12,10 +11,6 @@ use Rattle.scheme.proofs.KeySums.{weight-start, weight-more}
 use Rattle.keys.specs.Width.{most-product}
 use Rattle.keys.proofs.weigh.Statement.{statement}
 use Rattle.keys.proofs.weigh.Tie as tie
-
-done : {cs : List ℕ} {i n : ℕ} {f : ℕ → ℕ} {total : ℕ} → i ≡ n → Unreduced-weight q most-product cs i f total
-    → Unreduced-weight q most-product cs n f total
-done e d = rw (← e) d
 
 abbrev Inv-loop : tie.InvT-loop
 Inv-loop row n list from sum₀ i₀ sum i = (i ≤ n) × Unreduced-weight q most-product row i (λ j. getD list (from + j) 0) sum
@@ -60,7 +55,7 @@ returns : tie.Need-returns Inv-loop μ-loop
 returns c =
     let l = c .before .loop in
     let e : l .i ≡ c .before .before .before .args .n = omega arith in
-    done e (l .inv .1)
+    rw (← e) (l .inv .1)
 
 pub weigh-spec : {M : Type 1} → statement M
 weigh-spec =

@@ -52,57 +52,43 @@ same-length : tie.Need-same-length
 same-length c = search needs
 
 returns : tie.Need-returns
-returns c =
-    let s = c .before .before .before .before in
-    given (s .before .before .before) (s .match .keys1) (c .before .before .write-blocks-of .ensures)
+returns c = let s = c .before .before .before .before in given (s .before .before .before) (s .match .keys1) (c .before .before .write-blocks-of .ensures)
 
 same-length-2 : tie.Need-same-length-2
 same-length-2 c = search needs
 
 returns-2 : tie.Need-returns-2
-returns-2 c =
-    let s = c .before .before .before .before in
-    given (s .before .before .before) (s .match .keys2) (c .before .before .write-blocks-of2 .ensures)
+returns-2 c = let s = c .before .before .before .before in given (s .before .before .before) (s .match .keys2) (c .before .before .write-blocks-of2 .ensures)
 
 same-length-3 : tie.Need-same-length-3
 same-length-3 c = search needs
 
 returns-3 : tie.Need-returns-3
-returns-3 c =
-    let s = c .before .before .before .before in
-    given (s .before .before .before) (s .match .keys3) (c .before .before .write-blocks-of3 .ensures)
+returns-3 c = let s = c .before .before .before .before in given (s .before .before .before) (s .match .keys3) (c .before .before .write-blocks-of3 .ensures)
 
 same-length-4 : tie.Need-same-length-4
 same-length-4 c = search needs
 
 returns-4 : tie.Need-returns-4
-returns-4 c =
-    let s = c .before .before .before .before in
-    given (s .before .before .before) (s .match .keys4) (c .before .before .write-blocks-of4 .ensures)
+returns-4 c = let s = c .before .before .before .before in given (s .before .before .before) (s .match .keys4) (c .before .before .write-blocks-of4 .ensures)
 
 same-length-5 : tie.Need-same-length-5
 same-length-5 c = search needs
 
 returns-5 : tie.Need-returns-5
-returns-5 c =
-    let s = c .before .before .before .before in
-    given (s .before .before .before) (s .match .keys5) (c .before .before .write-blocks-of5 .ensures)
+returns-5 c = let s = c .before .before .before .before in given (s .before .before .before) (s .match .keys5) (c .before .before .write-blocks-of5 .ensures)
 
 same-length-6 : tie.Need-same-length-6
 same-length-6 c = search needs
 
 returns-6 : tie.Need-returns-6
-returns-6 c =
-    let s = c .before .before .before .before in
-    given (s .before .before .before) (s .match .keys6) (c .before .before .write-blocks-of6 .ensures)
+returns-6 c = let s = c .before .before .before .before in given (s .before .before .before) (s .match .keys6) (c .before .before .write-blocks-of6 .ensures)
 
 same-length-7 : tie.Need-same-length-7
 same-length-7 c = search needs
 
 returns-7 : tie.Need-returns-7
-returns-7 c =
-    let s = c .before .before .before .before in
-    given (s .before .before .before) refl (c .before .before .write-blocks-of7 .ensures)
+returns-7 c = let s = c .before .before .before .before in given (s .before .before .before) refl (c .before .before .write-blocks-of7 .ensures)
 
 pub write-blocks-spec : {M : Type 1} → statement M
 write-blocks-spec =

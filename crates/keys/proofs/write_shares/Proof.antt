@@ -29,7 +29,7 @@ returns c =
     let a = s .args in
     w .write-blocks .ensures
     ∙ ap (sets (now (a .out)) (a .at))
-    (sums-end (plan-of (a .plan)) (now (a .products)) (t .sum-rows .result) (now (a .high)) (now (a .list)) (a .set) (a .noise) (s .pre .0 .2) (t .sum-rows .ensures))
+    (sums-end (plan-of (a .plan)) (now (a .products)) _ (now (a .high)) (now (a .list)) (a .set) (a .noise) (s .pre .0 .2) (t .sum-rows .ensures))
 
 pub write-shares-spec : {M : Type 1} → statement M
 write-shares-spec = tie.close (tie.spec cast-blocks sum-rows-requires write-blocks-requires same-length returns)
