@@ -33,10 +33,7 @@ weight-start q most cs f = record { small = omega arith; right = zero-mod q }
 pub weight-more : {q n m : ℕ} → Laws (modular q) n m → {most : ℕ} {cs : List ℕ} {i : ℕ} {f : ℕ → ℕ} {total x : ℕ}
     → Unreduced-weight q most cs i f total → (x ≡ getD cs i 0 * f i) × (x ≤ most) → Unreduced-weight q most cs (i + 1) f (total + x)
 weight-more L {most} {cs} {i} {f} d h =
-    record {
-      small = omega (arith, d .small, row-next i most);
-      right = sym (weighed-more L cs i f ∙ rw (← d .right, mod-add-mod, ← h .0));
-    }
+    record { small = omega (arith, d .small, row-next i most); right = sym (weighed-more L cs i f ∙ rw (← d .right, mod-add-mod, ← h .0)) }
 
 pub weight-end : {q most : ℕ} (sums cs : List ℕ) (n : ℕ) (xs : List ℕ) (start from b total : ℕ) → from ≡ start + b * n
     → Unreduced-weight q most cs n (λ i. getD xs (from + i) 0) total → (getD sums b 0 + total) % q ≡ block-value (modular q) sums cs n xs start b

@@ -87,11 +87,7 @@ pub record Written (A : Arithmetic) (p : Plan) (k : ℕ) (xs old new : List ℕ)
 pub written-start : (A : Arithmetic) (p : Plan) (k : ℕ) (xs old : List ℕ) (row : ℕ) → row ≡ places p → Written A p k xs old old (p .users * row) row 0
 unfolding noise-start reply-start rank
 written-start A p k xs old row e =
-    record {
-      noise-is = rw (e, zero-mul, zero-add, zero-mul, add-zero);
-      at-is = rw (e, zero-mul, add-zero);
-      written = refl;
-    }
+    record { noise-is = rw (e, zero-mul, zero-add, zero-mul, add-zero); at-is = rw (e, zero-mul, add-zero); written = refl }
 
 module _ {A : Arithmetic} {p : Plan} {k : ℕ} {xs old new : List ℕ} {noise at v : ℕ} (g : Written A p k xs old new noise at v) where
   moved : (next : List ℕ) → next ≡ sets old (places p) (rows (shares A p xs k) (members (usable-with p k) (v + 1) 0)) →

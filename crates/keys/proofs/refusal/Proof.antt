@@ -10,19 +10,16 @@ use Rattle.plan.specs.Plan.{plan-of}
 use Rattle.keys.proofs.refusal.Statement.{statement}
 use Rattle.keys.proofs.refusal.Tie as tie
 
-abbrev begun : tie.Else1 → tie.Start
-begun c = c .before .before .before
-
 -- the start is not refused
-start : (c : tie.Else1) → start-refusal (plan-of (begun c .args .plan)) (begun c .args .user) ≡ 0
+start : (c : tie.Else1) → let a = c .before .before .before .args in start-refusal (plan-of (a .plan)) (a .user) ≡ 0
 start c = sym (c .before .start-refusal .ensures) ∙ c .if1 .left
 
 -- the list has the right length
-list-long : (c : tie.Else2) → let a = begun (c .before .before) .args in length (a .random .now) ≡ list-length (plan-of (a .plan))
+list-long : (c : tie.Else2) → let t = c .before .before in let a = t .before .before .before .args in length (a .random .now) ≡ list-length (plan-of (a .plan))
 list-long c = c .if2 .left ∙ c .before .list-of .ensures .0
 
 -- only test 3 is left
-test-3 : (c : tie.Else3) → let a = begun (c .before .before .before .before) .args in
+test-3 : (c : tie.Else3) → let t = c .before .before .before .before in let a = t .before .before .before .args in
     key-refusal sixteen (plan-of (a .plan)) (a .user) (a .random .now) (a .out) ≡ unless (elements sixteen (a .random .now)) 3
 unfolding key-refusal _then_ unless
 test-3 c =

@@ -1,6 +1,5 @@
 -- `keys::write_shares` meets its contract: the sums are those over the set (KeySums.sums-end).
 use mathlib.Core.Path.{ap, _∙_}
-use native.Mathlib.Omega.{arith}
 use lib.Seq.{sets}
 use denote.Ref.{now}
 use borrow.Author.Needs.{needs}
