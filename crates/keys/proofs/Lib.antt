@@ -1,8 +1,2 @@
--- Laws that the proofs of the functions cite, and in Promise the statement of specs/Promise.antt.
-pub mod Sums
-pub mod Rows
-pub mod Places
-pub mod Shares
-pub mod Writing
-pub mod Accepted
+-- Promise: the statement of specs/Promise.antt. What the proofs of the functions cite is in scheme's proofs.
 pub mod Promise

@@ -1,9 +1,10 @@
 -- A refused key maker leaves the lent buffer as it was.
 --   refused-unchanged   the statement of specs/Promise.antt
 -- Assumes nothing.
+use Rattle.scheme.specs.Scheme.{Arithmetic}
 use Rattle.scheme.proofs.Refusals.{after-refused}
 use Rattle.keys.specs.Promise.{Refused-unchanged}
 
-pub refused-unchanged : Refused-unchanged
+pub refused-unchanged : (A : Arithmetic) → Refused-unchanged A
 unfolding Refused-unchanged
-refused-unchanged p k xs o h = after-refused h _ o
+refused-unchanged A p k xs o h = after-refused h _ o

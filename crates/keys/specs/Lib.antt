@@ -1,3 +1,4 @@
--- Promise: what the key maker leaves, beside scheme's specs/Scheme.antt. Parts serves the functions behind it.
+-- Promise: what the key maker leaves, beside scheme's specs/Scheme.antt. The functions behind it also cite scheme's specs/KeyParts.antt
+-- and Width.
 pub mod Promise
-pub mod Parts
+pub mod Width

@@ -21,3 +21,9 @@ pub mod Well
 pub mod Choices
 pub mod Service
 pub mod Threshold
+pub mod Weighed
+pub mod KeyRows
+pub mod KeyPlaces
+pub mod KeyShares
+pub mod KeySums
+pub mod KeyWriting

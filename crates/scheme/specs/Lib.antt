@@ -12,3 +12,5 @@ pub mod Laws
 pub mod Modular
 pub mod Delta
 pub mod Sharp
+pub mod Weighed
+pub mod KeyParts

@@ -1,51 +1,57 @@
--- `keys::add_row` meets its contract: one sum a turn (Rows).
-use Prim.Native.Nat.{_+_, _-_}
-use native.Mathlib.Nat.{le-refl}
+-- `keys::add_row` meets its contract: one sum a turn (KeySums.added-more).
+use mathlib.Core.Path.{_≡_, _∙_}
+use Prim.Native.Nat.{_-_, _≤_}
 use native.Mathlib.Omega.{arith}
-use lib.ListN.{getD}
+use lib.ListN.{length}
 use borrow.Author.Needs.{needs}
-use Rattle.keys.proofs.Rows.{Rising, rising-none, rising-more, rising-done}
+use Rattle.scheme.specs.Limits.{most-blocks}
+use Rattle.scheme.specs.KeyParts.{Row-added}
+use Rattle.scheme.proofs.KeySums.{added-start, added-more, added-long, added-rest}
+use Rattle.keys.specs.Width.{most-number}
 use Rattle.keys.proofs.add_row.Statement.{statement}
 use Rattle.keys.proofs.add_row.Tie as tie
 
 abbrev Inv-loop : tie.InvT-loop
-Inv-loop sums₀ products from i₀ sums i = Rising (λ j. getD products (from + j) 0) 65535 16 sums₀ sums i
+Inv-loop sums₀ products from i₀ sums i = (i ≤ most-blocks) × Row-added most-number products from i sums₀ sums
 
 abbrev μ-loop : tie.MeasureT-loop
-μ-loop sums₀ products from i₀ sums i = 16 - i
+μ-loop sums₀ products from i₀ sums i = most-blocks - i
+
+-- the sums keep their length
+long : (c : tie.At-loop Inv-loop μ-loop) → length (c .loop .sums) ≡ most-blocks
+long c = added-long (c .loop .inv .1) ∙ c .before .pre .0 .1
 
 loop-holds : tie.Need-loop-holds Inv-loop μ-loop
-loop-holds c = rising-none _ _ _ _
+loop-holds c = (search needs, added-start _ _ _ _)
 
 mul-sums : tie.Need-mul-sums Inv-loop μ-loop
 mul-sums c = search needs
 
 element-copy-out-sums : tie.Need-element-copy-out-sums Inv-loop μ-loop
-element-copy-out-sums c = search needs
+element-copy-out-sums c = omega (arith, long (c .before))
 
-add-wide : tie.Need-add-wide Inv-loop μ-loop
-add-wide c = search needs
+add-widened : tie.Need-add-widened Inv-loop μ-loop
+add-widened c = search needs
 
-mul-wide : tie.Need-mul-wide Inv-loop μ-loop
-mul-wide c = search needs
+mul-widened : tie.Need-mul-widened Inv-loop μ-loop
+mul-widened c = search needs
 
-element-copy-out-wide : tie.Need-element-copy-out-wide Inv-loop μ-loop
-element-copy-out-wide c = search needs
+element-copy-out-widened : tie.Need-element-copy-out-widened Inv-loop μ-loop
+element-copy-out-widened c = search needs
 
-wide-requires : tie.Need-wide-requires Inv-loop μ-loop
-wide-requires c κs = search needs
+widened-requires : tie.Need-widened-requires Inv-loop μ-loop
+widened-requires c κs = search needs
 
 add-sums : tie.Need-add-sums Inv-loop μ-loop
 add-sums c =
-    let i = c .before .before .before .before .loop in
-    let s = c .before .before .before .before .before in
-    omega (arith, i .inv .rest (i .i) (le-refl _), s .pre .1 (i .i) (c .before .before .before .loop-test .taken), c .wide .ensures .1)
+    let l = c .before .before .before .before in
+    omega (arith, added-rest (l .loop .inv .1), l .before .pre .1 (l .loop .i) (c .before .before .before .loop-test .taken), c .widened .ensures)
 
 mul-sums-2 : tie.Need-mul-sums-2 Inv-loop μ-loop
 mul-sums-2 c = search needs
 
 element-write-sums : tie.Need-element-write-sums Inv-loop μ-loop
-element-write-sums c = search needs
+element-write-sums c = omega (arith, long (c .before .before .before .before))
 
 add-i : tie.Need-add-i Inv-loop μ-loop
 add-i c = search needs
@@ -54,10 +60,12 @@ loop-less : tie.Need-loop-less Inv-loop μ-loop
 loop-less c = search needs
 
 loop-again : tie.Need-loop-again Inv-loop μ-loop
-loop-again c = rising-more (c .before .before .before .before .loop .inv) (c .before .before .before .loop-test .taken) (omega arith) _ (c .wide .ensures)
+loop-again c = (omega (arith, c .before .before .before .loop-test .taken), added-more (c .before .before .before .before .loop .inv .1) _ (c .widened .ensures))
 
 returns : tie.Need-returns Inv-loop μ-loop
-returns c = rising-done (c .before .loop .inv) (omega arith)
+returns c =
+    let e : c .before .loop .i ≡ most-blocks = omega arith in
+    rw (← e) (c .before .loop .inv .1)
 
 pub add-row-spec : {M : Type 1} → statement M
 add-row-spec =
@@ -68,10 +76,10 @@ add-row-spec =
     loop-holds
     mul-sums
     element-copy-out-sums
-    add-wide
-    mul-wide
-    element-copy-out-wide
-    wide-requires
+    add-widened
+    mul-widened
+    element-copy-out-widened
+    widened-requires
     add-sums
     mul-sums-2
     element-write-sums

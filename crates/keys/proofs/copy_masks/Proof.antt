@@ -1,17 +1,17 @@
--- `keys::copy_masks` meets its contract: what is written so far is the masks so far (Lists.sets-more).
+-- `keys::copy_masks` meets its contract: what is written so far is the masks so far (KeyRows.row-more).
 use mathlib.Core.Path.{_≡_, refl, sym, ap, ap₂, _∙_}
-use mathlib.Core.List.{List, map}
+use mathlib.Core.List.{map}
 use Prim.Native.Nat.{ℕ, _+_, _*_, _-_, _≤_}
 use native.Mathlib.Nat.{zero-add}
 use native.Mathlib.Omega.{arith}
-use lib.ListN.{length, getD, set}
+use lib.ListN.{length, getD}
 use lib.Seq.{sets, length-sets}
 use borrow.Author.Needs.{needs}
 use Rattle.scheme.specs.Lists.{span}
 use Rattle.scheme.specs.Scheme.{mask}
-use Rattle.scheme.proofs.Lists.{sets-more}
+use Rattle.scheme.proofs.KeyRows.{row-more}
+use Rattle.scheme.proofs.KeyPlaces.{rows-in, row-in}
 use Rattle.plan.specs.Plan.{plan-of}
-use Rattle.keys.proofs.Places.{rows-in, row-in}
 use Rattle.keys.proofs.copy_masks.Statement.{statement}
 use Rattle.keys.proofs.copy_masks.Tie as tie
 
@@ -26,7 +26,8 @@ inside : (c : tie.Start Inv-loop μ-loop) → (c .args .user - 1) * c .args .row
 inside c =
     let a = c .args in
     let r = c .pre .0 in
-    omega (arith, row-in (a .user - 1) (a .plan .users) (a .row) (omega arith), ap (λ (x : ℕ). a .plan .users * x) (c .pre .1 .0), rows-in (plan-of (a .plan)))
+    let k = row-in (a .user - 1) (a .plan .users) (a .row) (omega arith) in
+    omega (arith, k, ap (λ (x : ℕ). a .plan .users * x) (c .pre .1 .0), rows-in (plan-of (a .plan)))
 
 -- the buffer keeps its length
 long : (c : tie.At-loop Inv-loop μ-loop) → length (c .loop .out) ≡ length (c .before .args .out .now)
@@ -68,11 +69,8 @@ loop-less c = search needs
 loop-again : tie.Need-loop-again Inv-loop μ-loop
 loop-again c =
     let i = c .before .before .loop in
-    let a = c .before .before .before .args in (
-      omega arith,
-      ap₂ (λ (l : List ℕ) (n : ℕ). set l n (getD (a .list .now) ((a .user - 1) * a .row + i .i) 0)) (i .inv .1) (sym (zero-add (i .i)))
-          ∙ sets-more (a .out .now) 0 (i .i) (λ j. getD (a .list .now) ((a .user - 1) * a .row + j) 0),
-    )
+    let a = c .before .before .before .args in
+    (omega arith, row-more (a .out .now) 0 (λ j. getD (a .list .now) ((a .user - 1) * a .row + j) 0) (i .i) (i .inv .1) (sym (zero-add (i .i))) refl)
 
 same-length : tie.Need-same-length Inv-loop μ-loop
 same-length c = long (c .before)
@@ -83,7 +81,8 @@ returns c =
     let i = c .before .loop in
     let a = c .before .before .args in
     let e : i .i ≡ a .row = omega arith in
-    i .inv .1 ∙ ap₂ (λ (n row : ℕ). sets (a .out .now) 0 (map (λ j. getD (a .list .now) ((a .user - 1) * row + j) 0) (span n 0))) e (c .before .before .pre .1 .0)
+    i .inv .1
+    ∙ ap₂ (λ (n row : ℕ). sets (a .out .now) 0 (map (λ j. getD (a .list .now) ((a .user - 1) * row + j) 0) (span n 0))) e (c .before .before .pre .1 .0)
 
 pub copy-masks-spec : {M : Type 1} → statement M
 copy-masks-spec =

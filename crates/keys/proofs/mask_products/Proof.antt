@@ -1,63 +1,32 @@
--- `keys::mask_products` meets its contract: one user a turn.
-use mathlib.Core.Path.{_≡_, refl, sym, ap, _∙_}
-use mathlib.Core.Logic.{⊎-elim}
-use mathlib.Core.List.{List, map}
-use Prim.Native.Nat.{ℕ, _+_, _*_, _-_, _%_, _≤_, _<_}
-use native.Mathlib.Nat.{zero-add, zero-mul, eq-or-lt-of-le, mod-eq-of-lt}
+-- `keys::mask_products` meets its contract: one user a turn (KeyWriting.products-more).
+use mathlib.Core.Path.{_≡_, refl, sym, ap, _∙_, subst}
+use Prim.Native.Nat.{ℕ, _+_, _*_, _-_, _≤_}
+use native.Mathlib.Nat.{zero-mul}
 use native.Mathlib.Omega.{arith}
-use lib.ListN.{length, getD, replicate, length-replicate}
-use lib.Seq.{sets, length-sets}
+use lib.ListN.{length}
 use borrow.Author.Needs.{needs}
-use Rattle.scheme.specs.Lists.{span}
-use Rattle.scheme.specs.Scheme.{q, Plan, items, places}
-use Rattle.scheme.proofs.Tests.{none-below}
-use Rattle.scheme.proofs.Lists.{zeros-at}
+use Rattle.scheme.specs.Limits.{most-blocks}
+use Rattle.scheme.specs.Scheme.{sixteen, items, places}
+use Rattle.scheme.specs.KeyParts.{Products}
+use Rattle.scheme.proofs.Modular.{sixteen-sums}
+use Rattle.scheme.proofs.KeyPlaces.{row-in, row-next, rows-in}
+use Rattle.scheme.proofs.KeyWriting.{products-start, products-more}
 use Rattle.plan.specs.Plan.{plan-of}
-use Rattle.keys.specs.Parts.{Coefficients, weighed, part-at, block-value, dot, Products}
-use Rattle.keys.proofs.Sums.{weighed-dot, weighed-small}
-use Rattle.keys.proofs.Rows.{row-before, row-at}
-use Rattle.keys.proofs.Places.{row-in, row-next, rows-in}
 use Rattle.keys.proofs.mask_products.Statement.{statement}
 use Rattle.keys.proofs.mask_products.Tie as tie
 
-none : (p : Plan) (u : ℕ) (xs : List ℕ) → Products p u xs 0 (replicate 128 0)
-none p u xs = record { long = length-replicate {A = ℕ} 128 0; each = λ i b h l. absurd (none-below i h) }
-
--- the value of a block on a row of zeros
-alone : {k w : ℕ} {cs : List ℕ} → Coefficients k 1 w cs → (xs : List ℕ) (from b : ℕ)
-    → block-value (replicate 16 0) cs w xs from b ≡ dot k 1 w (part-at xs from w b)
-unfolding block-value
-alone {k} {w} {cs} c xs from b =
-    ap (λ (n : ℕ). (n + weighed cs w (part-at xs from w b)) % q) (zeros-at 16 b)
-    ∙ ap (λ (n : ℕ). n % q) (zero-add _) ∙ mod-eq-of-lt (weighed-small cs w _) ∙ weighed-dot c (part-at xs from w b)
-
-more : {p : Plan} {u : ℕ} {xs : List ℕ} {k : ℕ} {old : List ℕ} {cs : List ℕ} → Products p u xs k old → Coefficients u 1 (items p) cs →
-    p .blocks ≤ 16 → k < 8 → (from at : ℕ) → from ≡ k * places p → at ≡ k * 16 →
-    Products p u xs (k + 1) (sets old at (map (block-value (replicate 16 0) cs (items p) xs from) (span (p .blocks) 0)))
-more {p} {u} {xs} {k} {old} {cs} z c few h from at e d =
-    let f : ℕ → ℕ = block-value (replicate 16 0) cs (items p) xs from in
-    record {
-      long = length-sets old at (map f (span (p .blocks) 0)) ∙ z .long;
-      each = λ i b m l. ⊎-elim
-          (λ (n : i ≡ k).
-          let a : i * 16 + b ≡ at + b = omega arith in
-          ap (λ (j : ℕ). getD (sets old at (map f (span (p .blocks) 0))) j 0) a
-          ∙ row-at old at f (p .blocks) b l (omega (arith, z .long))
-          ∙ alone c xs from b
-          ∙ ap (λ (j : ℕ). dot u 1 (items p) (part-at xs j (items p) b)) (e ∙ ap (λ (j : ℕ). j * places p) (sym n)))
-          (λ (n : i < k). row-before old at f (p .blocks) (i * 16 + b) (omega arith) ∙ z .each i b n l)
-          (eq-or-lt-of-le (omega arith));
-    }
-
-done : {p : Plan} {u : ℕ} {xs : List ℕ} {k n : ℕ} {zs : List ℕ} → k ≡ n → Products p u xs k zs → Products p u xs n zs
-done e z = rw (← e) z
-
 abbrev Inv-loop : tie.InvT-loop
 Inv-loop plan user list row items low blocks zeros products₀ from₀ at₀ k₀ products from at k =
-    (k ≤ plan .users) × (from ≡ k * row) × (at ≡ k * 16) × Products (plan-of plan) user list k products
+    (k ≤ plan .users) × (from ≡ k * row) × (at ≡ k * most-blocks) × Products sixteen (plan-of plan) user list k products
 
 abbrev μ-loop : tie.MeasureT-loop
 μ-loop plan user list row items low blocks zeros products₀ from₀ at₀ k₀ products from at k = plan .users - k
+
+abbrev weighing : tie.At-loop Inv-loop μ-loop → tie.After-coefficients Inv-loop μ-loop
+weighing c = c .before .before .before .before
+
+abbrev begun : tie.At-loop Inv-loop μ-loop → tie.Start Inv-loop μ-loop
+begun c = weighing c .before .before .before
 
 sub-items : tie.Need-sub-items Inv-loop μ-loop
 sub-items c = search needs
@@ -75,46 +44,36 @@ no-products-requires : tie.Need-no-products-requires Inv-loop μ-loop
 no-products-requires c κs = search needs
 
 loop-holds : tie.Need-loop-holds Inv-loop μ-loop
-loop-holds c = (search needs, sym (zero-mul _), refl, rw (c .no-products .ensures) (none _ _ _))
+loop-holds c = (search needs, sym (zero-mul _), refl, rw (c .no-products .ensures) (products-start _ _ _ _))
 
 -- in a turn: the user's masks lie in the list
-inside : (c : tie.Then1 Inv-loop μ-loop)
-    → let l = c .before .before in
-    let m = l .before .before .before in
-    let a = m .before .before .before .before .args in
-    l .loop .from + a .row ≤ length (a .list .now)
+inside : (c : tie.Then1 Inv-loop μ-loop) → let l = c .before .before in let a = begun l .args in l .loop .from + a .row ≤ length (a .list .now)
 inside c =
     let l = c .before .before in
-    let m = l .before .before .before in
-    let s = m .before .before .before .before in
-    let a = s .args in
     let i = l .loop in
-    omega (
-      arith,
-      i .inv .1,
-      row-in (i .k) (a .plan .users) (a .row) (c .if1 .taken),
-      rows-in (plan-of (a .plan)),
-      ap (λ (x : ℕ). a .plan .users * x) (s .pre .1 .0),
-      s .pre .0 .long,
-    )
+    let s = begun l in
+    let a = s .args in
+    let k = row-in (i .k) (a .plan .users) (a .row) (c .if1 .taken) in
+    omega (arith, i .inv .1, k, rows-in (plan-of (a .plan)), ap (λ (x : ℕ). a .plan .users * x) (s .pre .1 .0), s .pre .0 .long)
 
-slice-aggregate-put-by : tie.Need-slice-aggregate-put-by Inv-loop μ-loop
-slice-aggregate-put-by c = search needs
+slice-aggregate-write-blocks : tie.Need-slice-aggregate-write-blocks Inv-loop μ-loop
+slice-aggregate-write-blocks c = search needs
 
-put-by-requires : tie.Need-put-by-requires Inv-loop μ-loop
+write-blocks-requires : tie.Need-write-blocks-requires Inv-loop μ-loop
 unfolding items places
-put-by-requires c κs =
+write-blocks-requires c κs =
     let t = c .before .before .before in
-    let i = t .before .before .loop in
-    let m = t .before .before .before .before in
-    let s = m .before .before .before .before .before in
-    (omega arith, omega arith, omega arith, omega (arith, inside t, s .pre .1 .0), omega (arith, i .inv .2, i .inv .3 .long, t .if1 .taken))
+    let l = t .before .before in
+    let i = l .loop in
+    let s = begun l in
+    (omega arith, omega arith, omega (arith, inside t, s .pre .1 .0), omega (arith, i .inv .2, i .inv .3 .long, t .if1 .taken))
+
+-- the place in a turn that a call has left
+abbrev turn : tie.After-products2 Inv-loop μ-loop → tie.Then1 Inv-loop μ-loop
+turn c = let w = c .before .before in w .before .before .before
 
 add-from : tie.Need-add-from Inv-loop μ-loop
-add-from c =
-    let t = c .before .before .before .before .before in
-    let m = t .before .before .before .before in
-    omega (arith, inside t, m .before .before .before .before .before .good)
+add-from c = omega (arith, inside (turn c), begun (turn c .before .before) .good)
 
 add-at : tie.Need-add-at Inv-loop μ-loop
 add-at c = search needs
@@ -128,24 +87,25 @@ loop-less c = search needs
 loop-again : tie.Need-loop-again Inv-loop μ-loop
 unfolding items
 loop-again c =
-    let t = c .before .before .before .before .before in
-    let i = t .before .before .loop in
-    let m = t .before .before .before .before in
-    let s = m .before .before .before .before .before in (
+    let t = turn c in
+    let l = t .before .before in
+    let i = l .loop in
+    let s = begun l in
+    let few = s .pre .0 .good .blocks-high in (
       omega (arith, t .if1 .taken),
       ap (λ (n : ℕ). n + s .args .row) (i .inv .1) ∙ row-next (i .k) (s .args .row),
       omega (arith, i .inv .2),
-      rw (c .before .put-by .ensures, m .no-sums .ensures)
-          (more (i .inv .3) (m .before .before .coefficients .ensures) (s .pre .0 .good .blocks-high) (omega (arith, t .if1 .taken)) _ _
+      rw (c .before .write-blocks .ensures, l .before .before .no-sums .ensures)
+          (products-more sixteen-sums (i .inv .3) (weighing l .coefficients .ensures) few (omega (arith, t .if1 .taken)) _ _
           (i .inv .1 ∙ ap (λ (n : ℕ). i .k * n) (s .pre .1 .0)) (i .inv .2)),
     )
 
 returns : tie.Need-returns Inv-loop μ-loop
 returns c =
-    let i = c .before .before .loop in
-    let m = c .before .before .before .before in
-    let e : i .k ≡ m .before .before .before .before .before .args .plan .users = omega (arith, c .if1 .left, i .inv .0) in
-    done e (i .inv .3)
+    let l = c .before .before in
+    let a = begun l .args in
+    let e : l .loop .k ≡ a .plan .users = omega (arith, c .if1 .left, l .loop .inv .0) in
+    subst (λ n. Products sixteen (plan-of (a .plan)) (a .user) (a .list .now) n (l .loop .products)) e (l .loop .inv .3)
 
 pub mask-products-spec : {M : Type 1} → statement M
 mask-products-spec =
@@ -159,8 +119,8 @@ mask-products-spec =
     no-sums-requires
     no-products-requires
     loop-holds
-    slice-aggregate-put-by
-    put-by-requires
+    slice-aggregate-write-blocks
+    write-blocks-requires
     add-from
     add-at
     add-k

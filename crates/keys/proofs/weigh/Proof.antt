@@ -1,26 +1,25 @@
--- `keys::dot` meets its contract: one number a turn (Sums.dotted-more).
+-- `keys::weigh` meets its contract: one number a turn (KeySums.weight-more).
 use mathlib.Core.Path.{_≡_}
-use mathlib.Core.List.{List}
-use Prim.Native.Nat.{ℕ, _+_, _-_, _≤_}
+use Prim.Native.Nat.{_+_, _-_, _≤_}
 use native.Mathlib.Omega.{arith}
 use lib.ListN.{getD}
 use borrow.Author.Needs.{needs}
-use Rattle.keys.specs.Parts.{Dotted}
-use Rattle.keys.proofs.Sums.{dotted-none, dotted-more}
-use Rattle.keys.proofs.dot.Statement.{statement}
-use Rattle.keys.proofs.dot.Tie as tie
-
-done : {cs : List ℕ} {i n : ℕ} {f : ℕ → ℕ} {total : ℕ} → i ≡ n → Dotted cs i f total → Dotted cs n f total
-done e d = rw (← e) d
+use Rattle.scheme.specs.Scheme.{q}
+use Rattle.scheme.specs.KeyParts.{Unreduced-weight}
+use Rattle.scheme.proofs.Modular.{sixteen-sums}
+use Rattle.scheme.proofs.KeySums.{weight-start, weight-more}
+use Rattle.keys.specs.Width.{most-product}
+use Rattle.keys.proofs.weigh.Statement.{statement}
+use Rattle.keys.proofs.weigh.Tie as tie
 
 abbrev Inv-loop : tie.InvT-loop
-Inv-loop row n list from sum₀ i₀ sum i = (i ≤ n) × Dotted row i (λ j. getD list (from + j) 0) sum
+Inv-loop row n list from sum₀ i₀ sum i = (i ≤ n) × Unreduced-weight q most-product row i (λ j. getD list (from + j) 0) sum
 
 abbrev μ-loop : tie.MeasureT-loop
 μ-loop row n list from sum₀ i₀ sum i = n - i
 
 loop-holds : tie.Need-loop-holds Inv-loop μ-loop
-loop-holds c = (search needs, dotted-none _ _)
+loop-holds c = (search needs, weight-start _ _ _ _)
 
 mul-times : tie.Need-mul-times Inv-loop μ-loop
 mul-times c = search needs
@@ -50,16 +49,16 @@ loop-less : tie.Need-loop-less Inv-loop μ-loop
 loop-less c = search needs
 
 loop-again : tie.Need-loop-again Inv-loop μ-loop
-loop-again c = (omega arith, dotted-more (c .before .before .before .before .loop .inv .1) (c .times .ensures))
+loop-again c = (omega arith, weight-more sixteen-sums (c .before .before .before .before .loop .inv .1) (c .times .ensures))
 
 returns : tie.Need-returns Inv-loop μ-loop
 returns c =
     let l = c .before .loop in
     let e : l .i ≡ c .before .before .before .args .n = omega arith in
-    done e (l .inv .1)
+    rw (← e) (l .inv .1)
 
-pub dot-spec : {M : Type 1} → statement M
-dot-spec =
+pub weigh-spec : {M : Type 1} → statement M
+weigh-spec =
     tie.close
     (tie.spec
     Inv-loop

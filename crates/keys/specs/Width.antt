@@ -1,0 +1,10 @@
+-- What the key maker's numbers go up to.
+--   most-number, most-product   a number of 16 bits, and a product of two
+-- Assumes nothing: these are definitions.
+use Prim.Native.Nat.{ℕ, _*_}
+
+abbrev pub most-number : ℕ
+most-number = 65535
+
+abbrev pub most-product : ℕ
+most-product = most-number * most-number
