@@ -1,4 +1,4 @@
--- `plan::places_of` meets its contract: at most 16 blocks of at most 6 items.
+-- `plan::places_of` meets its contract: at most most-blocks blocks of at most most-items items.
 -- Assumes nothing.
 use mathlib.Core.Path.{refl}
 use native.Mathlib.Omega.{arith}
