@@ -17,7 +17,7 @@ use Rattle.scheme.specs.Lists.{each}
 use Rattle.scheme.specs.Scheme.{Arithmetic, elements, places, in-set, usable, usable-with, key-length, first-message, is-fresh, open-to, start-refusal, message-refusal, reply-refusal, unless, _then_}
 use Rattle.scheme.proofs.Tests.{both, joined}
 use Rattle.scheme.proofs.Refusals.{then-zero, unless-zero}
-use Rattle.plan.proofs.Laws.{masks-inside}
+use Rattle.scheme.proofs.PlanBounds.{masks-inside}
 use Rattle.client.specs.Client.{stage-of-number}
 
 pub stage-answered : (s : ℕ) → (s ≡ 0 → ⊥) → (s ≡ 1 → ⊥) → stage-of-number s ≡ scheme.answered (s - 2)

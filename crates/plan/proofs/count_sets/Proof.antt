@@ -5,7 +5,7 @@ use native.Mathlib.Nat.{one-mul, mod-eq-of-lt}
 use native.Mathlib.Omega.{arith}
 use borrow.Author.Needs.{needs}
 use Rattle.scheme.specs.Limits.{most-sets}
-use Rattle.plan.proofs.Laws.{sets-le}
+use Rattle.scheme.proofs.PlanBounds.{sets-le}
 use Rattle.plan.proofs.count_sets.Statement.{statement}
 use Rattle.plan.proofs.count_sets.Tie as tie
 

@@ -1,7 +1,7 @@
 -- `plan::key_of` meets its contract: masks and shares are each bounded for a good plan. Assumes nothing.
 use native.Mathlib.Omega.{arith}
 use Rattle.scheme.specs.Scheme.{key-length}
-use Rattle.plan.proofs.Laws.{shares-le}
+use Rattle.scheme.proofs.PlanBounds.{shares-le}
 use borrow.Author.Needs.{needs}
 use Rattle.plan.proofs.key_of.Statement.{statement}
 use Rattle.plan.proofs.key_of.Tie as tie

@@ -3,7 +3,7 @@
 use native.Mathlib.Omega.{arith}
 use borrow.Author.Needs.{needs}
 use Rattle.scheme.specs.Scheme.{list-length}
-use Rattle.plan.proofs.Laws.{masks-le, shares-le, noise-le}
+use Rattle.scheme.proofs.PlanBounds.{masks-le, shares-le, noise-le}
 use Rattle.plan.proofs.list_of.Statement.{statement}
 use Rattle.plan.proofs.list_of.Tie as tie
 

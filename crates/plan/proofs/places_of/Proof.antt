@@ -4,7 +4,7 @@ use mathlib.Core.Path.{refl}
 use native.Mathlib.Omega.{arith}
 use borrow.Author.Needs.{needs}
 use Rattle.scheme.specs.Scheme.{places, items}
-use Rattle.plan.proofs.Laws.{places-le}
+use Rattle.scheme.proofs.PlanBounds.{places-le}
 use Rattle.plan.proofs.places_of.Statement.{statement}
 use Rattle.plan.proofs.places_of.Tie as tie
 

@@ -6,7 +6,7 @@ use borrow.Author.Needs.{needs}
 use Rattle.scheme.specs.Limits.{most-sets}
 use Rattle.scheme.specs.Scheme.{reply-start}
 use Rattle.plan.specs.Plan.{plan-of}
-use Rattle.plan.proofs.Laws.{sets-le, shares-le}
+use Rattle.scheme.proofs.PlanBounds.{sets-le, shares-le}
 use Rattle.plan.proofs.reply_start.Statement.{statement}
 use Rattle.plan.proofs.reply_start.Tie as tie
 

@@ -11,7 +11,7 @@ use Rattle.scheme.specs.Scheme.{sixteen, reply}
 use Rattle.scheme.proofs.Refusals.{after-taken, after-refused, start-taken}
 use Rattle.plan.specs.Plan.{plan-of}
 use Rattle.scheme.proofs.Sets.{usable-below}
-use Rattle.plan.proofs.Laws.{reply-inside}
+use Rattle.scheme.proofs.PlanBounds.{reply-inside}
 use Rattle.client.specs.Client.{answer-refusal, part-of, part-start}
 use Rattle.client.proofs.Laws.{Answers, reply-answers, answers-held}
 use Rattle.client.proofs.Client.part.Statement.{statement}
