@@ -3,31 +3,22 @@
 --   message-fits, message-clean, message-written    where a first message is taken: the buffer is no longer than figures and key, both are elements,
 --                                                   and the message fills it
 --   Answers, reply-answers, reply-taken, answers-held    what holds where a reply is taken, and that it is taken
---   begun-taken, begun-refused                           what start hands back
---   moved-number, moved-taken, moved-refused, moved-apart    what first message and reply hand back
---   part-given, part-refused                             the part of a taken reply, and of a refused one
 -- Assumes nothing.
-use mathlib.Core.Path.{_≡_, refl, sym, ap, _∙_}
+use mathlib.Core.Path.{_≡_, refl, ap}
 use mathlib.Core.Bool.{true, false, _&&_}
-use mathlib.Core.List.{List, []}
+use mathlib.Core.List.{List}
 use Prim.Native.Nat.{ℕ, zero, suc, _-_, _≤_}
 use native.Mathlib.Omega.{arith}
 use lib.Dec.{eqb}
 use lib.ListN.{length}
-use borrow.Author.Tests.{eqb-true, eq-eqb, ne-eqb}
+use borrow.Author.Tests.{eqb-true, eq-eqb}
 use Rattle.scheme.specs.Scheme as scheme
 use Rattle.scheme.specs.Lists.{each}
-use Rattle.scheme.specs.Scheme.{Arithmetic, elements, places, in-set, usable, usable-with, key-length, first-message, reply, reply-start, is-fresh, open-to, start-refusal, message-refusal, reply-refusal, unless, _then_}
+use Rattle.scheme.specs.Scheme.{Arithmetic, elements, places, in-set, usable, usable-with, key-length, first-message, is-fresh, open-to, start-refusal, message-refusal, reply-refusal, unless, _then_}
 use Rattle.scheme.proofs.Tests.{both, joined}
 use Rattle.scheme.proofs.Refusals.{then-zero, unless-zero}
-use Rattle.plan.specs.declared.Plan.{Plan}
-use Rattle.plan.specs.Plan.{plan-of}
-use Rattle.plan.proofs.Laws.{masks-inside}
-use Rattle.client.specs.declared.Stage.{Stage}
-use Rattle.client.specs.declared.Client.{Client}
-use Rattle.client.specs.declared.Stage.the-variants.{Fresh}
-use Rattle.client.specs.declared.Start.the-variants.{Refused, Started}
-use Rattle.client.specs.Client.{stage-of-number, begun-by, begun-with, answer-refusal, moved, part-of, part-start}
+use Rattle.scheme.proofs.PlanBounds.{masks-inside}
+use Rattle.client.specs.Client.{stage-of-number}
 
 pub stage-answered : (s : ℕ) → (s ≡ 0 → ⊥) → (s ≡ 1 → ⊥) → stage-of-number s ≡ scheme.answered (s - 2)
 unfolding stage-of-number
@@ -36,7 +27,8 @@ stage-answered (suc zero) z o = absurd (o refl)
 stage-answered (suc (suc v)) z o = let e : v ≡ suc (suc v) - 2 = omega arith in ap scheme.answered e
 
 module _ (A : Arithmetic) (p : scheme.Plan) (k : ℕ) (g : scheme.Stage) (ks fs : List ℕ) (out : ℕ) (e : message-refusal A p k g ks fs out ≡ 0) where
-  message-tests : (unless (eqb (length ks) (key-length p k) && (eqb (length fs) (places p) && eqb out (places p))) 2 ≡ 0) × (unless (elements A ks && elements A fs) 3 ≡ 0)
+  message-tests : (unless (eqb (length ks) (key-length p k) && (eqb (length fs) (places p) && eqb out (places p))) 2 ≡ 0)
+      × (unless (elements A ks && elements A fs) 3 ≡ 0)
   unfolding message-refusal
   message-tests = then-zero _ _ (then-zero _ _ (then-zero _ _ e .1) .1)
 
@@ -87,41 +79,3 @@ module _ {A : Arithmetic} {p : scheme.Plan} {k : ℕ} {ks : List ℕ} {v : ℕ} 
   pub answers-held : Answers A p k ks v → usable-with p k v ≡ true
   unfolding usable-with
   answers-held a = joined (a .whole) (a .member)
-
--- ---- what is handed back
-pub begun-taken : {n : ℕ} → n ≡ 0 → (p : Plan) (k : ℕ) → begun-by (Started (record { plan = p; user = k; stage = Fresh })) ≡ begun-with n p k
-unfolding begun-by begun-with
-begun-taken e p k = ap (λ (n : ℕ). begun-with n p k) (sym e)
-
-pub begun-refused : {n : ℕ} → (n ≡ 0 → ⊥) → (p : Plan) (k : ℕ) → begun-by (Refused n) ≡ begun-with n p k
-unfolding begun-by begun-with
-begun-refused {n = zero} h p k = absurd (h refl)
-begun-refused {n = suc n} h p k = refl
-
-pub moved-number : (n : ℕ) (c : Client) (g : Stage) → moved n c g .number ≡ n
-unfolding moved
-moved-number zero c g = refl
-moved-number (suc n) c g = refl
-
-pub moved-taken : {n : ℕ} → n ≡ 0 → (c : Client) (g : Stage) → moved n c g ≡ record { number = 0; client = record { plan = c .plan; user = c .user; stage = g } }
-unfolding moved
-moved-taken e c g = ap (λ (n : ℕ). moved n c g) e
-
-pub moved-refused : {n : ℕ} → (n ≡ 0 → ⊥) → (c : Client) (g : Stage) → moved n c g ≡ record { number = n; client = c }
-unfolding moved
-moved-refused {n = zero} h c g = absurd (h refl)
-moved-refused {n = suc n} h c g = refl
-
--- number and client, each told by itself
-pub moved-apart : {n m : ℕ} (c : Client) {d : Client} (g : Stage) → n ≡ m → d ≡ moved n c g .client → record { number = n; client = d } ≡ moved m c g
-moved-apart {n = n} c g e f = (λ i. record { number = sym (moved-number n c g) i; client = f i }) ∙ ap (λ (n : ℕ). moved n c g) e
-
-module _ (c : Client) (ks : List ℕ) (v : ℕ) where
-  pub part-given : answer-refusal c ks v ≡ 0
-      → (part-of c ks v ≡ reply (plan-of (c .plan)) ks (c .user) v) × (part-start c ks v ≡ reply-start (plan-of (c .plan)) (c .user) v)
-  unfolding part-of part-start
-  part-given e = (simp (eq-eqb _ _ e), simp (eq-eqb _ _ e))
-
-  pub part-refused : (answer-refusal c ks v ≡ 0 → ⊥) → (part-of c ks v ≡ []) × (part-start c ks v ≡ 0)
-  unfolding part-of part-start
-  part-refused h = (simp (ne-eqb _ _ h), simp (ne-eqb _ _ h))

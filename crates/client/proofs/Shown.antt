@@ -1,11 +1,12 @@
 -- Demand 3 speaks of what the calls give.
 --   Ready, message-is-sent, part-is-sent   one user's calls are taken, and give its first message and its reply
---   shown-is-sent   the statement of specs/Shown.antt
+--   calls-show      the statement of specs/Shown.antt, over an arithmetic with its laws
+--   shown-is-sent   the same modulo 65521
 -- Assumes nothing.
 use mathlib.Core.Path.{_≡_, refl, sym, ap, ap₂, _∙_}
 use mathlib.Core.Bool.{true}
 use mathlib.Core.List.{List}
-use mathlib.Core.Option.{some}
+use mathlib.Core.Option.{Option, some}
 use Prim.Native.Nat.{ℕ, _≤_}
 use native.Mathlib.Omega.{arith}
 use lib.ListN.{length}
@@ -18,93 +19,98 @@ use Rattle.scheme.specs.Promise.{shown, admissible, list-good}
 use Rattle.scheme.proofs.Lists.{map-same, span-in, members-in}
 use Rattle.scheme.proofs.Keys.{key-is-long, key-elements}
 use Rattle.scheme.proofs.Told.{list-long, list-elements}
-use Rattle.scheme.proofs.Modular.{sixteen-laws}
+use Rattle.scheme.specs.Laws.{Laws}
+use Rattle.scheme.proofs.Modular.{sixteen-sums}
 use Rattle.scheme.proofs.Refusals.{after-taken}
 use Rattle.plan.specs.declared.Plan.{Plan}
 use Rattle.plan.specs.Plan.{plan-of}
-use Rattle.client.specs.declared.Stage.the-variants.{Fresh, Sent}
+use Rattle.client.specs.declared.Stage.the-variants.{Fresh}
 use Rattle.client.specs.declared.Client.{Client}
-use Rattle.client.specs.declared.Answer.{Answer}
-use Rattle.client.specs.Client.{Begun, stage-of, begun-with, part-of}
-use Rattle.client.specs.Shown.{Given, client-calls, calls, Shown-is-sent}
-use Rattle.client.proofs.Laws.{Answers, reply-taken, moved-taken, part-given}
+use Rattle.client.specs.Client.{stage-of, part-of}
+use Rattle.client.specs.Shown.{Handed, client-calls, calls, Shown-is-sent}
+use Rattle.client.proofs.Laws.{Answers, reply-taken}
 
 -- ---- the calls are taken
 start-begun : (p : scheme.Plan) (k : ℕ) → plan-good p ≡ true → 1 ≤ k → k ≤ p .users → start-refusal p k ≡ 0
 unfolding start-refusal is-user unless _then_
 start-begun p k g lo hi = simp (g, le-leb _ _ lo, le-leb _ _ hi)
 
-key-taken : (A : Arithmetic) (p : scheme.Plan) (k : ℕ) (xs : List ℕ) (out : ℕ) → start-refusal p k ≡ 0 → length xs ≡ list-length p → elements A xs ≡ true
-    → out ≡ key-length p k → key-refusal A p k xs out ≡ 0
+key-taken : (A : Arithmetic) (p : scheme.Plan) (k : ℕ) (xs : List ℕ) (out : ℕ) → start-refusal p k ≡ 0
+    → length xs ≡ list-length p → elements A xs ≡ true → out ≡ key-length p k → key-refusal A p k xs out ≡ 0
 unfolding key-refusal unless _then_
 key-taken A p k xs out s l e o = simp (s, eq-eqb _ _ l, eq-eqb _ _ o, e)
 
-message-taken : (A : Arithmetic) (p : scheme.Plan) (k : ℕ) (ks fs : List ℕ) (out : ℕ) → start-refusal p k ≡ 0 → length ks ≡ key-length p k → elements A ks ≡ true
-    → (length fs ≡ places p) × (elements A fs ≡ true) → out ≡ places p → message-refusal A p k scheme.fresh ks fs out ≡ 0
+message-taken : (A : Arithmetic) (p : scheme.Plan) (k : ℕ) (ks fs : List ℕ) (out : ℕ) → start-refusal p k ≡ 0
+    → length ks ≡ key-length p k → elements A ks ≡ true → (length fs ≡ places p) × (elements A fs ≡ true) → out ≡ places p
+    → message-refusal A p k scheme.fresh ks fs out ≡ 0
 unfolding message-refusal is-fresh unless _then_
 message-taken A p k ks fs out s l e f o = simp (s, eq-eqb _ _ l, eq-eqb _ _ (f .0), eq-eqb _ _ o, e, f .1)
 
 -- ---- what they give: one user's calls
-pub record Ready (p : Plan) (xs : List ℕ) (k : ℕ) (fs ko o : List ℕ) : Type 0 where
+pub record Ready (A : Arithmetic) (p : Plan) (xs : List ℕ) (k : ℕ) (fs ko o : List ℕ) : Type 0 where
   pub good-plan : plan-good (plan-of p) ≡ true
-  pub good-list : list-good sixteen (plan-of p) xs ≡ true
+  pub good-list : list-good A (plan-of p) xs ≡ true
   pub user : (1 ≤ k) × (k ≤ p .users)
-  pub figures : (length fs ≡ places (plan-of p)) × (elements sixteen fs ≡ true)
+  pub figures : (length fs ≡ places (plan-of p)) × (elements A fs ≡ true)
   pub room : (length ko ≡ key-length (plan-of p) k) × (length o ≡ places (plan-of p))
 
-module _ (p : Plan) (xs : List ℕ) (v k : ℕ) (fs ko o : List ℕ) (r : Ready p xs k fs ko o) where
+module _ (A : Arithmetic) {n m : ℕ} (L : Laws A n m) (p : Plan) (xs : List ℕ) (v k : ℕ) (fs ko o : List ℕ) (r : Ready A p xs k fs ko o) where
   abbrev ks : List ℕ
-  ks = key sixteen (plan-of p) xs k
+  ks = key A (plan-of p) xs k
 
   begun : start-refusal (plan-of p) k ≡ 0
   begun = start-begun (plan-of p) k (r .good-plan) (r .user .0) (r .user .1)
 
   long : length ks ≡ key-length (plan-of p) k
-  long = key-is-long sixteen (plan-of p) xs k
+  long = key-is-long A (plan-of p) xs k
 
-  clean : elements sixteen ks ≡ true
-  clean = key-elements sixteen (p .users) (p .threshold) (sixteen-laws (plan-of p) (r .good-plan)) (plan-of p) xs k (list-elements sixteen (plan-of p) xs (r .good-list))
+  pure : elements A xs ≡ true
+  pure = list-elements A (plan-of p) xs (r .good-list)
 
-  makes : key-refusal sixteen (plan-of p) k xs (length ko) ≡ 0
-  makes = key-taken sixteen (plan-of p) k xs (length ko) begun (list-long sixteen (plan-of p) xs (r .good-list)) (list-elements sixteen (plan-of p) xs (r .good-list)) (r .room .0)
+  clean : elements A ks ≡ true
+  clean = key-elements A n m L (plan-of p) xs k pure
 
-  sends : message-refusal sixteen (plan-of p) k scheme.fresh ks fs (length o) ≡ 0
-  sends = message-taken sixteen (plan-of p) k ks fs (length o) begun long clean (r .figures) (r .room .1)
+  makes : key-refusal A (plan-of p) k xs (length ko) ≡ 0
+  makes = key-taken A (plan-of p) k xs (length ko) begun (list-long A (plan-of p) xs (r .good-list)) pure (r .room .0)
 
-  taken : calls p xs fs v k ko o ≡ client-calls (some (record { plan = p; user = k; stage = Fresh })) ks fs v o
-  unfolding calls begun-with
-  taken =
-      ap₂ (λ (s : Begun) (l : List ℕ). client-calls (s .client) l fs v o) (ap (λ (n : ℕ). begun-with n p k) begun) (after-taken makes ks ko)
+  sends : message-refusal A (plan-of p) k scheme.fresh ks fs (length o) ≡ 0
+  sends = message-taken A (plan-of p) k ks fs (length o) begun long clean (r .figures) (r .room .1)
 
-  key-is-given : calls p xs fs v k ko o .key-given ≡ ks
+  taken : calls A p xs fs v k ko o ≡ client-calls A (some (record { plan = p; user = k; stage = Fresh })) ks fs v o
+  unfolding calls
+  taken = ap₂ (λ (s : Option Client) (l : List ℕ). client-calls A s l fs v o) (after-taken begun _ _) (after-taken makes ks ko)
+
+  key-is-given : calls A p xs fs v k ko o .key ≡ ks
   unfolding client-calls
-  key-is-given = ap (λ (g : Given). g .key-given) taken
+  key-is-given = ap (λ (h : Handed). h .key) taken
 
-  pub message-is-sent : calls p xs fs v k ko o .message ≡ first-message sixteen (plan-of p) ks fs
+  pub message-is-sent : calls A p xs fs v k ko o .message ≡ first-message A (plan-of p) ks fs
   unfolding client-calls stage-of
-  message-is-sent = ap (λ (g : Given). g .message) taken ∙ after-taken sends _ o
+  message-is-sent = ap (λ (h : Handed). h .message) taken ∙ after-taken sends _ o
 
-  pub part-is-sent : usable (plan-of p) v ≡ true → in-set v k ≡ true → calls p xs fs v k ko o .part ≡ reply (plan-of p) ks k v
-  unfolding client-calls stage-of is-fresh open-to
+  pub part-is-sent : usable (plan-of p) v ≡ true → in-set v k ≡ true → calls A p xs fs v k ko o .part ≡ reply (plan-of p) ks k v
+  unfolding client-calls stage-of is-fresh open-to part-of
   part-is-sent u h =
-      let a : Answers sixteen (plan-of p) k ks v = record { begun = begun; long = long; clean = clean; whole = u; member = h } in
-      let fresh : Client = record { plan = p; user = k; stage = Fresh } in
-      let sent : Client = record { plan = p; user = k; stage = Sent } in
-      ap (λ (g : Given). g .part) taken ∙ ap (λ (r : Answer). part-of (r .client) ks v) (moved-taken sends fresh Sent)
-      ∙ part-given sent ks v (reply-taken a scheme.sent refl refl) .0
+      let a : Answers A (plan-of p) k ks v = record { begun = begun; long = long; clean = clean; whole = u; member = h } in
+      ap (λ (h : Handed). h .part) taken ∙ ap (λ (c : Client). part-of A c ks v) (after-taken sends _ _)
+      ∙ after-taken (reply-taken a scheme.sent refl refl) _ _
 
-pub shown-is-sent : Shown-is-sent
+pub calls-show : (A : Arithmetic) {n m : ℕ} → Laws A n m → Shown-is-sent A
 unfolding Shown-is-sent shown admissible users-in
-shown-is-sent p v c xs x ko o good u ok rows room =
-    let ready : (k : ℕ) → 1 ≤ k → k ≤ p .users → Ready p xs k (x k) (ko k) (o k) = λ k lo hi.
+calls-show A L p v c xs x ko o good u ok rows room =
+    let ready : (k : ℕ) → 1 ≤ k → k ≤ p .users → Ready A p xs k (x k) (ko k) (o k) = λ k lo hi.
     record { good-plan = good; good-list = ok; user = (lo, hi); figures = rows k lo hi; room = room k lo hi } in
-    let in-plan : (s k : ℕ) → In k (users-in (plan-of p) s) → Ready p xs k (x k) (ko k) (o k) = λ s k m.
+    let in-plan : (s k : ℕ) → In k (users-in (plan-of p) s) → Ready A p xs k (x k) (ko k) (o k) = λ s k m.
     let i = members-in (in-set s) (p .users) 1 k m in ready k (i .0) (omega arith) in
     λ i.
     record {
-      firsts = map-same (λ k. first-message sixteen (plan-of p) (key sixteen (plan-of p) xs k) (x k)) _ (span (p .users) 1) (λ k m.
-          let l = span-in (p .users) 1 k m in sym (message-is-sent p xs v k (x k) (ko k) (o k) (ready k (l .0) (omega arith)))) i;
-      replies = map-same (λ k. reply (plan-of p) (key sixteen (plan-of p) xs k) k v) _ (users-in (plan-of p) v) (λ k m.
-          sym (part-is-sent p xs v k (x k) (ko k) (o k) (in-plan v k m) u (members-in (in-set v) (p .users) 1 k m .2))) i;
-      keys = map-same (key sixteen (plan-of p) xs) _ (users-in (plan-of p) c) (λ k m. sym (key-is-given p xs v k (x k) (ko k) (o k) (in-plan c k m))) i;
+      firsts = map-same (λ k. first-message A (plan-of p) (key A (plan-of p) xs k) (x k)) _ (span (p .users) 1) (λ k m.
+          let l = span-in (p .users) 1 k m in sym (message-is-sent A L p xs v k (x k) (ko k) (o k) (ready k (l .0) (omega arith)))) i;
+      replies = map-same (λ k. reply (plan-of p) (key A (plan-of p) xs k) k v) _ (users-in (plan-of p) v) (λ k m.
+          sym (part-is-sent A L p xs v k (x k) (ko k) (o k) (in-plan v k m) u (members-in (in-set v) (p .users) 1 k m .2))) i;
+      keys = map-same (key A (plan-of p) xs) _ (users-in (plan-of p) c) (λ k m.
+          sym (key-is-given A L p xs v k (x k) (ko k) (o k) (in-plan c k m))) i;
     }
+
+pub shown-is-sent : Shown-is-sent sixteen
+shown-is-sent = calls-show sixteen sixteen-sums

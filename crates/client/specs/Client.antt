@@ -1,4 +1,4 @@
--- What the calls of an airfield end answer and leave, by the refusals of scheme/specs/Scheme.antt.
+-- What the calls of an airfield end answer and leave, by the refusals of scheme/specs/Scheme.antt, over an arithmetic as a parameter.
 --   stage-of                 document 01's stage of the enum
 --   stage-of-number, stage-number    the stage that a number stands for, where an end is kept as numbers; and the number of a stage
 --   Begun, begun-by          document 01's number and value of each case of Start: 0 and the end, or the refusal's number and none
@@ -9,14 +9,12 @@
 --   answer-of, reply-answer  what a reply hands back beside the part
 --   part-of, part-start      the part that goes with a reply, and where in the key it starts
 -- Assumes nothing: these are definitions.
-use mathlib.Core.Bool.{cond}
 use mathlib.Core.List.{List, []}
 use mathlib.Core.Option.{Option, none, some}
 use Prim.Native.Nat.{ℕ, zero, suc, _+_}
-use lib.Dec.{eqb}
 use lib.ListN.{length}
 use Rattle.scheme.specs.Scheme as scheme
-use Rattle.scheme.specs.Scheme.{sixteen, first-message, reply, reply-start, start-refusal, message-refusal, reply-refusal, after}
+use Rattle.scheme.specs.Scheme.{Arithmetic, first-message, reply, reply-start, start-refusal, message-refusal, reply-refusal, after}
 use Rattle.plan.specs.declared.Plan.{Plan}
 use Rattle.plan.specs.Plan.{plan-of}
 use Rattle.client.specs.declared.Stage.{Stage}
@@ -24,7 +22,7 @@ use Rattle.client.specs.declared.Stage.the-variants.{Fresh, Sent, Answer
 use Rattle.client.specs.declared.Client.{Client}
 use Rattle.client.specs.declared.Start.{Start}
 use Rattle.client.specs.declared.Start.the-variants.{Refused, Started}
-use Rattle.client.specs.declared.Answer.{Answer}
+use Rattle.client.specs.declared.Moved.{Moved}
 use Rattle.client.specs.declared.Replied.{Replied}
 
 unfoldable pub stage-of : Stage → scheme.Stage
@@ -52,39 +50,37 @@ unfoldable pub begun-by : Start → Begun
 begun-by (Refused n) = record { number = n; client = none }
 begun-by (Started c) = record { number = 0; client = some c }
 
-unfoldable pub begun-with : (refusal : ℕ) → Plan → (user : ℕ) → Begun
-begun-with zero p k = record { number = 0; client = some (record { plan = p; user = k; stage = Fresh }) }
-begun-with (suc n) p k = record { number = suc n; client = none }
+abbrev pub begun-with : (refusal : ℕ) → Plan → (user : ℕ) → Begun
+begun-with n p k = record { number = n; client = after n (some (record { plan = p; user = k; stage = Fresh })) none }
 
 abbrev pub begun : Plan → (user : ℕ) → Begun
 begun p k = begun-with (start-refusal (plan-of p) k) p k
 
-abbrev pub first-refusal : Client → (key figures : List ℕ) → (out : ℕ) → ℕ
-first-refusal c ks fs out = message-refusal sixteen (plan-of (c .plan)) (c .user) (stage-of (c .stage)) ks fs out
+abbrev pub first-refusal : Arithmetic → Client → (key figures : List ℕ) → (out : ℕ) → ℕ
+first-refusal A c ks fs out = message-refusal A (plan-of (c .plan)) (c .user) (stage-of (c .stage)) ks fs out
 
-abbrev pub answer-refusal : Client → (key : List ℕ) → (set : ℕ) → ℕ
-answer-refusal c ks v = reply-refusal sixteen (plan-of (c .plan)) (c .user) (stage-of (c .stage)) ks v
+abbrev pub answer-refusal : Arithmetic → Client → (key : List ℕ) → (set : ℕ) → ℕ
+answer-refusal A c ks v = reply-refusal A (plan-of (c .plan)) (c .user) (stage-of (c .stage)) ks v
 
-unfoldable pub moved : (refusal : ℕ) → Client → (next : Stage) → Answer
-moved zero c g = record { number = 0; client = record { plan = c .plan; user = c .user; stage = g } }
-moved (suc n) c g = record { number = suc n; client = c }
+abbrev pub moved : (refusal : ℕ) → Client → (next : Stage) → Moved
+moved n c g = record { number = n; client = after n (record { plan = c .plan; user = c .user; stage = g }) c }
 
-abbrev pub first-answer : Client → (key figures : List ℕ) → (out : ℕ) → Answer
-first-answer c ks fs out = moved (first-refusal c ks fs out) c Sent
+abbrev pub first-answer : Arithmetic → Client → (key figures : List ℕ) → (out : ℕ) → Moved
+first-answer A c ks fs out = moved (first-refusal A c ks fs out) c Sent
 
-abbrev pub message-left : Client → (key figures : List ℕ) → (buffer : List ℕ) → List ℕ
-message-left c ks fs o = after (first-refusal c ks fs (length o)) (first-message sixteen (plan-of (c .plan)) ks fs) o
+abbrev pub message-left : Arithmetic → Client → (key figures : List ℕ) → (buffer : List ℕ) → List ℕ
+message-left A c ks fs o = after (first-refusal A c ks fs (length o)) (first-message A (plan-of (c .plan)) ks fs) o
 
-abbrev pub answer-of : Replied → Answer
+abbrev pub answer-of : Replied → Moved
 answer-of r = record { number = r .number; client = r .client }
 
-abbrev pub reply-answer : Client → (key : List ℕ) → (set : ℕ) → Answer
-reply-answer c ks v = moved (answer-refusal c ks v) c (Answered v)
+abbrev pub reply-answer : Arithmetic → Client → (key : List ℕ) → (set : ℕ) → Moved
+reply-answer A c ks v = moved (answer-refusal A c ks v) c (Answered v)
 
 -- of the end before the call: "the part that goes with a refused reply is empty"
-unfoldable pub part-of : Client → (key : List ℕ) → (set : ℕ) → List ℕ
-part-of c ks v = cond (eqb (answer-refusal c ks v) 0) (reply (plan-of (c .plan)) ks (c .user) v) []
+unfoldable pub part-of : Arithmetic → Client → (key : List ℕ) → (set : ℕ) → List ℕ
+part-of A c ks v = after (answer-refusal A c ks v) (reply (plan-of (c .plan)) ks (c .user) v) []
 
 -- an empty part lies at the start of the key
-unfoldable pub part-start : Client → (key : List ℕ) → (set : ℕ) → ℕ
-part-start c ks v = cond (eqb (answer-refusal c ks v) 0) (reply-start (plan-of (c .plan)) (c .user) v) 0
+unfoldable pub part-start : Arithmetic → Client → (key : List ℕ) → (set : ℕ) → ℕ
+part-start A c ks v = after (answer-refusal A c ks v) (reply-start (plan-of (c .plan)) (c .user) v) 0

@@ -1,7 +1,7 @@
 // The airfield end of document 01: it is fresh, or has sent, or has answered one named set, and holds its plan and number.
 //   Stage, Client      the end
 //   Start              what start answers: Refused by 1 or 4, or Started with a fresh end
-//   Answer             what a first message hands back: 0 or the refusal's number, and the end
+//   Moved              what a first message hands back: 0 or the refusal's number, and the end
 //   Replied            what a reply hands back: the same, and the part of the lent key, which is empty after a refusal
 //   stage_of_number    the stage that a number stands for, where an end is kept as numbers
 //   is_fresh, open_to, add_masks    tests 18 and 19 of a stage; figures plus masks
@@ -34,7 +34,7 @@ pub enum Start {
     Started(Client),
 }
 
-pub struct Answer {
+pub struct Moved {
     pub number: u32,
     pub client: Client,
 }
@@ -125,7 +125,7 @@ impl Client {
 
     // 18, 2, 3, of a first message into a buffer of `room` elements; 1 and 4 only of an end that start has not made.
     fn first_refusal(self, key: &[u16], figures: &[u16], room: usize) -> u32
-        ensures { λ r. ⌜ r ≡ first-refusal self (now (key .entry)) (now (figures .entry)) room ⌝ }
+        ensures { λ r. ⌜ r ≡ first-refusal sixteen self (now (key .entry)) (now (figures .entry)) room ⌝ }
     {
         let plan = self.plan;
         let user = self.user;
@@ -157,13 +157,13 @@ impl Client {
     }
 
     // "First message: figures plus S, place by place."
-    pub fn first_message(mut self, key: &[u16], figures: &[u16], out: &mut [u16]) -> Answer
-        ensures answer { λ r. ⌜ r ≡ first-answer self (now (key .entry)) (now (figures .entry)) (length (now (out .entry))) ⌝ }
-        ensures left { λ r. ⌜ now (out .exit) ≡ message-left self (now (key .entry)) (now (figures .entry)) (now (out .entry)) ⌝ }
+    pub fn first_message(mut self, key: &[u16], figures: &[u16], out: &mut [u16]) -> Moved
+        ensures answer { λ r. ⌜ r ≡ first-answer sixteen self (now (key .entry)) (now (figures .entry)) (length (now (out .entry))) ⌝ }
+        ensures left { λ r. ⌜ now (out .exit) ≡ message-left sixteen self (now (key .entry)) (now (figures .entry)) (now (out .entry)) ⌝ }
     {
         let refusal = self.first_refusal(key, figures, out.len());
         if refusal != 0 {
-            return Answer {
+            return Moved {
                 number: refusal,
                 client: self,
             };
@@ -176,12 +176,12 @@ impl Client {
             user,
             stage: Stage::Sent,
         };
-        Answer { number: 0, client }
+        Moved { number: 0, client }
     }
 
     // 18, 2, 3, 5, 6, 19, of a reply; 1 and 4 only of an end that start has not made. It hands out no share.
     pub fn reply_refusal(self, key: &[u16], set: u32) -> u32
-        ensures { λ r. ⌜ r ≡ answer-refusal self (now (key .entry)) set ⌝ }
+        ensures { λ r. ⌜ r ≡ answer-refusal sixteen self (now (key .entry)) set ⌝ }
     {
         let plan = self.plan;
         let user = self.user;
@@ -213,9 +213,9 @@ impl Client {
 
     // The shares for a set where they lie in the key; with a refusal goes nothing.
     fn part(self, refused: u32, key: &[u16], set: u32) -> &[u16]
-        requires { ⌜ refused ≡ answer-refusal self (now key) set ⌝ }
-        ensures shares { λ r. ⌜ now r ≡ part-of self (now (key .entry)) set ⌝ }
-        ensures place { λ r. ⌜ r .ptr ≡ (key .entry .ptr .0, key .entry .ptr .1 + part-start self (now (key .entry)) set * 2) ⌝ }
+        requires { ⌜ refused ≡ answer-refusal sixteen self (now key) set ⌝ }
+        ensures shares { λ r. ⌜ now r ≡ part-of sixteen self (now (key .entry)) set ⌝ }
+        ensures place { λ r. ⌜ r .ptr ≡ (key .entry .ptr .0, key .entry .ptr .1 + part-start sixteen self (now (key .entry)) set * 2) ⌝ }
     {
         if refused != 0 {
             return &key[0..0];
@@ -245,9 +245,9 @@ impl Client {
 
     // "Reply to set V: the M shares for V, handed back as the very part of the lent key where they lie."
     pub fn reply<'a>(mut self, key: &'a [u16], set: u32) -> Replied<'a>
-        ensures answer { λ r. ⌜ answer-of r ≡ reply-answer self (now (key .entry)) set ⌝ }
-        ensures shares { λ r. ⌜ now (r .part) ≡ part-of self (now (key .entry)) set ⌝ }
-        ensures place { λ r. ⌜ r .part .ptr ≡ (key .entry .ptr .0, key .entry .ptr .1 + part-start self (now (key .entry)) set * 2) ⌝ }
+        ensures answer { λ r. ⌜ answer-of r ≡ reply-answer sixteen self (now (key .entry)) set ⌝ }
+        ensures shares { λ r. ⌜ now (r .part) ≡ part-of sixteen self (now (key .entry)) set ⌝ }
+        ensures place { λ r. ⌜ r .part .ptr ≡ (key .entry .ptr .0, key .entry .ptr .1 + part-start sixteen self (now (key .entry)) set * 2) ⌝ }
     {
         let number = self.reply_refusal(key, set);
         let part = self.part(number, key, set);

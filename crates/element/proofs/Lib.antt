@@ -1,2 +1,3 @@
--- The laws of test 3.
+-- Elements: the laws of test 3. Fold: those of remainders without a division.
 pub mod Elements
+pub mod Fold

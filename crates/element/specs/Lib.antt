@@ -1,1 +1,2 @@
--- The contracts cite the definitions of scheme and algebra: this crate has none of its own.
+-- Fold: remainders without a division. The contracts cite the definitions of scheme and algebra besides.
+pub mod Fold

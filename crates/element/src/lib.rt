@@ -1,22 +1,34 @@
 // Elements of document 01: whole numbers modulo 65521, held in 16 bits.
-//   Q                         the modulus
+//   Q                         the modulus; in 16 bits Q16, one past LAST; OVER, by which WORD is more
 //   add, multiply             of two elements; of any two 16-bit numbers, through wider integers
 //   reduce, folded            n % Q and a product without a division
-//   inverse_of, coefficient   the inverses of the numbers below 16
+//   inverse_of, coefficient   the inverses of the numbers below points
 //   excess, all_elements      test 3 of document 01
 ghost use mathlib.Core.Path.{_≡_};
-ghost use Prim.Native.Nat.{_+_, _-_, _*_, _/_, _%_, _≤_, _<_};
+ghost use Prim.Native.Nat.{_+_, _-_, _*_, _%_, _≤_, _<_};
 ghost use Rattle.algebra.specs.Residue.{inverse};
+ghost use Rattle.scheme.specs.Limits.{points};
 ghost use Rattle.scheme.specs.Scheme.{q, sixteen, elements};
+ghost use Rattle.element.specs.Fold.{word, fold, most-folded, reducible};
 
 pub const Q: u32 = 65521;
+
+const Q16: u16 = Q as u16;
+
+// The largest element.
+const LAST: u16 = Q16 - 1;
+
+// What 16 bits count to, and how far that is past Q.
+const WORD: u32 = 65536;
+
+const OVER: u32 = WORD - Q;
 
 // Of two elements, all in 16 bits, so that many are added at a time.
 pub fn add(a: u16, b: u16) -> u16
     requires { ⌜ (a < q) × (b < q) ⌝ }
     ensures { λ r. ⌜ r ≡ sixteen .add a b ⌝ }
 {
-    let rest = 65521 - b;
+    let rest = Q16 - b;
     if a < rest {
         return a + b;
     }
@@ -29,12 +41,12 @@ pub fn multiply(a: u16, b: u16) -> u16
     (a as u32 * b as u32 % Q) as u16
 }
 
-// n % Q without a division: 65536 is 15 more than Q, so the high half counts 15 fold.
+// n % Q without a division: WORD is OVER more than Q, so the high half counts OVER fold.
 pub fn reduce(n: u32) -> u16
-    requires { ⌜ n < 268435456 ⌝ }
+    requires { ⌜ n < reducible ⌝ }
     ensures { λ r. ⌜ r ≡ n % q ⌝ }
 {
-    let once = n % 65536 + n / 65536 * 15;
+    let once = n % WORD + n / WORD * OVER;
     if once < Q {
         return once as u16;
     }
@@ -43,16 +55,16 @@ pub fn reduce(n: u32) -> u16
 
 // A product not reduced, but below 2 ^ 20, so that many are added in 32 bits.
 pub fn folded(a: u16, b: u16) -> u32
-    ensures { λ r. ⌜ (r % q ≡ a * b % q) × (r ≤ 1048560) × (r ≡ a * b % 65536 + a * b / 65536 * 15) ⌝ }
+    ensures { λ r. ⌜ (r % q ≡ a * b % q) × (r ≤ most-folded) × (r ≡ fold word q (a * b)) ⌝ }
 {
     let n = a as u32 * b as u32;
-    n % 65536 + n / 65536 * 15
+    n % WORD + n / WORD * OVER
 }
 
-// The inverses of 1 to 15 modulo Q, and at 0, which has none, the 1 that the definition gives. The compiler makes a table of the arms;
+// The inverses of the numbers below points modulo Q, and at 0, which has none, the 1 that the definition gives. The compiler makes a table of the arms;
 // one written as an array would be built anew at each call.
 fn inverse_of(n: u32) -> u16
-    requires { ⌜ n < 16 ⌝ }
+    requires { ⌜ n < points ⌝ }
     ensures { λ r. ⌜ r ≡ inverse q n ⌝ }
 {
     match n {
@@ -77,7 +89,7 @@ fn inverse_of(n: u32) -> u16
 
 // "The coefficient of airfield k and column j is the inverse of k + j modulo q."
 pub fn coefficient(user: u32, column: u32) -> u16
-    requires { ⌜ user + column < 16 ⌝ }
+    requires { ⌜ user + column < points ⌝ }
     ensures { λ r. ⌜ r ≡ sixteen .coefficient user column ⌝ }
 {
     inverse_of(user + column)
@@ -85,10 +97,10 @@ pub fn coefficient(user: u32, column: u32) -> u16
 
 // How far x is past the last element: 0 of an element.
 fn excess(x: u16) -> u16
-    ensures { λ r. ⌜ r ≡ x - 65520 ⌝ }
+    ensures { λ r. ⌜ r ≡ x - (q - 1) ⌝ }
 {
-    if 65520 < x {
-        return x - 65520;
+    if LAST < x {
+        return x - LAST;
     }
     0
 }

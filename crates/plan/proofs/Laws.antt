@@ -1,25 +1,16 @@
--- What several proofs share, and laws for callers.
+-- What several proofs share, and the count of ones for callers.
 --   ones-same                                the machine's count of ones is the definition's, of a number of k bits
 --   Counting, counting-start, counting-yes, counting-no, counting-end   a loop that counts the numbers that pass a test
---   sets-le, places-le, masks-le, shares-le, noise-le   bounds, of a good plan
---   usable-le, with-usable                   a usable set is at most 256
---   list-parts, key-parts                    the lengths of the random list and of a key
---   masks-inside, reply-inside               the masks and a reply lie inside the key
 -- Assumes nothing.
-use mathlib.Core.Path.{_≡_, refl, sym, ap, _∙_}
+use mathlib.Core.Path.{_≡_, sym, ap, _∙_}
 use mathlib.Core.Bool.{Bool, true, false}
-use Prim.Native.Nat.{ℕ, zero, suc, _+_, _*_, _/_, _%_, _^_, _≤_, _<_}
-use native.Mathlib.Nat.{pow-suc, suc-mul, mul-le-mul, mul-le-mul-right}
+use Prim.Native.Nat.{ℕ, zero, suc, _+_, _/_, _%_, _^_, _≤_, _<_}
+use native.Mathlib.Nat.{pow-suc}
 use native.Mathlib.Omega.{arith}
 use lib.Count as machine
-use lib.ListN.{length}
-use lib.Pow.{pow-mono}
 use Rattle.scheme.specs.Lists.{rank}
-use Rattle.scheme.specs.Scheme.{Plan, items, places, ones, usable, usable-with, usable-sets, sets-with, list-length, key-length, reply-start}
-use Rattle.scheme.specs.Good.{Good}
-use Rattle.scheme.proofs.Tests.{both}
-use Rattle.scheme.proofs.Sets.{usable-below}
-use Rattle.scheme.proofs.Lists.{rank-zero, rank-step, rank-lt}
+use Rattle.scheme.specs.Scheme.{ones}
+use Rattle.scheme.proofs.Lists.{rank-zero, rank-step}
 
 pub ones-same : (k v : ℕ) → v < 2 ^ k → machine.ones v ≡ ones k v
 unfolding ones machine.ones
@@ -48,48 +39,3 @@ module _ (t : ℕ → Bool) (end : ℕ) where
   counting-end v n g h =
       let e : v ≡ end = omega arith in
       (g .exact ∙ ap (rank t) e, omega arith)
-
--- ---- bounds
-pub sets-le : (p : Plan) → Good p → 2 ^ p .users ≤ 256
-sets-le p g = pow-mono {j = 8} (g .users-high)
-
-pub places-le : (p : Plan) → Good p → places p ≤ 96
-unfolding places items
-places-le p g = mul-le-mul {n₂ = 16} {m₂ = 6} (g .blocks-high) (omega arith)
-
-module _ {p : Plan} (g : Good p) where
-  pub masks-le : {n : ℕ} → n ≤ 96 → p .users * n ≤ 8 * 96
-  masks-le h = mul-le-mul (g .users-high) h
-
-  pub shares-le : {n : ℕ} → n ≤ 256 → n * p .blocks ≤ 256 * 16
-  shares-le h = mul-le-mul h (g .blocks-high)
-
-  pub noise-le : {n : ℕ} → n ≤ 256 → n * p .blocks * p .collusion ≤ 256 * 16 * 6
-  noise-le {n} h = mul-le-mul {m₂ = 6} (shares-le h) (omega arith)
-
--- ---- usable sets
-pub usable-le : (p : Plan) (v : ℕ) → Good p → usable p v ≡ true → v ≤ 256
-usable-le p v g e = omega (arith, usable-below p v e, sets-le p g)
-
-pub with-usable : (p : Plan) (k v : ℕ) → usable-with p k v ≡ true → usable p v ≡ true
-unfolding usable-with
-with-usable p k v e = both _ _ e .0
-
--- ---- lengths
-pub list-parts : (p : Plan) → list-length p ≡ p .users * places p + length (usable-sets p) * p .blocks * p .collusion
-unfolding list-length
-list-parts p = refl
-
-pub key-parts : (p : Plan) (k : ℕ) → key-length p k ≡ places p + length (sets-with p k) * p .blocks
-unfolding key-length
-key-parts p k = refl
-
-pub masks-inside : (p : Plan) (k : ℕ) → places p ≤ key-length p k
-unfolding key-length
-masks-inside p k = omega arith
-
-pub reply-inside : (p : Plan) (k v : ℕ) → usable-with p k v ≡ true → reply-start p k v + p .blocks ≤ key-length p k
-unfolding key-length reply-start sets-with
-reply-inside p k v e =
-    let l = rank-lt (usable-with p k) (2 ^ p .users) v (usable-below p v (with-usable p k v e)) e in
-    omega (arith, mul-le-mul-right (p .blocks) l, suc-mul (rank (usable-with p k) v) (p .blocks))

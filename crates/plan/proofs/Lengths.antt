@@ -1,35 +1,19 @@
--- The lengths of lent lists, where the plan is good and where it is not.
---   row-len-good, list-len-good, key-len-good   of a good plan, and of one of its users: the scheme's lengths
---   row-len-bad, list-len-bad, key-len-bad      else 0
+-- The length of a lent key.
+--   key-len-good   of a good plan and one of its users: the scheme's
+--   key-len-bad    else 0
 -- Assumes nothing.
 use mathlib.Core.Path.{_≡_, ap, _∙_}
-use mathlib.Core.Bool.{Bool, true, false, _&&_, cond}
+use mathlib.Core.Bool.{Bool, true, _&&_, cond}
 use Prim.Native.Nat.{ℕ, _≤_}
 use borrow.Author.Tests.{le-leb}
-use Rattle.scheme.specs.Scheme.{Plan, plan-good, is-user, places, list-length, key-length, start-refusal}
+use Rattle.scheme.specs.Scheme.{Plan, plan-good, is-user, key-length, start-refusal}
 use Rattle.scheme.specs.Good.{Good}
 use Rattle.scheme.proofs.Tests.{both, is-false}
 use Rattle.scheme.proofs.Good.{good-back}
 use Rattle.scheme.proofs.Refusals.{then-taken, unless-held}
-use Rattle.plan.specs.Lengths.{row-len, list-len, key-len}
+use Rattle.plan.specs.Lengths.{key-len}
 
 module _ (p : Plan) where
-  pub row-len-good : Good p → row-len p ≡ places p
-  unfolding row-len
-  row-len-good g = rw (good-back p g)
-
-  pub row-len-bad : plan-good p ≡ false → row-len p ≡ 0
-  unfolding row-len
-  row-len-bad e = rw e
-
-  pub list-len-good : Good p → list-len p ≡ list-length p
-  unfolding list-len
-  list-len-good g = rw (good-back p g)
-
-  pub list-len-bad : plan-good p ≡ false → list-len p ≡ 0
-  unfolding list-len
-  list-len-bad e = rw e
-
   pub key-len-good : (k : ℕ) → Good p × (1 ≤ k) × (k ≤ p .users) → key-len p k ≡ key-length p k
   unfolding key-len is-user
   key-len-good k h = simp (good-back p (h .0), le-leb _ _ (h .1), le-leb _ _ (h .2))

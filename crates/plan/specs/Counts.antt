@@ -1,22 +1,21 @@
--- How many sets are usable, and how many of these hold a user, by the number of users and the threshold alone.
---   sets-of, holding            the two counts
---   usable-rule, holding-rule   the same at 8 * users + threshold; the code's tables have them from 24 on
+-- How many sets of users have enough members, by the number of users and the threshold alone.
+--   sets-of            the count; without one user, it is that of the usable sets which hold the user (proofs/Counts.antt)
+--   fewest, counts     of the code's table: its first row is for so many users; how many entries it has
+--   sets-rule          the entry at most-users * users + threshold
 -- Assumes nothing: these are definitions.
-use Prim.Native.Nat.{ℕ, _/_, _%_}
+use Prim.Native.Nat.{ℕ, _+_, _*_, _-_, _/_, _%_}
 use lib.ListN.{length}
-use Rattle.scheme.specs.Scheme.{Plan, usable-sets, sets-with}
-
-abbrev plan-with : (users threshold : ℕ) → Plan
-plan-with n u = record { users = n; threshold = u; collusion = 0; blocks = 0 }
+use Rattle.scheme.specs.Limits.{least-users, most-users}
+use Rattle.scheme.specs.Scheme.{usable-sets}
 
 unfoldable pub sets-of : (users threshold : ℕ) → ℕ
-sets-of n u = length (usable-sets (plan-with n u))
+sets-of n u = length (usable-sets (record { users = n; threshold = u; collusion = 0; blocks = 0 }))
 
-unfoldable pub holding : (users threshold k : ℕ) → ℕ
-holding n u k = length (sets-with (plan-with n u) k)
+abbrev pub fewest : ℕ
+fewest = least-users - 1
 
-unfoldable pub usable-rule : ℕ → ℕ
-usable-rule i = sets-of (i / 8) (i % 8)
+abbrev pub counts : ℕ
+counts = (most-users + 1 - fewest) * most-users
 
-unfoldable pub holding-rule : ℕ → ℕ
-holding-rule i = holding (i / 8) (i % 8) 1
+unfoldable pub sets-rule : ℕ → ℕ
+sets-rule i = sets-of (i / most-users) (i % most-users)

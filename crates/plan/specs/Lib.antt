@@ -1,5 +1,6 @@
--- Plan: the plan of the code as the plan of the definitions. Counts: how many sets are usable, by tables.
--- Lengths: how long the lists are that a caller lends.
+-- Plan: the plan of the code as the plan of the definitions. Limits: the limits of the code. Counts: how many sets are usable, by a
+-- table. Lengths: how long the lists are that a caller lends.
 pub mod Plan
+pub mod Limits
 pub mod Counts
 pub mod Lengths

@@ -1,20 +1,23 @@
 // Plans and sets of document 01: their tests, and where things lie in the lists that a plan fixes.
 //   Plan                                              K, U, T and M, as they come
 //   MOST_USERS .., USERS ..                           their limits; the lengths of arrays
+//   Limits, document_limits                           all of them, which the contract holds to those of document 01
 //   is_good, start_refusal                            tests 1 and 4
 //   holds, is_usable, has_enough, is_usable_with      sets of users
 //   row_length, list_length, key_length               how long lent lists are: 0 for what tests 1 and 4 refuse
 //   places_of, list_of, key_of                        the same of what those tests have let pass
-//   all_sets, reply_start                             how many sets; where a reply lies in the key
+//   count_sets, reply_start                           how many sets; where a reply lies in the key
 // Document 01's airfield is a user here. What has a `requires` is for plans that passed test 1.
 ghost use mathlib.Core.Path.{_≡_};
 ghost use Prim.Native.Nat.{_+_, _*_, _^_, _≤_, _<_};
 ghost use lib.ListN.{length};
+ghost use Rattle.scheme.specs.Limits.{most-users, most-places, most-sets, most-list, most-key};
 ghost use Rattle.scheme.specs.Lists.{rank};
 ghost use Rattle.scheme.specs.Scheme.{plan-good, start-refusal, in-set, usable, usable-with, usable-sets, sets-with, places, list-length, key-length, reply-start};
 ghost use Rattle.scheme.specs.Good.{Good};
 ghost use Rattle.plan.specs.Plan.{plan-of};
-ghost use Rattle.plan.specs.Counts.{usable-rule, holding-rule};
+ghost use Rattle.plan.specs.Limits.{document-limits};
+ghost use Rattle.plan.specs.Counts.{fewest, counts, sets-of, sets-rule};
 ghost use Rattle.plan.specs.Lengths.{row-len, list-len, key-len};
 
 // "K airfields, 3 to 8 .. T at least 1 .. M blocks, 1 to 16"
@@ -41,6 +44,37 @@ pub const FIRSTS: usize = USERS * MOST_PLACES;
 
 // A number for each user and block: the replies that are held, and the grids of key maker and solver.
 pub const CELLS: usize = USERS * BLOCKS;
+
+pub struct Limits {
+    pub least_users: u32,
+    pub most_users: u32,
+    pub least_collusion: u32,
+    pub least_blocks: u32,
+    pub most_blocks: u32,
+    pub users: usize,
+    pub blocks: usize,
+    pub most_places: usize,
+    pub firsts: usize,
+    pub cells: usize,
+}
+
+// Every limit, so that a contract speaks of each constant.
+pub fn document_limits() -> Limits
+    ensures { λ r. ⌜ r ≡ document-limits ⌝ }
+{
+    Limits {
+        least_users: LEAST_USERS,
+        most_users: MOST_USERS,
+        least_collusion: LEAST_COLLUSION,
+        least_blocks: LEAST_BLOCKS,
+        most_blocks: MOST_BLOCKS,
+        users: USERS,
+        blocks: BLOCKS,
+        most_places: MOST_PLACES,
+        firsts: FIRSTS,
+        cells: CELLS,
+    }
+}
 
 pub struct Plan {
     pub users: u32,
@@ -101,10 +135,10 @@ pub fn holds(set: u32, user: u32) -> bool
     (set >> (user - 1)) % 2 == 1
 }
 
-// One past the largest set of the plan's users.
-pub fn all_sets(p: Plan) -> u32
+// The sets of the plan's users, the empty one too, are the numbers below this.
+pub fn count_sets(p: Plan) -> u32
     requires { ⌜ Good (plan-of p) ⌝ }
-    ensures { λ r. ⌜ (r ≡ 2 ^ p .users) × (r ≤ 256) ⌝ }
+    ensures { λ r. ⌜ (r ≡ 2 ^ p .users) × (r ≤ most-sets) ⌝ }
 {
     1u32 << p.users
 }
@@ -114,7 +148,7 @@ pub fn is_usable(p: Plan, set: u32) -> bool
     requires { ⌜ Good (plan-of p) ⌝ }
     ensures { λ r. ⌜ r ≡ usable (plan-of p) set ⌝ }
 {
-    if all_sets(p) <= set {
+    if count_sets(p) <= set {
         return false;
     }
     has_enough(p, set)
@@ -129,7 +163,7 @@ pub fn has_enough(p: Plan, set: u32) -> bool
 }
 
 fn is_usable_with(p: Plan, user: u32, set: u32) -> bool
-    requires { ⌜ (set < 2 ^ p .users) × (1 ≤ user) × (user ≤ 8) ⌝ }
+    requires { ⌜ (set < 2 ^ p .users) × (1 ≤ user) × (user ≤ most-users) ⌝ }
     ensures { λ r. ⌜ r ≡ usable-with (plan-of p) user set ⌝ }
 {
     if !has_enough(p, set) {
@@ -138,8 +172,21 @@ fn is_usable_with(p: Plan, user: u32, set: u32) -> bool
     holds(set, user)
 }
 
-// How many sets of K users have at least U members, at 8 * (K - 3) + U.
-const USABLE: [u16; 48] = [
+// The counts have a row for each number of users, from one less than the least K on, and in it an entry for each threshold below USERS.
+const FEWEST: usize = LEAST_USERS as usize - 1;
+
+const COUNTS: usize = (USERS + 1 - FEWEST) * USERS;
+
+// How many sets of K users have at least U members, at USERS * (K - FEWEST) + U.
+const SETS: [u16; COUNTS] = [
+    4,
+    3,
+    1,
+    0,
+    0,
+    0,
+    0,
+    0,
     8,
     7,
     4,
@@ -190,89 +237,38 @@ const USABLE: [u16; 48] = [
     9,
 ];
 
-// How many of them hold a given one of the users.
-const HOLDING: [u16; 48] = [
-    4,
-    4,
-    3,
-    1,
-    0,
-    0,
-    0,
-    0,
-    8,
-    8,
-    7,
-    4,
-    1,
-    0,
-    0,
-    0,
-    16,
-    16,
-    15,
-    11,
-    5,
-    1,
-    0,
-    0,
-    32,
-    32,
-    31,
-    26,
-    16,
-    6,
-    1,
-    0,
-    64,
-    64,
-    63,
-    57,
-    42,
-    22,
-    7,
-    1,
-    128,
-    128,
-    127,
-    120,
-    99,
-    64,
-    29,
-    8,
-];
-
-fn usable_at(at: usize) -> u16
-    requires { ⌜ at < 48 ⌝ }
-    ensures { λ r. ⌜ r ≡ usable-rule (24 + at) ⌝ }
+fn sets_at(at: usize) -> u16
+    requires { ⌜ at < counts ⌝ }
+    ensures { λ r. ⌜ r ≡ sets-rule (fewest * most-users + at) ⌝ }
 {
-    USABLE[at]
+    SETS[at]
 }
 
-fn holding_at(at: usize) -> u16
-    requires { ⌜ at < 48 ⌝ }
-    ensures { λ r. ⌜ r ≡ holding-rule (24 + at) ⌝ }
+fn count_of(users: u32, threshold: u32) -> usize
+    requires { ⌜ (fewest ≤ users) × (users ≤ most-users) × (threshold < most-users) ⌝ }
+    ensures { λ r. ⌜ (r ≡ sets-of users threshold) × (r ≤ most-sets) ⌝ }
 {
-    HOLDING[at]
+    sets_at((users as usize - FEWEST) * USERS + threshold as usize) as usize
 }
 
 fn count_usable(p: Plan) -> usize
     requires { ⌜ Good (plan-of p) ⌝ }
-    ensures { λ r. ⌜ (r ≡ length (usable-sets (plan-of p))) × (r ≤ 256) ⌝ }
+    ensures { λ r. ⌜ (r ≡ length (usable-sets (plan-of p))) × (r ≤ most-sets) ⌝ }
 {
-    usable_at((p.users as usize - 3) * 8 + p.threshold as usize) as usize
+    count_of(p.users, p.threshold)
 }
 
+// With one user given, the others of a usable set are a set of K - 1 users that has at least U - 1 members.
 fn count_holding(p: Plan, user: u32) -> usize
     requires { ⌜ Good (plan-of p) × (1 ≤ user) × (user ≤ p .users) ⌝ }
-    ensures { λ r. ⌜ (r ≡ length (sets-with (plan-of p) user)) × (r ≤ 256) ⌝ }
+    ensures { λ r. ⌜ (r ≡ length (sets-with (plan-of p) user)) × (r ≤ most-sets) ⌝ }
 {
-    holding_at((p.users as usize - 3) * 8 + p.threshold as usize) as usize
+    count_of(p.users - 1, p.threshold - 1)
 }
 
 // The place of a set in a user's key: how many smaller usable sets hold the user.
 fn set_place(p: Plan, user: u32, set: u32) -> u32
-    requires { ⌜ (set ≤ 2 ^ p .users) × (1 ≤ user) × (user ≤ 8) ⌝ }
+    requires { ⌜ (set ≤ 2 ^ p .users) × (1 ≤ user) × (user ≤ most-users) ⌝ }
     ensures { λ r. ⌜ (r ≡ rank (usable-with (plan-of p) user) set) × (r ≤ set) ⌝ }
 {
     let mut count: u32 = 0;
@@ -289,7 +285,7 @@ fn set_place(p: Plan, user: u32, set: u32) -> u32
 // L = M × (U − T).
 pub fn places_of(p: Plan) -> usize
     requires { ⌜ Good (plan-of p) ⌝ }
-    ensures { λ r. ⌜ (r ≡ places (plan-of p)) × (r ≤ 96) ⌝ }
+    ensures { λ r. ⌜ (r ≡ places (plan-of p)) × (r ≤ most-places) ⌝ }
 {
     p.blocks as usize * (p.threshold - p.collusion) as usize
 }
@@ -297,7 +293,7 @@ pub fn places_of(p: Plan) -> usize
 // "S of airfield 1, then of 2, up to K, L elements each; then for each usable set, block by block, T noise elements."
 pub fn list_of(p: Plan) -> usize
     requires { ⌜ Good (plan-of p) ⌝ }
-    ensures { λ r. ⌜ (r ≡ list-length (plan-of p)) × (r ≤ 8 * 96 + 256 * 16 * 6) ⌝ }
+    ensures { λ r. ⌜ (r ≡ list-length (plan-of p)) × (r ≤ most-list) ⌝ }
 {
     let sets = count_usable(p);
     p.users as usize * places_of(p) + sets * p.blocks as usize * p.collusion as usize
@@ -306,14 +302,14 @@ pub fn list_of(p: Plan) -> usize
 // Its L masks, and M shares for each usable set that holds the user.
 pub fn key_of(p: Plan, user: u32) -> usize
     requires { ⌜ Good (plan-of p) × (1 ≤ user) × (user ≤ p .users) ⌝ }
-    ensures { λ r. ⌜ (r ≡ key-length (plan-of p) user) × (r ≤ 96 + 256 * 16) ⌝ }
+    ensures { λ r. ⌜ (r ≡ key-length (plan-of p) user) × (r ≤ most-key) ⌝ }
 {
     places_of(p) + count_holding(p, user) * p.blocks as usize
 }
 
 // How long a row of figures is, and a first message.
 pub fn row_length(p: Plan) -> usize
-    ensures { λ r. ⌜ (r ≡ row-len (plan-of p)) × (r ≤ 96) ⌝ }
+    ensures { λ r. ⌜ (r ≡ row-len (plan-of p)) × (r ≤ most-places) ⌝ }
 {
     if !is_good(p) {
         return 0;
@@ -322,7 +318,7 @@ pub fn row_length(p: Plan) -> usize
 }
 
 pub fn list_length(p: Plan) -> usize
-    ensures { λ r. ⌜ (r ≡ list-len (plan-of p)) × (r ≤ 8 * 96 + 256 * 16 * 6) ⌝ }
+    ensures { λ r. ⌜ (r ≡ list-len (plan-of p)) × (r ≤ most-list) ⌝ }
 {
     if !is_good(p) {
         return 0;
@@ -331,7 +327,7 @@ pub fn list_length(p: Plan) -> usize
 }
 
 pub fn key_length(p: Plan, user: u32) -> usize
-    ensures { λ r. ⌜ (r ≡ key-len (plan-of p) user) × (r ≤ 96 + 256 * 16) ⌝ }
+    ensures { λ r. ⌜ (r ≡ key-len (plan-of p) user) × (r ≤ most-key) ⌝ }
 {
     if start_refusal(p, user) != 0 {
         return 0;
@@ -341,8 +337,8 @@ pub fn key_length(p: Plan, user: u32) -> usize
 
 // Where the M shares for a set start in a user's key: behind its L masks and the shares for the smaller sets.
 pub fn reply_start(p: Plan, user: u32, set: u32) -> usize
-    requires { ⌜ Good (plan-of p) × (1 ≤ user) × (user ≤ 8) × (set ≤ 2 ^ p .users) ⌝ }
-    ensures { λ r. ⌜ (r ≡ reply-start (plan-of p) user set) × (r ≤ 96 + 256 * 16) ⌝ }
+    requires { ⌜ Good (plan-of p) × (1 ≤ user) × (user ≤ most-users) × (set ≤ 2 ^ p .users) ⌝ }
+    ensures { λ r. ⌜ (r ≡ reply-start (plan-of p) user set) × (r ≤ most-key) ⌝ }
 {
     places_of(p) + set_place(p, user, set) as usize * p.blocks as usize
 }

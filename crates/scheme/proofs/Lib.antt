@@ -1,4 +1,4 @@
--- Tests, lists and refusals; sums, sets and keys; demand 3 (Add, Delta, Told, Modular); totals and the service (Totals, Held, Well,
+-- Tests, lists and refusals; sums, sets, bounds of a plan and keys; demand 3 (Add, Delta, Told, Modular); totals and the service (Totals, Held, Well,
 -- Choices, Service); what is sharp (Sharp, Settled, FirstUsers, Collusion, Threshold).
 pub mod Tests
 pub mod Good
@@ -6,6 +6,7 @@ pub mod Lists
 pub mod Refusals
 pub mod Sums
 pub mod Sets
+pub mod PlanBounds
 pub mod Keys
 pub mod Add
 pub mod Delta

@@ -3,7 +3,7 @@
 use mathlib.Core.Path.{_≡_, refl, sym, ap, _∙_}
 use mathlib.Core.Bool.{Bool, _&&_}
 use Prim.Native.Nat.{_-_, _≤_}
-use lib.Dec.{eqb}
+use lib.Dec.{eqb, lit<}
 use lib.ListN.{length, drop}
 use borrow.Author.Needs.{needs}
 use Rattle.scheme.specs.Scheme.{sixteen, elements}
@@ -38,15 +38,15 @@ loop-less c = search needs
 
 loop-again : tie.Need-loop-again Inv-loop μ-loop
 loop-again c =
-    let l = c .before .before .before .loop in
-    let xs = c .before .before .before .before .before .args .list .now in
+    let s = c .before .before .before in
+    let xs = s .before .before .args .list .now in
     let h = c .before .before .loop-test .taken in
-    (search needs, rw (c .excess .ensures) (elements-step xs (l .i) (l .past) h ∙ l .inv .1))
+    (search needs, rw (c .excess .ensures) (elements-step sixteen xs (s .loop .i) (lit< tt) (s .loop .past) h ∙ s .loop .inv .1))
 
 returns : tie.Need-returns Inv-loop μ-loop
 returns c =
     let l = c .before .loop in
-    sym (and-true (eqb (l .past) 0)) ∙ ap (λ (b : Bool). eqb (l .past) 0 && b) (sym (elements-end _ _ (c .loop-test .left))) ∙ l .inv .1
+    sym (and-true (eqb (l .past) 0)) ∙ ap (λ (b : Bool). eqb (l .past) 0 && b) (sym (elements-end sixteen _ _ (c .loop-test .left))) ∙ l .inv .1
 
 pub all-elements-spec : {M : Type 1} → statement M
 all-elements-spec =

@@ -1,19 +1,16 @@
--- `element::folded` meets its contract: with n = 65536 h + l, what is left out is 65521 h. Assumes nothing.
-use mathlib.Core.Path.{_≡_, refl, sym, ap, _∙_}
-use Prim.Native.Nat.{ℕ, _+_, _*_, _/_, _%_, _≤_}
-use native.Mathlib.Nat.{mul-le-mul, add-mul-mod-self-right}
+-- `element::folded` meets its contract: a product of two 16-bit numbers fits 32 bits. Assumes nothing.
+use mathlib.Core.Path.{refl}
+use Prim.Native.Nat.{_*_, _-_, _≤_}
+use native.Mathlib.Nat.{mul-le-mul}
 use native.Mathlib.Omega.{arith}
 use Rattle.scheme.specs.Scheme.{q}
+use Rattle.element.specs.Fold.{word}
+use Rattle.element.proofs.Fold.{fold-same}
 use Rattle.element.proofs.folded.Statement.{statement}
 use Rattle.element.proofs.folded.Tie as tie
 
-small : (c : tie.Start) → c .args .a * c .args .b ≤ 65535 * 65535
-small c = mul-le-mul {n₂ = 65535} {m₂ = 65535} (omega (arith, c .fits .a)) (omega (arith, c .fits .b))
-
-same : (n : ℕ) → (n % 65536 + n / 65536 * 15) % q ≡ n % q
-same n =
-    let e : n % 65536 + n / 65536 * 15 + n / 65536 * q ≡ n = omega arith in
-    sym (add-mul-mod-self-right _ (n / 65536) q) ∙ ap (λ (x : ℕ). x % q) e
+small : (c : tie.Start) → c .args .a * c .args .b ≤ (word - 1) * (word - 1)
+small c = mul-le-mul {n₂ = word - 1} {m₂ = word - 1} (omega (arith, c .fits .a)) (omega (arith, c .fits .b))
 
 mul-n : tie.Need-mul-n
 mul-n c = omega (arith, small c)
@@ -25,7 +22,7 @@ add-result : tie.Need-add-result
 add-result c = omega (arith, small c)
 
 returns : tie.Need-returns
-returns c = (same _, omega (arith, small c), refl)
+returns c = (fold-same word q (c .args .a * c .args .b) (omega arith), omega (arith, small c), refl)
 
 pub folded-spec : {M : Type 1} → statement M
 folded-spec = tie.close (tie.spec mul-n mul-result add-result returns)

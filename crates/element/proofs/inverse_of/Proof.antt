@@ -69,7 +69,7 @@ returns-15 : tie.Need-returns-15
 unfolding inverse inverse-from
 returns-15 c = ap (inverse q) (sym (c .match .keys15))
 
--- what is left of 0 to 15
+-- what is left of the numbers below points
 returns-16 : tie.Need-returns-16
 unfolding inverse inverse-from
 returns-16 c =

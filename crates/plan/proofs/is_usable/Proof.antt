@@ -7,8 +7,8 @@ use Rattle.scheme.specs.Scheme.{usable}
 use Rattle.plan.proofs.is_usable.Statement.{statement}
 use Rattle.plan.proofs.is_usable.Tie as tie
 
-all-sets-requires : tie.Need-all-sets-requires
-all-sets-requires c κs = search needs
+count-sets-requires : tie.Need-count-sets-requires
+count-sets-requires c κs = search needs
 
 returns : tie.Need-returns
 unfolding usable
@@ -24,4 +24,4 @@ returns-2 : tie.Need-returns-2
 returns-2 c = search needs
 
 pub is-usable-spec : {M : Type 1} → statement M
-is-usable-spec = tie.close (tie.spec all-sets-requires returns has-enough-requires returns-2)
+is-usable-spec = tie.close (tie.spec count-sets-requires returns has-enough-requires returns-2)

@@ -1,6 +1,7 @@
--- `plan::key_of` meets its contract: at most 96 masks, and at most 256 sets of 16 shares. Assumes nothing.
+-- `plan::key_of` meets its contract: masks and shares are each bounded for a good plan. Assumes nothing.
 use native.Mathlib.Omega.{arith}
-use Rattle.plan.proofs.Laws.{shares-le, key-parts}
+use Rattle.scheme.specs.Scheme.{key-length}
+use Rattle.scheme.proofs.PlanBounds.{shares-le}
 use borrow.Author.Needs.{needs}
 use Rattle.plan.proofs.key_of.Statement.{statement}
 use Rattle.plan.proofs.key_of.Tie as tie
@@ -21,8 +22,9 @@ add-result : tie.Need-add-result
 add-result c = omega (arith, shares-le (c .before .before .before .pre .0) (c .before .count-holding .ensures .1))
 
 returns : tie.Need-returns
+unfolding key-length
 returns c =
-    (cc (key-parts _ _), omega (arith, shares-le (c .before .before .before .pre .0) (c .before .count-holding .ensures .1)))
+    (cc, omega (arith, shares-le (c .before .before .before .pre .0) (c .before .count-holding .ensures .1)))
 
 pub key-of-spec : {M : Type 1} → statement M
 key-of-spec =

@@ -1,14 +1,11 @@
--- `plan::list_of` meets its contract: at most 8 rows of masks, and at most 256 sets of 16 blocks of 6 noise elements.
+-- `plan::list_of` meets its contract: each of its two summands is bounded for a good plan.
 -- Assumes nothing.
-use Prim.Native.Nat.{_≤_}
 use native.Mathlib.Omega.{arith}
 use borrow.Author.Needs.{needs}
-use Rattle.plan.proofs.Laws.{masks-le, shares-le, noise-le, list-parts}
+use Rattle.scheme.specs.Scheme.{list-length}
+use Rattle.scheme.proofs.PlanBounds.{masks-le, shares-le, noise-le}
 use Rattle.plan.proofs.list_of.Statement.{statement}
 use Rattle.plan.proofs.list_of.Tie as tie
-
-few : (c : tie.After-count-usable) → c .count-usable .result ≤ 256
-few c = omega arith
 
 count-usable-requires : tie.Need-count-usable-requires
 count-usable-requires c κs = search needs
@@ -28,7 +25,7 @@ cast-result-2 c = search needs
 mul-result-2 : tie.Need-mul-result-2
 mul-result-2 c =
     let s = c .before .before .before in
-    omega (arith, shares-le (s .before .pre) (few s))
+    omega (arith, shares-le (s .before .pre) (s .count-usable .ensures .1))
 
 cast-result-3 : tie.Need-cast-result-3
 cast-result-3 c = search needs
@@ -36,17 +33,18 @@ cast-result-3 c = search needs
 mul-result-3 : tie.Need-mul-result-3
 mul-result-3 c =
     let s = c .before .before .before .before in
-    omega (arith, noise-le (s .before .pre) (few s))
+    omega (arith, noise-le (s .before .pre) (s .count-usable .ensures .1))
 
 add-result : tie.Need-add-result
 add-result c =
     let s = c .before .before .before .before in
-    omega (arith, masks-le (s .before .pre) (c .before .before .places-of .ensures .1), noise-le (s .before .pre) (few s))
+    omega (arith, masks-le (s .before .pre) (c .before .before .places-of .ensures .1), noise-le (s .before .pre) (s .count-usable .ensures .1))
 
 returns : tie.Need-returns
+unfolding list-length
 returns c =
     let s = c .before .before .before .before in
-    (cc (list-parts _), omega (arith, masks-le (s .before .pre) (c .before .before .places-of .ensures .1), noise-le (s .before .pre) (few s)))
+    (cc, omega (arith, masks-le (s .before .pre) (c .before .before .places-of .ensures .1), noise-le (s .before .pre) (s .count-usable .ensures .1)))
 
 pub list-of-spec : {M : Type 1} → statement M
 list-of-spec =

@@ -1,10 +1,10 @@
--- `plan::places_of` meets its contract: at most 16 blocks of at most 6 items.
+-- `plan::places_of` meets its contract: at most most-blocks blocks of at most most-items items.
 -- Assumes nothing.
 use mathlib.Core.Path.{refl}
 use native.Mathlib.Omega.{arith}
 use borrow.Author.Needs.{needs}
 use Rattle.scheme.specs.Scheme.{places, items}
-use Rattle.plan.proofs.Laws.{places-le}
+use Rattle.scheme.proofs.PlanBounds.{places-le}
 use Rattle.plan.proofs.places_of.Statement.{statement}
 use Rattle.plan.proofs.places_of.Tie as tie
 

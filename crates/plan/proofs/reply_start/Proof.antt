@@ -1,15 +1,16 @@
--- `plan::reply_start` meets its contract: at most 256 sets of at most 16 shares each.
+-- `plan::reply_start` meets its contract: at most most-sets sets of at most most-blocks shares each.
 -- Assumes nothing.
 use Prim.Native.Nat.{_≤_}
 use native.Mathlib.Omega.{arith}
 use borrow.Author.Needs.{needs}
+use Rattle.scheme.specs.Limits.{most-sets}
 use Rattle.scheme.specs.Scheme.{reply-start}
 use Rattle.plan.specs.Plan.{plan-of}
-use Rattle.plan.proofs.Laws.{sets-le, shares-le}
+use Rattle.scheme.proofs.PlanBounds.{sets-le, shares-le}
 use Rattle.plan.proofs.reply_start.Statement.{statement}
 use Rattle.plan.proofs.reply_start.Tie as tie
 
-few : (c : tie.After-set-place) → c .set-place .result ≤ 256
+few : (c : tie.After-set-place) → c .set-place .result ≤ most-sets
 few c = let s = c .before .before in omega (arith, sets-le (plan-of (s .args .p)) (s .pre .0))
 
 places-of-requires : tie.Need-places-of-requires

@@ -36,7 +36,8 @@ loop-again c =
     let l = c .before .before .before .loop in
     let h = c .before .before .loop-test .taken in
     let e = sym (c .before .is-usable-with .ensures) in
-    ⊎-elim (λ w. rw (w .1) (counting-yes _ _ (l .v) (l .count) (l .inv) h (e ∙ w .0 .taken))) (λ w. rw (w .1) (counting-no _ _ (l .v) (l .count) (l .inv) h (e ∙ w .0 .left)))
+    ⊎-elim (λ w. rw (w .1) (counting-yes _ _ (l .v) (l .count) (l .inv) h (e ∙ w .0 .taken)))
+    (λ w. rw (w .1) (counting-no _ _ (l .v) (l .count) (l .inv) h (e ∙ w .0 .left)))
     (c .if1 .came)
 
 returns : tie.Need-returns Inv-loop μ-loop

@@ -42,11 +42,11 @@ use denote.Triple.Table.{entered, cited}
 use denote.Triple.Walked.{says, Stays, stay-none, stay-none-slice, walkOf, goes-none, goes-none-slice, Walks, ends-at, walked, walk-meets}
 use denote.Triple.Clauses.{ensured, lasts}
 use denote.Exit.{yes}
+use Rattle.scheme.specs.Scheme.{sixteen}
 use Rattle.client.specs.declared.Stage.the-variants.{Answered}
 use Rattle.client.specs.declared.Client.{Client}
 use Rattle.client.specs.declared.Replied.{Replied}
 use Rattle.client.specs.Client.{answer-refusal, moved, part-of, part-start}
-use Rattle.client.proofs.Laws.{moved-apart}
 use Rattle.client.proofs.Walks.{all-true, two-heard, says-three}
 use Rattle.client.proofs.Client as C
 use Rattle.client.proofs.Client.Laws as C′
@@ -132,7 +132,7 @@ module _ {M : Type 1} (𝓤 : URA M) (H : Heap 𝓤) (A : Atoms 𝓤) (W : Given
       frame ! $ done !
 
   abbrev Refused : ℕ → Type 0
-  Refused n = n ≡ answer-refusal c (now s) set
+  Refused n = n ≡ answer-refusal sixteen c (now s) set
 
   abbrev refusal-ends : ℕ → SProp 𝓤
   refusal-ends n = ensured 𝓤 H A refusal.ended (refusal.clauses 𝓤 H A mem run) (κ, tt) (c, (s, (set, tt))) tt n
@@ -163,10 +163,10 @@ module _ {M : Type 1} (𝓤 : URA M) (H : Heap 𝓤) (A : Atoms 𝓤) (W : Given
       frame ! $ done !
 
   abbrev Shares : RefT (List ℕ) → Type 0
-  Shares r = now r ≡ part-of c (now s) set
+  Shares r = now r ≡ part-of sixteen c (now s) set
 
   abbrev Place : RefT (List ℕ) → Type 0
-  Place r = r .ptr ≡ (s .ptr .0, s .ptr .1 + part-start c (now s) set * 2)
+  Place r = r .ptr ≡ (s .ptr .0, s .ptr .1 + part-start sixteen c (now s) set * 2)
 
   abbrev part-ends : ℕ → RefT (List ℕ) → SProp 𝓤
   part-ends n r = ensured 𝓤 H A part.ended (part.clauses 𝓤 H A mem run) (κ, tt) (c, (n, (s, (set, tt)))) tt r
@@ -190,14 +190,14 @@ module _ {M : Type 1} (𝓤 : URA M) (H : Heap 𝓤) (A : Atoms 𝓤) (W : Given
       owned ! u32 (Is u32) (uint-makes 𝓤 H A W w32) n _ is $ fjoin ! $
       owned ! C.the-row (Is C.the-row) (LL.makes C.the-type C′.the-plain 𝓤 H A) c _ c-is $ fjoin ! $ move ! (1 ∷ 0 ∷ []) $ join ! $ frame ! $ done !
 
-  abbrev Moved : ℕ → Client → Type 0
-  Moved n d = d ≡ moved n c (Answered set) .client
+  abbrev Stepped : ℕ → Client → Type 0
+  Stepped n d = d ≡ moved n c (Answered set) .client
 
   abbrev after-ends : ℕ → Client → SProp 𝓤
   after-ends n d = ensured 𝓤 H A after.ended (after.clauses 𝓤 H A mem run) tt (c, (n, (set, tt))) tt d
 
-  after-said : (n : ℕ) (d : Client) → ent 𝓤 (after-ends n d) (fact 𝓤 (Moved n d))
-  after-said n d = exE 𝓤 _ (λ ws. snd∗ 𝓤 (sem 𝓤 H A (lasts after.ended tt (c, (n, (set, tt))) ws)) (fact 𝓤 (Moved n d)))
+  after-said : (n : ℕ) (d : Client) → ent 𝓤 (after-ends n d) (fact 𝓤 (Stepped n d))
+  after-said n d = exE 𝓤 _ (λ ws. snd∗ 𝓤 (sem 𝓤 H A (lasts after.ended tt (c, (n, (set, tt))) ws)) (fact 𝓤 (Stepped n d)))
 
   -- ---- the struct that is made of n, d and r, with the machine values u, w and v
   abbrev mach : Val → Val → Val → Val
@@ -213,7 +213,7 @@ module _ {M : Type 1} (𝓤 : URA M) (H : Heap 𝓤) (A : Atoms 𝓤) (W : Given
         let slice = hasTy (sliceTy (tyRef (named 0) imm (tyInt w16))) v in
         (all-true (hasTy (tyInt w32) u) (hasTy C′.mir w) slice (tu .0) (tw .0) (tv .0), (tu .1, (tw .1, (tv .1, tt))))
 
-    exits : Refused n → Shares r × Place r → Moved n d
+    exits : Refused n → Shares r × Place r → Stepped n d
         → ent 𝓤 (⋆ 𝓤 H A (‵ (Slice r v) ∷ (‵ (flft κ q) ⊛ ‵ ftrue) ∷ ‵ (Slice s sv) ∷ [])) (Post (mach u w v))
     exits e p f =
         let us = uint-tells w32 n (u ∷ []) u-is in
@@ -225,7 +225,7 @@ module _ {M : Type 1} (𝓤 : URA M) (H : Heap 𝓤) (A : Atoms 𝓤) (W : Given
         (qed W (‵ (Slice r v) ∷ (‵ (flft κ q) ⊛ ‵ ftrue) ∷ ‵ (Slice s sv) ∷ []) ∵
         suffices ! _ (ends-at 𝓤 H A reply.ended stayed (reply.clauses 𝓤 H A mem run) W (((κ, tt), (q, tt), tt, (c, (s, (set, tt))), at), tt)
         (LL.val (T.the-type α) (T′.the-laws α) made) made (tt, (tt, (tt, tt))) (tt, (tt, (tt, tt)))) $
-        says-three ! (moved-apart c (Answered set) e f, p) $ move ! (1 ∷ []) $ frame ! $
+        says-three ! (cc (e, f), p) $ move ! (1 ∷ []) $ frame ! $
         -- [what the part owns; what the key owns]: what the parameters own
         move ! (1 ∷ []) $ nothing ! $ owned ! u32 (Is u32) (uint-makes 𝓤 H A W w32) set _ (refl, set-fits) $ fjoin ! $ move ! (1 ∷ 0 ∷ []) $ fjoin ! $
         owned ! C.the-row (Is C.the-row) (LL.makes C.the-type C′.the-plain 𝓤 H A) c _ c-is $ fjoin ! $ frame ! $
@@ -272,7 +272,7 @@ module _ {M : Type 1} (𝓤 : URA M) (H : Heap 𝓤) (A : Atoms 𝓤) (W : Given
         (and-then ! (load ! (from ! (stop !)) (look ! 8 refl)) (no-more !)))) (λ w.
         use1 W (later (some (λ (d : Client). (‵ ftrue ⊛ ‵ (C.the-row .own d (w ∷ []))) ⊛ raw (after-ends n d)))) (id⊢ 𝓤 _) $
         await ! tt $ pick ! (λ d.
-        split ! $ move ! (1 ∷ []) $ use1 W (raw (fact 𝓤 (Moved n d))) (after-said n d) $ heard ! (Moved n d) (λ f. split ! $ drop ! $
+        split ! $ move ! (1 ∷ []) $ use1 W (raw (fact 𝓤 (Stepped n d))) (after-said n d) $ heard ! (Stepped n d) (λ f. split ! $ drop ! $
         facts ! C.the-row (Is C.the-row) (shows 𝓤 H A C.the-row) d (w ∷ []) (λ w-is.
         -- [what the part owns; the token; what the key owns; _5; …; _4; …; _3; …; _2; …; _1; …; room for _0; …]: the end takes the old one's place
         land ! (from ! (stop !)) (store ! 11 refl (LL.lawful C.the-type C′.the-laws 𝓤 H A W .typed d _ w-is .0)) $

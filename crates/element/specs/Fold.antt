@@ -1,0 +1,19 @@
+-- Remainders without a division.
+--   word                     how many numbers 16 bits hold
+--   fold                     a number's low part, and its high part times what the modulus q is short of w (proofs/Fold.antt)
+--   most-folded, reducible   the fold of a product of two 16-bit numbers is at most the one; that of a number below the other, below 2 * q
+-- Assumes nothing: these are definitions.
+use Prim.Native.Nat.{ℕ, _+_, _*_, _-_, _/_, _%_, _^_}
+use Rattle.scheme.specs.Scheme.{q}
+
+abbrev pub word : ℕ
+word = 2 ^ 16
+
+abbrev pub fold : (w q n : ℕ) → ℕ
+fold w q n = n % w + n / w * (w - q)
+
+abbrev pub most-folded : ℕ
+most-folded = (word - 1) + (word - 1) * (word - q)
+
+abbrev pub reducible : ℕ
+reducible = 2 ^ 28
