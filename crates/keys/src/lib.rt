@@ -31,7 +31,7 @@ use plan::BLOCKS;
 use plan::CELLS;
 use plan::Plan;
 use plan::USERS;
-use plan::all_sets;
+use plan::count_sets;
 use plan::has_enough;
 use plan::holds;
 use plan::key_of;
@@ -103,7 +103,7 @@ fn write_sets(plan: Plan, user: u32, list: &[u16], out: &mut [u16], row: usize)
     let mut noise = plan.users as usize * row;
     let mut at = row;
     let mut v: u32 = 0;
-    let mut left = all_sets(plan);
+    let mut left = count_sets(plan);
     while 0 < left {
         if has_enough(plan, v) {
             let here = noise;

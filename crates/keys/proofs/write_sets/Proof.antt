@@ -32,7 +32,7 @@ abbrev μ-loop : tie.MeasureT-loop
 abbrev first : tie.After-struct-known Inv-loop μ-loop → tie.Start Inv-loop μ-loop
 first c = c .before .before .before .before
 
-abbrev weighing : tie.After-all-sets Inv-loop μ-loop → tie.After-coefficients Inv-loop μ-loop
+abbrev weighing : tie.After-count-sets Inv-loop μ-loop → tie.After-coefficients Inv-loop μ-loop
 weighing c = c .before .before .before .before
 
 abbrev begun : tie.At-loop Inv-loop μ-loop → tie.Start Inv-loop μ-loop
@@ -76,11 +76,11 @@ mul-noise c =
     let p = s .args .plan in
     omega (arith, rows-in (plan-of p), s .pre .0 .long, ap (λ (x : ℕ). p .users * x) (s .pre .1 .0), s .good)
 
-all-sets-requires : tie.Need-all-sets-requires Inv-loop μ-loop
-all-sets-requires c κs = search needs
+count-sets-requires : tie.Need-count-sets-requires Inv-loop μ-loop
+count-sets-requires c κs = search needs
 
 loop-holds : tie.Need-loop-holds Inv-loop μ-loop
-loop-holds c = (omega (arith, c .all-sets .ensures .0), written-start _ _ _ _ _ _ (first (weighing c .before) .pre .1 .0))
+loop-holds c = (omega (arith, c .count-sets .ensures .0), written-start _ _ _ _ _ _ (first (weighing c .before) .pre .1 .0))
 
 has-enough-requires : tie.Need-has-enough-requires Inv-loop μ-loop
 has-enough-requires c κs = omega (arith, c .before .loop .inv .0, c .loop-test .taken)
@@ -182,7 +182,7 @@ write-sets-spec =
     mul-step
     cast-noise
     mul-noise
-    all-sets-requires
+    count-sets-requires
     loop-holds
     has-enough-requires
     add-noise
