@@ -1,7 +1,6 @@
 -- A list in the first of `size` places and 0 behind it, and lists taken place by place.
 --   padded-at, padded-take, padded-length, padded-behind    an entry; the list again; the length; behind the list
 --   padded-next                                             one entry more
---   span-more                                               one entry more of a rule
 --   filled-at, filled-behind, filled-length                 n entries by a rule: one of them; behind them; all
 --   filled-next, filled-sets, filled-zeros                  one more; several from another rule; several that are 0
 --   Filling, filling-start, filling-more, filling-end       a loop that writes n entries in order
@@ -17,7 +16,6 @@ use native.Mathlib.Decide.{decLt}
 use native.Mathlib.Omega.{arith}
 use lib.ListN.{length, getD, take, set, replicate, length-append, length-replicate, List·getD-append}
 use lib.Seq.{sets, getD-append-add, set-append-seam, take-append-seam, ext-getD}
-use Rattle.algebra.specs.Sums.{In}
 use Rattle.scheme.specs.Lists.{span, padded, filled}
 use Rattle.scheme.specs.Scheme.{Arithmetic, sum}
 use Rattle.scheme.proofs.Lists.{span-append, span-in, map-span-length, map-span-at, sets-more, zeros-at}
@@ -53,7 +51,7 @@ module _ (size : ℕ) (l : List ℕ) where
       rw (d, r, ← e) (set-append-seam l 0 z x ∙ sym (append-assoc l (x ∷ []) z))
 
 -- ---- the first n entries by a rule
-pub span-more : (f : ℕ → ℕ) (n : ℕ) → map f (span (n + 1) 0) ≡ map f (span n 0) ++ (f n ∷ [])
+span-more : (f : ℕ → ℕ) (n : ℕ) → map f (span (n + 1) 0) ≡ map f (span n 0) ++ (f n ∷ [])
 span-more f n =
     ap (map f) (span-append n 1 0) ∙ map-append f (span n 0) (span 1 (0 + n))
     ∙ ap (λ (i : ℕ). map f (span n 0) ++ (f i ∷ [])) (zero-add n)

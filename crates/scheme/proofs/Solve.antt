@@ -2,10 +2,9 @@
 --   below, points-some                  the positions of n entries; fewer points, in a wider range
 --   sums-low, filled-factors            points in range have small sums; n entries by a rule are n factors
 --   dot-same, dot-row                   the value of a row goes by the first n values; in the words of the scheme, where the columns are 1 to n
---   combined-dot, row-same              a row of the system times the unknowns, as code has it, is the value of the row
+--   row-same                            a row of the system times the unknowns, as code has it, is the value of the row
 --   sum-short                           summands that are 0 do not count
---   dot-small, dot-el                   the value of a row is an element, and what it is in the field
---   row-weight-el, column-weight-el     weights in the field
+--   α, β, row-weight-el, column-weight-el       weights in the field
 --   solve-right                         the unknowns solve the system
 --   unknown-right                       a row of the inverse times values is an unknown
 --   unknown-same                        an unknown goes by the first n values alone
@@ -68,10 +67,10 @@ module _ (A : Arithmetic) where
       ap₂ (λ (c k : ℕ). A .multiply (A .coefficient x c) (getD vs k 0)) e f)
       ∙ sym (sum-shift A n 1 0 (λ j. A .multiply (A .coefficient x j) (getD vs (j - 1) 0)))
 
-  combined-dot : (x : ℕ) (ps cs g : List ℕ) (n b : ℕ) → n ≤ most-users → cs ≡ filled most-users n (λ i. A .coefficient x (getD ps i 0))
+  weighed-dot : (x : ℕ) (ps cs g : List ℕ) (n b : ℕ) → n ≤ most-users → cs ≡ filled most-users n (λ i. A .coefficient x (getD ps i 0))
       → weighed A cs n (λ i. cell g i b) ≡ dot-of A x ps (block g b) n
   unfolding weighed dot-of
-  combined-dot x ps cs g n b h e =
+  weighed-dot x ps cs g n b h e =
       sum-same A (span n 0) _ _ (λ i m.
       let l = below n i m in
       ap₂ (A .multiply) (ap (λ (c : List ℕ). getD c i 0) e ∙ filled-at most-users _ n i l) (sym (block-at g b i (omega arith))))
@@ -81,7 +80,7 @@ module _ (A : Arithmetic) where
       → all-of (λ b. eqb (weighed A list n (λ i. cell ws i b)) (getD vs (at + b) 0)) (span m 0) ≡ row-fits A rs cs vs ws n m a
   unfolding row-fits
   row-same rs cs vs ws list n m a at h e d = λ t.
-      all-of (λ b. eqb (combined-dot (getD rs a 0) cs list ws n b h e t) (getD vs (d t + b) 0)) (span m 0)
+      all-of (λ b. eqb (weighed-dot (getD rs a 0) cs list ws n b h e t) (getD vs (d t + b) 0)) (span m 0)
 
 -- ---- IN THE FIELD
 module _ (A : Arithmetic) (L : Laws A most-users most-threshold) where

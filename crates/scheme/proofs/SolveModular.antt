@@ -3,14 +3,14 @@
 --   gap-shift                       1 / (x - y) by most-threshold + x - y
 --   Factoring, factoring-start, factoring-more, factoring-end     a loop that makes a weight, factor by factor
 --   inverse-row-right               a row of the inverse times values is an unknown
---   sum-two, sum-both               sums that are reduced at their end
+--   unreduced-one, unreduced-both   sums that are reduced at their end: of one term, of more
+--   unreduced-weighed               factors that are 0 do not count
 -- Assumes nothing.
 use mathlib.Core.Path.{_≡_, refl, sym, ap, ap₂, _∙_}
 use mathlib.Core.Bool.{Bool, true, false, cond}
-use mathlib.Core.List.{List, _++_}
+use mathlib.Core.List.{List}
 use Prim.Native.Nat.{ℕ, _+_, _*_, _-_, _%_, _≤_, _<_}
-use native.Mathlib.Nat.{add-zero, add-mod, mod-lt, mod-eq-of-lt}
-use native.Mathlib.Numerals.{add-one}
+use native.Mathlib.Nat.{add-zero, zero-mul, one-mul, add-mul, add-mod, mod-lt, mod-eq-of-lt}
 use native.Mathlib.Decide.{ℕ-discrete}
 use native.Mathlib.Omega.{arith}
 use lib.Dec.{eqb}
@@ -26,10 +26,11 @@ use Rattle.scheme.specs.Scheme.{Arithmetic, modular, sum}
 use Rattle.scheme.specs.Laws.{Laws}
 use Rattle.scheme.specs.Modular.{modular-laws}
 use Rattle.scheme.specs.Weighed.{weighed}
-use Rattle.scheme.specs.Solve.{Points, cell, block, row-points, column-points, row-weight, column-weight, row-weights, column-weights, Weighted, unknown-at, gap-between, gap-entry, inverse-at}
+use Rattle.scheme.specs.Solve.{Points, cell, block, row-points, column-points, row-weight, column-weight, row-weights, column-weights, Weighted, unknown-at, gap-between, gap-entry, inverse-at, Factors, Unreduced}
+use Rattle.scheme.proofs.Lists.{span-append}
 use Rattle.scheme.proofs.Sums.{sum-append, coefficient-el}
 use Rattle.scheme.proofs.Padded.{filled-at}
-use Rattle.scheme.proofs.Solve.{α, β, row-weight-el, column-weight-el, unknown-right, Weighing, weighing-start, weighing-more, weighing-end}
+use Rattle.scheme.proofs.Solve.{α, β, row-weight-el, column-weight-el, sum-short, unknown-right, Weighing, weighing-start, weighing-more, weighing-end}
 
 module _ {q : ℕ} (prime : Prime q) (large : most-users + most-threshold < q) where
   abbrev A : Arithmetic
@@ -44,7 +45,7 @@ module _ {q : ℕ} (prime : Prime q) (large : most-users + most-threshold < q) w
   infixl 65 _⊕_
   infixl 70 _⊗_
   -- ---- numbers in the field: a row and a column have their number's residue as point
-  pub el-one : el 1 ≡ 𝟙
+  el-one : el 1 ≡ 𝟙
   unfolding modular-laws
   el-one = refl
 
@@ -145,14 +146,22 @@ module _ {q : ℕ} (prime : Prime q) (large : most-users + most-threshold < q) w
         ap el (ap (λ (c : List ℕ). getD c a 0) e ∙ filled-at most-users _ n a l) ∙ inverse-el a l)
 
   -- ---- sums that are reduced at their end
-  module _ (f : ℕ → ℕ) where
-    pub sum-two : (i s t : ℕ) → s % q ≡ f i % q → t % q ≡ f (i + 1) % q → (s + t) % q ≡ sum (modular q) (span 2 i) f
+  module _ (most : ℕ) (f : ℕ → ℕ) where
+    pub unreduced-one : (k r : ℕ) → r % q ≡ f k % q → r ≤ most → Unreduced q most f k 1 r
     unfolding sum
-    sum-two i s t a b =
-        add-mod s t q ∙ ap₂ (λ (m n : ℕ). (m + n) % q) a (b ∙ ap (λ (k : ℕ). f k % q) (add-one i)) ∙ simp (mods, add-zero)
+    unreduced-one k r e h = record { small = omega (arith, one-mul most); right = e ∙ simp (mods, add-zero) }
 
-    -- the sums over two lists
-    pub sum-both : (l m : List ℕ) (s t : ℕ) → s % q ≡ sum (modular q) l f → t % q ≡ sum (modular q) m f
-        → (s + t) % q ≡ sum (modular q) (l ++ m) f
-    sum-both l m s t a b =
-        add-mod s t q ∙ ap₂ (λ (x y : ℕ). (x + y) % q) a b ∙ sym (sum-append (modular q) most-users most-threshold L l m f)
+    pub unreduced-both : (k n m r s : ℕ) → Unreduced q most f k n r → Unreduced q most f (k + n) m s → Unreduced q most f k (n + m) (r + s)
+    unreduced-both k n m r s a b = record {
+      small = omega (arith, a .small, b .small, add-mul n m most);
+      right =
+          add-mod r s q ∙ ap₂ (λ (x y : ℕ). (x + y) % q) (a .right) (b .right)
+          ∙ sym (ap (λ (l : List ℕ). sum A l f) (span-append n m k) ∙ sum-append A most-users most-threshold L (span n k) (span m (k + n)) f);
+    }
+
+  -- factors that are 0 do not count
+  pub unreduced-weighed : (most : ℕ) (cs : List ℕ) (f : ℕ → ℕ) (n m r : ℕ) → Factors n cs → n ≤ m
+      → Unreduced q most (λ i. getD cs i 0 * f i) 0 m r → r % q ≡ weighed (modular q) cs n f
+  unfolding weighed
+  unreduced-weighed most cs f n m r factors h u =
+      u .right ∙ sum-short A L m n 0 _ h (λ i l. ap (λ (c : ℕ). c * f i) (factors .behind i (omega arith)) ∙ zero-mul (f i))

@@ -4,9 +4,9 @@
 //   two_products, all_products          a row times the numbers of a block
 //   put_row, solve                      the unknowns of every block
 //   same_row, fits                      whether further rows have the values that follow
-// Everything goes by position: row a has the point rows[a], 1 to 8, column i the point columns[i], 1 to 7, and of each array the
-// first n entries count. A grid has a row for each user, in it a number for each block. The functions are for points that the caller
-// knows to be in range and different. What they compute is in Solve of crate scheme.
+// Everything goes by position: row a has the point rows[a], 1 to MOST_USERS, column i the point columns[i], 1 to MOST_THRESHOLD, and
+// of each array the first n entries count. A grid has a row for each user, in it a number for each block. The functions are for points
+// that the caller knows to be in range and different. What they compute is defined in Solve of crate scheme.
 ghost use mathlib.Core.Path.{_≡_};
 ghost use mathlib.Core.List.{map};
 ghost use Prim.Native.Nat.{_+_, _*_, _-_, _%_, _≤_, _<_};
@@ -15,9 +15,9 @@ ghost use lib.ListN.{length, getD, replicate};
 ghost use lib.Seq.{sets};
 ghost use Rattle.scheme.specs.Limits.{most-users, most-threshold, most-blocks, cells};
 ghost use Rattle.scheme.specs.Lists.{span, all-of, filled};
-ghost use Rattle.scheme.specs.Scheme.{q, sixteen, sum};
+ghost use Rattle.scheme.specs.Scheme.{q, sixteen};
 ghost use Rattle.scheme.specs.Weighed.{weighed};
-ghost use Rattle.scheme.specs.Solve.{Points, Weighted, cell, row-weight, row-weights, column-weights, unknowns-of, row-fits, gap-between, gap-entry, inverse-at, Sums-low, Factors};
+ghost use Rattle.scheme.specs.Solve.{Points, Weighted, cell, row-weight, row-weights, column-weights, unknowns-of, row-fits, gap-between, gap-entry, inverse-at, Sums-low, Factors, Unreduced};
 ghost use Rattle.solve.specs.Solve.{laws16, most-folded};
 use plan::BLOCKS;
 use plan::CELLS;
@@ -131,8 +131,7 @@ fn inverse_row(
 // Two products of a row and the numbers of a block, from position i on, not reduced.
 fn two_products(list: &[u16; USERS], grid: &[u16; CELLS], i: usize, b: usize) -> u32
     requires { ⌜ (i + 2 ≤ most-users) × (b < most-blocks) ⌝ }
-    ensures { λ r. ⌜ (r ≤ 2 * most-folded)
-        × (r % q ≡ sum sixteen (span 2 i) (λ k. sixteen .multiply (getD (now (list .entry)) k 0) (cell (now (grid .entry)) k b))) ⌝ }
+    ensures { λ r. ⌜ Unreduced q most-folded (λ k. getD (now (list .entry)) k 0 * cell (now (grid .entry)) k b) i 2 r ⌝ }
 {
     let at = i * BLOCKS + b;
     let s = element::folded(list[i], grid[at]);

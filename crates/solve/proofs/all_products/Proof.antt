@@ -1,61 +1,48 @@
 -- `solve::all_products` meets its contract: where fewer factors count than were multiplied, the others are 0.
 -- Assumes nothing.
-use mathlib.Core.Path.{_≡_, ap, _∙_}
-use Prim.Native.Nat.{ℕ, _+_, _*_, _%_, _≤_}
-use native.Mathlib.Nat.{zero-mul}
+use Prim.Native.Nat.{ℕ, _+_, _*_}
 use native.Mathlib.Omega.{arith}
 use lib.Dec.{lit<}
 use lib.ListN.{getD}
 use borrow.Author.Needs.{needs}
 use Rattle.algebra.proofs.Primes.{prime-65521}
-use Rattle.scheme.specs.Lists.{span}
-use Rattle.scheme.specs.Scheme.{q, sixteen, sum}
-use Rattle.scheme.specs.Weighed.{weighed}
-use Rattle.scheme.specs.Solve.{cell}
-use Rattle.scheme.proofs.Solve.{sum-short}
-use Rattle.scheme.proofs.SolveModular.{sum-both}
-use Rattle.solve.specs.Solve.{laws16, most-folded}
+use Rattle.scheme.specs.Scheme.{q}
+use Rattle.scheme.specs.Solve.{cell, Unreduced}
+use Rattle.scheme.proofs.SolveModular.{unreduced-both, unreduced-weighed}
+use Rattle.solve.specs.Solve.{most-folded}
 use Rattle.solve.proofs.all_products.Statement.{statement}
 use Rattle.solve.proofs.all_products.Tie as tie
 
-abbrev product : tie.Start → ℕ → ℕ
-product c k = sixteen .multiply (getD (c .args .list .now) k 0) (cell (c .args .grid .now) k (c .args .b))
+-- the sum of the first products
+abbrev First : (c : tie.Start) → (count total : ℕ) → Type 0
+First c = Unreduced q most-folded (λ k. getD (c .args .list .now) k 0 * cell (c .args .grid .now) k (c .args .b)) 0
 
-enough : (c : tie.Start) (m r : ℕ) → c .args .n ≤ m → r % q ≡ sum sixteen (span m 0) (product c)
-    → r % q ≡ weighed sixteen (c .args .list .now) (c .args .n) (λ i. cell (c .args .grid .now) i (c .args .b))
-unfolding weighed
-enough c m r h e = e ∙ sum-short sixteen laws16 m _ 0 _ h nothing
-  where
-    nothing : (i : ℕ) → 0 + c .args .n ≤ i → product c i ≡ 0
-    nothing i l =
-        let x = cell (c .args .grid .now) i (c .args .b) in
-        ap (λ (y : ℕ). y * x) (c .pre .0 .behind i (omega arith)) ∙ zero-mul x
+four : (c : tie.After-two-products2) → First (c .before .before .before) 4 (c .before .before .two-products .result + c .two-products2 .result)
+four c = unreduced-both prime-65521 (lit< tt) _ _ 0 2 2 _ _ (c .before .before .two-products .ensures) (c .two-products2 .ensures)
 
--- the sums so far
-four : tie.After-two-products2 → ℕ
-four c = c .before .before .two-products .result + c .two-products2 .result
+abbrev first-four : tie.After-two-products4 → tie.After-two-products2
+first-four c = c .before .before .before
 
-four-right : (c : tie.After-two-products2) → four c % q ≡ sum sixteen (span 4 0) (product (c .before .before .before))
-unfolding four
-four-right c = sum-both prime-65521 (lit< tt) _ (span 2 0) (span 2 2) _ _ (c .before .before .two-products .ensures .1) (c .two-products2 .ensures .1)
+abbrev start : tie.After-two-products4 → tie.Start
+start c = first-four c .before .before .before
 
-eight : tie.After-two-products4 → ℕ
-eight c = four (c .before .before .before) + (c .before .two-products3 .result + c .two-products4 .result)
+abbrev eight-sum : tie.After-two-products4 → ℕ
+eight-sum c =
+    let d = first-four c in
+    d .before .before .two-products .result + d .two-products2 .result + (c .before .two-products3 .result + c .two-products4 .result)
 
-start : tie.After-two-products4 → tie.Start
-start c = let d = c .before .before .before in d .before .before .before
-
-eight-right : (c : tie.After-two-products4) → eight c % q ≡ sum sixteen (span 8 0) (product (start c))
-unfolding eight start
-eight-right c =
-    sum-both prime-65521 (lit< tt) _ (span 4 0) (span 4 4) _ _ (four-right (c .before .before .before))
-    (sum-both prime-65521 (lit< tt) _ (span 2 4) (span 2 6) _ _ (c .before .two-products3 .ensures .1) (c .two-products4 .ensures .1))
+eight : (c : tie.After-two-products4) → First (start c) 8 (eight-sum c)
+eight c =
+    unreduced-both prime-65521 (lit< tt) _ _ 0 4 4 _ _ (four (first-four c))
+    (unreduced-both prime-65521 (lit< tt) _ _ 4 2 2 _ _ (c .before .two-products3 .ensures) (c .two-products4 .ensures))
 
 two-products-requires : tie.Need-two-products-requires
 two-products-requires c κs = search needs
 
 returns : tie.Need-returns
-returns c = (omega (arith, c .before .two-products .ensures .0), enough (c .before .before) 2 _ (c .if1 .taken) (c .before .two-products .ensures .1))
+returns c =
+    let u = c .before .two-products .ensures in
+    (omega (arith, u .small), unreduced-weighed prime-65521 (lit< tt) _ _ _ _ 2 _ (c .before .before .pre .0) (c .if1 .taken) u)
 
 two-products-requires-2 : tie.Need-two-products-requires-2
 two-products-requires-2 c κs = search needs
@@ -64,11 +51,10 @@ add-four : tie.Need-add-four
 add-four c = search needs
 
 returns-2 : tie.Need-returns-2
-unfolding four
 returns-2 c =
-    let d = c .before in
-    let low = d .before .before in
-    (omega (arith, low .two-products .ensures .0, d .two-products2 .ensures .0), enough (low .before) 4 _ (c .if2 .taken) (four-right d))
+    let u = four (c .before) in
+    let s = c .before .before .before .before in
+    (omega (arith, u .small), unreduced-weighed prime-65521 (lit< tt) _ _ _ _ 4 _ (s .pre .0) (c .if2 .taken) u)
 
 two-products-requires-3 : tie.Need-two-products-requires-3
 two-products-requires-3 c κs = search needs
@@ -82,19 +68,11 @@ add-eight c = search needs
 add-eight-2 : tie.Need-add-eight-2
 add-eight-2 c = search needs
 
-eight-small : (c : tie.After-two-products4) → eight c ≤ 8 * most-folded
-unfolding eight four
-eight-small c =
-    let d = c .before .before .before in
-    let low = d .before .before .two-products .ensures .0 in
-    omega (arith, low, d .two-products2 .ensures .0, c .before .two-products3 .ensures .0, c .two-products4 .ensures .0)
-
 returns-3 : tie.Need-returns-3
-unfolding eight four start
 returns-3 c =
-    let d = c .before in
-    let s = start d in
-    (omega (arith, eight-small d), enough s 8 _ (omega (arith, s .pre .0 .few, c .if3 .taken)) (eight-right d))
+    let u = eight (c .before) in
+    let f = start (c .before) .pre .0 in
+    (omega (arith, u .small), unreduced-weighed prime-65521 (lit< tt) _ _ _ _ 8 _ f (omega (arith, f .few, c .if3 .taken)) u)
 
 two-products-requires-5 : tie.Need-two-products-requires-5
 two-products-requires-5 c κs = (omega (arith, c .if3 .left), search needs)
@@ -103,14 +81,10 @@ add-result : tie.Need-add-result
 add-result c = search needs
 
 returns-4 : tie.Need-returns-4
-unfolding eight four start
 returns-4 c =
-    let d = c .before .before in
-    let s = start d in
-    let t = c .two-products5 .ensures in (
-      omega (arith, eight-small d, t .0, c .before .if3 .left),
-      enough s 10 _ (omega (arith, s .pre .0 .few)) (sum-both prime-65521 (lit< tt) _ (span 8 0) (span 2 8) _ _ (eight-right d) (t .1)),
-    )
+    let u = unreduced-both prime-65521 (lit< tt) _ _ 0 8 2 _ _ (eight (c .before .before)) (c .two-products5 .ensures) in
+    let f = start (c .before .before) .pre .0 in
+    (omega (arith, u .small, c .before .if3 .left), unreduced-weighed prime-65521 (lit< tt) _ _ _ _ 10 _ f (omega (arith, f .few)) u)
 
 pub all-products-spec : {M : Type 1} → statement M
 all-products-spec =

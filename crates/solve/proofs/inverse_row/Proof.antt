@@ -1,7 +1,7 @@
 -- `solve::inverse_row` meets its contract. The loop's invariant: the first i numbers are written.
 -- The measure is how many are left. Assumes nothing.
 use mathlib.Core.Path.{ap, _∙_}
-use Prim.Native.Nat.{ℕ, _+_, _*_, _-_, _%_, _<_}
+use Prim.Native.Nat.{ℕ, _*_, _-_, _%_}
 use native.Mathlib.Omega.{arith}
 use lib.ListN.{getD}
 use borrow.Author.Needs.{needs}

@@ -9,7 +9,8 @@ use borrow.Author.Needs.{needs}
 use Rattle.algebra.proofs.Primes.{prime-65521}
 use Rattle.scheme.specs.Limits.{most-blocks}
 use Rattle.scheme.specs.Scheme.{q}
-use Rattle.scheme.proofs.SolveModular.{sum-two}
+use Rattle.scheme.proofs.SolveModular.{unreduced-one, unreduced-both}
+use Rattle.solve.specs.Solve.{most-folded}
 use Rattle.solve.proofs.two_products.Statement.{statement}
 use Rattle.solve.proofs.two_products.Tie as tie
 
@@ -66,7 +67,8 @@ returns c =
     let t = c .folded2 .ensures in
     let e : a .i * most-blocks + a .b + most-blocks ≡ (a .i + 1) * most-blocks + a .b = omega arith in
     let f = ap (λ (k : ℕ). getD (a .list .now) (a .i + 1) 0 * getD (a .grid .now) k 0 % q) e in
-    (omega (arith, s .1, t .1), sum-two prime-65521 (lit< tt) _ (a .i) _ _ (s .0) (t .0 ∙ f))
+    unreduced-both prime-65521 (lit< tt) most-folded _ (a .i) 1 1 _ _ (unreduced-one prime-65521 (lit< tt) _ _ (a .i) _ (s .0) (s .1))
+    (unreduced-one prime-65521 (lit< tt) _ _ (a .i + 1) _ (t .0 ∙ f) (t .1))
 
 pub two-products-spec : {M : Type 1} → statement M
 two-products-spec =
