@@ -1,5 +1,6 @@
 -- Tests, lists and refusals; sums, sets, bounds of a plan and keys; demand 3 (Add, Delta, Told, Modular); totals and the service (Totals, Held, Well,
--- Choices, Service); what is sharp (Sharp, Settled, FirstUsers, Collusion, Threshold).
+-- Choices, Service); the key maker (Weighed, Key..) and the solver (Padded, Grids, Solve, SolveExplains, SolveModular); what is sharp (Sharp,
+-- Settled, FirstUsers, Collusion, Threshold).
 pub mod Tests
 pub mod Good
 pub mod Lists
@@ -13,6 +14,11 @@ pub mod Delta
 pub mod Told
 pub mod Modular
 pub mod Totals
+pub mod Padded
+pub mod Grids
+pub mod Solve
+pub mod SolveExplains
+pub mod SolveModular
 pub mod Sharp
 pub mod Settled
 pub mod FirstUsers

@@ -1,5 +1,6 @@
 -- Read Scheme, then Promise: the definitions of document 01 and the promise of demand 3. Laws and Delta serve its proof, and Modular is
--- the arithmetic with its laws. Totals, Service and ServicePromise are demands 1 and 2.
+-- the arithmetic with its laws. Totals, Service and ServicePromise are demands 1 and 2. Weighed and Solve are what key maker and solver
+-- compute.
 pub mod Limits
 pub mod Lists
 pub mod Scheme
@@ -10,7 +11,8 @@ pub mod Service
 pub mod ServicePromise
 pub mod Laws
 pub mod Modular
+pub mod Weighed
+pub mod Solve
 pub mod Delta
 pub mod Sharp
-pub mod Weighed
 pub mod KeyParts

@@ -1,5 +1,5 @@
--- Numbers times a list of factors.
---   weighed   the sum of the first n products
+-- Numbers times factors, over an arithmetic.
+--   weighed   what f says of the first n numbers, times the factors
 -- Assumes nothing: these are definitions.
 use mathlib.Core.List.{List}
 use Prim.Native.Nat.{ℕ}

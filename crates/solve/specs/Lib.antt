@@ -1,2 +1,2 @@
--- The solution of a Cauchy system modulo 65521 on lists of numbers.
+-- The instance of scheme's closed solution that the code computes.
 pub mod Solve

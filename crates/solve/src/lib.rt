@@ -1,36 +1,41 @@
-// Square Cauchy systems modulo 65521 by their closed solution, the systems of 16 blocks side by side.
-//   gap_of, gap_at, weights what depends on the points alone
-//   factors, inverse_row    a row of the system, and a row of its inverse
-//   dot, two                a row times the numbers of a block
-//   put_row, solve          the unknowns of every block
-//   same_row, fits          whether further rows have the values that follow
-// Everything goes by position: row a has the point rows[a], 1 to 8, column i the point columns[i], 1 to 7, and of each array the
-// first n entries count. A grid has eight rows of 16 numbers, one for each block. The functions are for points that the caller knows
-// to be in range and different.
+// Square Cauchy systems modulo 65521 by their closed solution, the systems of all blocks side by side.
+//   gap_between, gap_entry, weights     what depends on the points alone
+//   factors, inverse_row                a row of the system, and a row of its inverse
+//   two_products, all_products          a row times the numbers of a block
+//   put_row, solve                      the unknowns of every block
+//   same_row, fits                      whether further rows have the values that follow
+// Everything goes by position: row a has the point rows[a], 1 to MOST_USERS, column i the point columns[i], 1 to MOST_THRESHOLD, and
+// of each array the first n entries count. A grid has a row for each user, in it a number for each block. The functions are for points
+// that the caller knows to be in range and different. What they compute is defined in Solve of crate scheme.
 ghost use mathlib.Core.Path.{_≡_};
+ghost use mathlib.Core.List.{map};
 ghost use Prim.Native.Nat.{_+_, _*_, _-_, _%_, _≤_, _<_};
 ghost use lib.Dec.{eqb};
 ghost use lib.ListN.{length, getD, replicate};
-ghost use Rattle.scheme.specs.Lists.{span, all-of};
-ghost use Rattle.scheme.specs.Scheme.{q, sixteen, sum};
-ghost use Rattle.solve.specs.Solve.{Points, Near, Ready, gap-of, gap-at, weight-at, weights-of, filled, product, Factors, combined, inverse-at, Put, unknowns-of, row-fits};
+ghost use lib.Seq.{sets};
+ghost use Rattle.scheme.specs.Limits.{most-users, most-threshold, most-blocks, cells};
+ghost use Rattle.scheme.specs.Lists.{span, all-of, filled};
+ghost use Rattle.scheme.specs.Scheme.{q, sixteen};
+ghost use Rattle.scheme.specs.Weighed.{weighed};
+ghost use Rattle.scheme.specs.Solve.{Points, Weighted, cell, row-weight, row-weights, column-weights, unknowns-of, row-fits, gap-between, gap-entry, inverse-at, Sums-low, Factors, Unreduced};
+ghost use Rattle.solve.specs.Solve.{laws16, most-folded};
+use plan::BLOCKS;
+use plan::CELLS;
+use plan::USERS;
 
-// A plan has at most 16 blocks; with eight rows that makes 128 cells.
-pub const BLOCKS: usize = 16;
+const MOST_THRESHOLD: u32 = plan::MOST_USERS - 1;
 
-pub const CELLS: usize = 128;
-
-fn gap_of(x: u32, y: u32) -> u16
-    requires { ⌜ (1 ≤ x) × (x ≤ 8) × (1 ≤ y) × (y ≤ 8) ⌝ }
-    ensures { λ r. ⌜ r ≡ gap-of x y ⌝ }
+fn gap_between(x: u32, y: u32) -> u16
+    requires { ⌜ (1 ≤ x) × (x ≤ most-users) × (1 ≤ y) × (y ≤ most-users) ⌝ }
+    ensures { λ r. ⌜ r ≡ gap-between q x y ⌝ }
 {
-    gap_at(7 + x - y)
+    gap_entry(MOST_THRESHOLD + x - y)
 }
 
 // 1 / (d - 7) for d from 0 to 14, and 1 at 7; by arms, as the inverses of `element`.
-fn gap_at(d: u32) -> u16
-    requires { ⌜ d < 15 ⌝ }
-    ensures { λ r. ⌜ r ≡ gap-at d ⌝ }
+fn gap_entry(d: u32) -> u16
+    requires { ⌜ d < most-users + most-threshold ⌝ }
+    ensures { λ r. ⌜ r ≡ gap-entry q d ⌝ }
 {
     match d {
         0 => 9360,
@@ -52,33 +57,34 @@ fn gap_at(d: u32) -> u16
 }
 
 // One factor of a weight: a sum of two points, and a gap.
-fn factor(weight: u16, near: u32, gap: u16) -> u16
-    requires { ⌜ near ≤ 16 ⌝ }
-    ensures { λ r. ⌜ r ≡ weight * (near * gap) % q ⌝ }
+fn factor(weight: u16, sum: u32, gap: u16) -> u16
+    requires { ⌜ sum ≤ 2 * most-users ⌝ }
+    ensures { λ r. ⌜ r ≡ weight * (sum * gap) % q ⌝ }
 {
-    (weight as u64 * (near as u64 * gap as u64) % element::Q as u64) as u16
+    (weight as u64 * (sum as u64 * gap as u64) % element::Q as u64) as u16
 }
 
-fn weight_of(own: &[u32; 8], other: &[u32; 8], n: usize, at: usize) -> u16
-    requires { ⌜ (n ≤ 8) × (at < n) × Points 8 n (now own) × Points 8 n (now other) ⌝ }
-    ensures { λ r. ⌜ r ≡ weight-at (now (own .entry)) (now (other .entry)) n at ⌝ }
+fn weight_of(own: &[u32; USERS], other: &[u32; USERS], n: usize, at: usize) -> u16
+    requires { ⌜ (n ≤ most-users) × (at < n) × Points most-users n (now own) × Points most-users n (now other) ⌝ }
+    ensures { λ r. ⌜ r ≡ row-weight sixteen laws16 (now (own .entry)) (now (other .entry)) n at ⌝ }
 {
     let x = own[at];
     let mut weight: u16 = 1;
     let mut i = 0;
     while i < n {
-        weight = factor(weight, x + other[i], gap_of(x, own[i]));
+        weight = factor(weight, x + other[i], gap_between(x, own[i]));
         i += 1;
     }
     weight
 }
 
-// The weights of the rows; with rows and columns exchanged, those of the columns.
-pub fn weights(own: &[u32; 8], other: &[u32; 8], n: usize) -> [u16; 8]
-    requires { ⌜ (n ≤ 8) × Points 8 n (now own) × Points 8 n (now other) ⌝ }
-    ensures { λ r. ⌜ r ≡ weights-of (now (own .entry)) (now (other .entry)) n ⌝ }
+// The weights of the rows, `own`; those of the columns, where `other` are the rows: modulo q both have their number as point.
+pub fn weights(own: &[u32; USERS], other: &[u32; USERS], n: usize) -> [u16; USERS]
+    requires { ⌜ (n ≤ most-users) × Points most-users n (now own) × Points most-users n (now other) ⌝ }
+    ensures { λ r. ⌜ (r ≡ row-weights sixteen laws16 (now (own .entry)) (now (other .entry)) n)
+        × (r ≡ column-weights sixteen laws16 (now (other .entry)) (now (own .entry)) n) ⌝ }
 {
-    let mut out = [0u16; 8];
+    let mut out = [0u16; USERS];
     let mut i = 0;
     while i < n {
         out[i] = weight_of(own, other, n, i);
@@ -88,11 +94,11 @@ pub fn weights(own: &[u32; 8], other: &[u32; 8], n: usize) -> [u16; 8]
 }
 
 // The row with the point x: 1 / (x + points[i]).
-fn factors(x: u32, points: &[u32; 8], n: usize) -> [u16; 8]
-    requires { ⌜ (n ≤ 8) × Near x n (now points) ⌝ }
-    ensures { λ r. ⌜ r ≡ filled n (λ i. sixteen .coefficient x (getD (now (points .entry)) i 0)) ⌝ }
+fn factors(x: u32, points: &[u32; USERS], n: usize) -> [u16; USERS]
+    requires { ⌜ (n ≤ most-users) × Sums-low x n (now points) ⌝ }
+    ensures { λ r. ⌜ r ≡ filled most-users n (λ i. sixteen .coefficient x (getD (now (points .entry)) i 0)) ⌝ }
 {
-    let mut out = [0u16; 8];
+    let mut out = [0u16; USERS];
     let mut i = 0;
     while i < n {
         out[i] = element::coefficient(x, points[i]);
@@ -101,15 +107,21 @@ fn factors(x: u32, points: &[u32; 8], n: usize) -> [u16; 8]
     out
 }
 
-// The row of the inverse for the unknown with the point x: weight * alpha[a] / (x + points[a]).
-fn inverse_row(x: u32, points: &[u32; 8], alpha: &[u16; 8], weight: u16, n: usize) -> [u16; 8]
-    requires { ⌜ (n ≤ 8) × Near x n (now points) ⌝ }
-    ensures { λ r. ⌜ r ≡ filled n (inverse-at x (now (points .entry)) (now (alpha .entry)) weight) ⌝ }
+// The row of the inverse for the unknown with the point x: weight * alpha[a] / (rows[a] + x).
+fn inverse_row(
+    x: u32,
+    rows: &[u32; USERS],
+    alpha: &[u16; USERS],
+    weight: u16,
+    n: usize,
+) -> [u16; USERS]
+    requires { ⌜ (n ≤ most-users) × Sums-low x n (now rows) ⌝ }
+    ensures { λ r. ⌜ r ≡ filled most-users n (inverse-at q x (now (rows .entry)) (now (alpha .entry)) weight) ⌝ }
 {
-    let mut out = [0u16; 8];
+    let mut out = [0u16; USERS];
     let mut i = 0;
     while i < n {
-        let c = element::coefficient(x, points[i]);
+        let c = element::coefficient(rows[i], x);
         out[i] = element::multiply(weight, element::multiply(alpha[i], c));
         i += 1;
     }
@@ -117,61 +129,67 @@ fn inverse_row(x: u32, points: &[u32; 8], alpha: &[u16; 8], weight: u16, n: usiz
 }
 
 // Two products of a row and the numbers of a block, from position i on, not reduced.
-fn two(list: &[u16; 8], grid: &[u16; CELLS], i: usize, b: usize) -> u32
-    requires { ⌜ (i ≤ 6) × (b < 16) ⌝ }
-    ensures { λ r. ⌜ (r % q ≡ sum sixteen (span 2 i) (product (now (list .entry)) (now (grid .entry)) b)) × (r ≤ 2 * 1048560) ⌝ }
+fn two_products(list: &[u16; USERS], grid: &[u16; CELLS], i: usize, b: usize) -> u32
+    requires { ⌜ (i + 2 ≤ most-users) × (b < most-blocks) ⌝ }
+    ensures { λ r. ⌜ Unreduced q most-folded (λ k. getD (now (list .entry)) k 0 * cell (now (grid .entry)) k b) i 2 r ⌝ }
 {
     let at = i * BLOCKS + b;
     let s = element::folded(list[i], grid[at]);
-    let t = element::folded(list[i + 1], grid[at + 16]);
+    let t = element::folded(list[i + 1], grid[at + BLOCKS]);
     s + t
 }
 
-// The products of all positions that count; the others are 0.
-fn dot(list: &[u16; 8], grid: &[u16; CELLS], n: usize, b: usize) -> u32
-    requires { ⌜ Factors n (now list) × (b < 16) ⌝ }
-    ensures { λ r. ⌜ (r % q ≡ combined (now (list .entry)) (now (grid .entry)) n b) × (r ≤ 8 * 1048560) ⌝ }
+// The products of all positions that count; the others are 0. Two more users take the step behind the test, which costs nothing.
+fn all_products(list: &[u16; USERS], grid: &[u16; CELLS], n: usize, b: usize) -> u32
+    requires { ⌜ Factors n (now list) × (b < most-blocks) ⌝ }
+    ensures { λ r. ⌜ (r ≤ most-users * most-folded)
+        × (r % q ≡ weighed sixteen (now (list .entry)) n (λ i. cell (now (grid .entry)) i b)) ⌝ }
 {
-    let low = two(list, grid, 0, b);
+    let low = two_products(list, grid, 0, b);
     if n <= 2 {
         return low;
     }
-    let four = low + two(list, grid, 2, b);
+    let four = low + two_products(list, grid, 2, b);
     if n <= 4 {
         return four;
     }
-    four + (two(list, grid, 4, b) + two(list, grid, 6, b))
+    let eight = four + (two_products(list, grid, 4, b) + two_products(list, grid, 6, b));
+    if USERS <= 8 {
+        return eight;
+    }
+    eight + two_products(list, grid, 8, b)
 }
 
 // A row times the numbers of each block, written from `at` on.
-fn put_row(out: &mut [u16; CELLS], at: usize, list: &[u16; 8], grid: &[u16; CELLS], n: usize)
-    requires { ⌜ (at + 16 ≤ 128) × (length (now out) ≡ 128) × Factors n (now list) ⌝ }
-    ensures { λ r. ⌜ Put (combined (now (list .entry)) (now (grid .entry)) n) 16 at (now (out .entry)) (now (out .exit)) ⌝ }
+fn put_row(out: &mut [u16; CELLS], at: usize, list: &[u16; USERS], grid: &[u16; CELLS], n: usize)
+    requires { ⌜ (at + most-blocks ≤ cells) × (length (now out) ≡ cells) × Factors n (now list) ⌝ }
+    ensures { λ r. ⌜ now (out .exit) ≡ sets (now (out .entry)) at
+        (map (λ b. weighed sixteen (now (list .entry)) n (λ i. cell (now (grid .entry)) i b)) (span most-blocks 0)) ⌝ }
 {
     let mut b = 0;
     while b < BLOCKS {
-        out[at + b] = element::reduce(dot(list, grid, n, b));
+        out[at + b] = element::reduce(all_products(list, grid, n, b));
         b += 1;
     }
 }
 
 pub fn no_cells() -> [u16; CELLS]
-    ensures { λ r. ⌜ r ≡ replicate 128 0 ⌝ }
+    ensures { λ r. ⌜ r ≡ replicate cells 0 ⌝ }
 {
     [0; CELLS]
 }
 
 // Unknown i of a block is beta[i] Σ alpha[a] values[a] / (rows[a] + columns[i]); the rows behind the n that count are 0.
 pub fn solve(
-    rows: &[u32; 8],
-    columns: &[u32; 8],
-    alpha: &[u16; 8],
-    beta: &[u16; 8],
+    rows: &[u32; USERS],
+    columns: &[u32; USERS],
+    alpha: &[u16; USERS],
+    beta: &[u16; USERS],
     values: &[u16; CELLS],
     n: usize,
 ) -> [u16; CELLS]
-    requires { ⌜ Ready (now rows) (now columns) (now alpha) (now beta) n ⌝ }
-    ensures { λ r. ⌜ r ≡ unknowns-of (now (rows .entry)) (now (columns .entry)) (now (values .entry)) n ⌝ }
+    requires { ⌜ Weighted sixteen laws16 (now rows) (now columns) (now alpha) (now beta) n ⌝ }
+    ensures { λ r. ⌜ r ≡ unknowns-of sixteen laws16 (now (rows .entry)) (now (columns .entry)) (now (values .entry)) n ⌝ }
 {
     let mut out = no_cells();
     let mut at = 0;
@@ -187,20 +205,22 @@ pub fn solve(
 
 // Whether the values from `at` on are a row times the numbers of each block. Without an early end many are compared at a time.
 fn same_row(
-    list: &[u16; 8],
+    list: &[u16; USERS],
     grid: &[u16; CELLS],
     n: usize,
     values: &[u16; CELLS],
     at: usize,
     blocks: usize,
 ) -> bool
-    requires { ⌜ (blocks ≤ 16) × (at + 16 ≤ 128) × Factors n (now list) ⌝ }
-    ensures { λ r. ⌜ r ≡ all-of (λ b. eqb (combined (now (list .entry)) (now (grid .entry)) n b) (getD (now (values .entry)) (at + b) 0)) (span blocks 0) ⌝ }
+    requires { ⌜ (blocks ≤ most-blocks) × (at + most-blocks ≤ cells) × Factors n (now list) ⌝ }
+    ensures { λ r. ⌜ r ≡ all-of
+        (λ b. eqb (weighed sixteen (now (list .entry)) n (λ i. cell (now (grid .entry)) i b)) (getD (now (values .entry)) (at + b) 0))
+        (span blocks 0) ⌝ }
 {
     let mut good = true;
     let mut b = 0;
     while b < blocks {
-        if element::reduce(dot(list, grid, n, b)) != values[at + b] {
+        if element::reduce(all_products(list, grid, n, b)) != values[at + b] {
             good = false;
         }
         b += 1;
@@ -210,16 +230,17 @@ fn same_row(
 
 // Whether the rows from n to m - 1 have in each block the values that follow from the unknowns.
 pub fn fits(
-    rows: &[u32; 8],
-    columns: &[u32; 8],
+    rows: &[u32; USERS],
+    columns: &[u32; USERS],
     values: &[u16; CELLS],
     unknowns: &[u16; CELLS],
     n: usize,
     m: usize,
     blocks: usize,
 ) -> bool
-    requires { ⌜ (n ≤ m) × (m ≤ 8) × (blocks ≤ 16) × Points 8 m (now rows) × Points 7 n (now columns) ⌝ }
-    ensures { λ r. ⌜ r ≡ all-of (row-fits (now (rows .entry)) (now (columns .entry)) (now (values .entry)) (now (unknowns .entry)) n blocks) (span (m - n) n) ⌝ }
+    requires { ⌜ (n ≤ m) × (m ≤ most-users) × (blocks ≤ most-blocks) × Points most-users m (now rows) × Points most-threshold n (now columns) ⌝ }
+    ensures { λ r. ⌜ r ≡ all-of
+        (row-fits sixteen (now (rows .entry)) (now (columns .entry)) (now (values .entry)) (now (unknowns .entry)) n blocks) (span (m - n) n) ⌝ }
 {
     let mut at = n * BLOCKS;
     let mut a = n;

@@ -3,19 +3,20 @@
 use Prim.Native.Nat.{_-_}
 use lib.ListN.{getD}
 use borrow.Author.Needs.{needs}
+use Rattle.scheme.specs.Limits.{most-users}
 use Rattle.scheme.specs.Scheme.{sixteen}
-use Rattle.solve.proofs.Filled.{Filling, filling-start, filling-more, filling-end}
+use Rattle.scheme.proofs.Padded.{Filling, filling-start, filling-more, filling-end}
 use Rattle.solve.proofs.factors.Statement.{statement}
 use Rattle.solve.proofs.factors.Tie as tie
 
 abbrev Inv-loop : tie.InvT-loop
-Inv-loop x points n out₀ i₀ out i = Filling (λ k. sixteen .coefficient x (getD points k 0)) n i out
+Inv-loop x points n out₀ i₀ out i = Filling most-users (λ k. sixteen .coefficient x (getD points k 0)) n i out
 
 abbrev μ-loop : tie.MeasureT-loop
 μ-loop x points n out₀ i₀ out i = n - i
 
 loop-holds : tie.Need-loop-holds Inv-loop μ-loop
-loop-holds c = filling-start _ _
+loop-holds c = filling-start _ _ _
 
 mul-coefficient : tie.Need-mul-coefficient Inv-loop μ-loop
 mul-coefficient c = search needs
@@ -41,10 +42,10 @@ loop-less c = search needs
 loop-again : tie.Need-loop-again Inv-loop μ-loop
 loop-again c =
     let l = c .before .before .before .loop in
-    filling-more _ _ (l .i) _ _ (c .before .before .before .before .pre .0) (c .before .before .loop-test .taken) (c .coefficient .ensures) (l .inv)
+    filling-more _ _ _ (l .i) _ _ (c .before .before .before .before .pre .0) (c .before .before .loop-test .taken) (c .coefficient .ensures) (l .inv)
 
 returns : tie.Need-returns Inv-loop μ-loop
-returns c = filling-end _ _ _ _ (c .loop-test .left) (c .before .loop .inv)
+returns c = filling-end _ _ _ _ _ (c .loop-test .left) (c .before .loop .inv)
 
 pub factors-spec : {M : Type 1} → statement M
 factors-spec =

@@ -5,17 +5,20 @@ use Prim.Native.Nat.{_*_, _-_, _≤_}
 use native.Mathlib.Omega.{arith}
 use borrow.Author.Needs.{needs}
 use borrow.Author.Tests.{not-true, not-false}
+use Rattle.scheme.specs.Limits.{most-blocks}
 use Rattle.scheme.specs.Lists.{span, all-of}
+use Rattle.scheme.specs.Scheme.{sixteen}
+use Rattle.scheme.specs.Solve.{row-fits}
 use Rattle.scheme.proofs.Totals.{all-of-pass, all-of-stop, all-of-end}
-use Rattle.solve.specs.Solve.{row-fits}
-use Rattle.solve.proofs.Solution.{near, filled-factors, row-same}
+use Rattle.scheme.proofs.Solve.{sums-low, filled-factors, row-same}
 use Rattle.solve.proofs.fits.Statement.{statement}
 use Rattle.solve.proofs.fits.Tie as tie
 
 abbrev Inv-loop : tie.InvT-loop
 Inv-loop rows columns values unknowns n m blocks at₀ a₀ at a =
-    (n ≤ a) × (a ≤ m) × (at ≡ a * 16)
-    × (all-of (row-fits rows columns values unknowns n blocks) (span (m - a) a) ≡ all-of (row-fits rows columns values unknowns n blocks) (span (m - n) n))
+    (n ≤ a) × (a ≤ m) × (at ≡ a * most-blocks)
+    × (all-of (row-fits sixteen rows columns values unknowns n blocks) (span (m - a) a)
+    ≡ all-of (row-fits sixteen rows columns values unknowns n blocks) (span (m - n) n))
 
 abbrev μ-loop : tie.MeasureT-loop
 μ-loop rows columns values unknowns n m blocks at₀ a₀ at a = m - a
@@ -36,7 +39,7 @@ factors-requires : tie.Need-factors-requires Inv-loop μ-loop
 factors-requires c κs =
     let s = c .before .before .before in
     let a = c .before .before .loop .a in
-    (omega arith, near (s .pre .4) (omega (arith, s .pre .3 .inside a (c .before .loop-test .taken))))
+    (omega arith, sums-low (s .pre .4) (omega (arith, s .pre .3 .inside a (c .before .loop-test .taken))))
 
 same-row-requires : tie.Need-same-row-requires Inv-loop μ-loop
 same-row-requires c κs =
@@ -49,7 +52,7 @@ returns c =
     let f = c .before .before .before in
     let t = f .before .before in
     let l = t .before .loop in
-    let e = row-same _ _ _ _ _ _ _ (l .a) _ (omega arith) (f .factors .ensures) (l .inv .2) in
+    let e = row-same sixteen _ _ _ _ _ _ _ (l .a) _ (omega arith) (f .factors .ensures) (l .inv .2) in
     sym (sym (l .inv .3) ∙ all-of-stop _ _ (l .a) (t .loop-test .taken) (sym e ∙ sym (c .before .same-row .ensures) ∙ not-true _ (c .if1 .taken)))
 
 add-at : tie.Need-add-at Inv-loop μ-loop
@@ -66,7 +69,7 @@ loop-again c =
     let f = c .before .before .before in
     let t = f .before .before in
     let l = t .before .loop in
-    let e = row-same _ _ _ _ _ _ _ (l .a) _ (omega arith) (f .factors .ensures) (l .inv .2) in (
+    let e = row-same sixteen _ _ _ _ _ _ _ (l .a) _ (omega arith) (f .factors .ensures) (l .inv .2) in (
       omega arith,
       omega arith,
       omega (arith, l .inv .2),

@@ -2,24 +2,26 @@
 -- The measure is how many are left. Assumes nothing.
 use mathlib.Core.Path.{_∙_}
 use Prim.Native.Nat.{_-_}
-use native.Mathlib.Omega.{arith}
 use borrow.Author.Needs.{needs}
-use Rattle.solve.specs.Solve.{combined}
-use Rattle.solve.proofs.Grids.{Putting, putting-start, putting-more, putting-end}
+use Rattle.scheme.specs.Limits.{most-blocks}
+use Rattle.scheme.specs.Scheme.{sixteen}
+use Rattle.scheme.specs.Weighed.{weighed}
+use Rattle.scheme.specs.Solve.{cell}
+use Rattle.scheme.proofs.Padded.{Setting, setting-start, setting-more, setting-end}
 use Rattle.solve.proofs.put_row.Statement.{statement}
 use Rattle.solve.proofs.put_row.Tie as tie
 
 abbrev Inv-loop : tie.InvT-loop
-Inv-loop out₀ at list grid n b₀ out b = Putting (combined list grid n) 16 at out₀ b out
+Inv-loop out₀ at list grid n b₀ out b = Setting (λ k. weighed sixteen list n (λ i. cell grid i k)) most-blocks at out₀ b out
 
 abbrev μ-loop : tie.MeasureT-loop
-μ-loop out₀ at list grid n b₀ out b = 16 - b
+μ-loop out₀ at list grid n b₀ out b = most-blocks - b
 
 loop-holds : tie.Need-loop-holds Inv-loop μ-loop
-loop-holds c = putting-start _ _ _ _
+loop-holds c = setting-start _ _ _ _
 
-dot-requires : tie.Need-dot-requires Inv-loop μ-loop
-dot-requires c κs = (c .before .before .pre .2, c .loop-test .taken)
+all-products-requires : tie.Need-all-products-requires Inv-loop μ-loop
+all-products-requires c κs = (c .before .before .pre .2, c .loop-test .taken)
 
 reduce-requires : tie.Need-reduce-requires Inv-loop μ-loop
 reduce-requires c κs = search needs
@@ -42,10 +44,11 @@ loop-less c = search needs
 loop-again : tie.Need-loop-again Inv-loop μ-loop
 loop-again c =
     let l = c .before .before .before .loop in
-    putting-more _ _ _ _ (l .b) _ _ (c .before .before .loop-test .taken) (omega arith) (c .reduce .ensures ∙ c .before .dot .ensures .0) (l .inv)
+    let h = c .before .before .loop-test .taken in
+    setting-more _ _ _ _ (l .b) _ _ h (c .reduce .ensures ∙ c .before .all-products .ensures .1) (l .inv)
 
 returns : tie.Need-returns Inv-loop μ-loop
-returns c = putting-end _ _ _ _ _ _ (c .loop-test .left) (c .before .loop .inv)
+returns c = setting-end _ _ _ _ _ _ (c .loop-test .left) (c .before .loop .inv)
 
 pub put-row-spec : {M : Type 1} → statement M
 put-row-spec =
@@ -54,7 +57,7 @@ put-row-spec =
     Inv-loop
     μ-loop
     loop-holds
-    dot-requires
+    all-products-requires
     reduce-requires
     add-out
     mul-out

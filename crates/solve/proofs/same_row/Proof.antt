@@ -11,15 +11,17 @@ use lib.ListN.{getD}
 use borrow.Author.Needs.{needs}
 use borrow.Author.Tests.{eq-eqb, ne-eqb}
 use Rattle.scheme.specs.Lists.{span, all-of}
+use Rattle.scheme.specs.Scheme.{sixteen}
+use Rattle.scheme.specs.Weighed.{weighed}
+use Rattle.scheme.specs.Solve.{cell}
 use Rattle.scheme.proofs.Tests.{and-true, and-false}
 use Rattle.scheme.proofs.Lists.{span-start}
 use Rattle.scheme.proofs.Totals.{all-of-pass, all-of-stop, all-of-end}
-use Rattle.solve.specs.Solve.{combined}
 use Rattle.solve.proofs.same_row.Statement.{statement}
 use Rattle.solve.proofs.same_row.Tie as tie
 
 abbrev passes : (list grid : List ℕ) → (n : ℕ) → (values : List ℕ) → (at b : ℕ) → Bool
-passes cs g n vs at b = eqb (combined cs g n b) (getD vs (at + b) 0)
+passes cs g n vs at b = eqb (weighed sixteen cs n (λ i. cell g i b)) (getD vs (at + b) 0)
 
 abbrev Inv-loop : tie.InvT-loop
 Inv-loop list grid n values at blocks good₀ b₀ good b =
@@ -31,8 +33,8 @@ abbrev μ-loop : tie.MeasureT-loop
 loop-holds : tie.Need-loop-holds Inv-loop μ-loop
 loop-holds c = (search needs, ap (all-of _) (span-start (c .args .blocks)))
 
-dot-requires : tie.Need-dot-requires Inv-loop μ-loop
-dot-requires c κs = (c .before .before .pre .2, omega arith)
+all-products-requires : tie.Need-all-products-requires Inv-loop μ-loop
+all-products-requires c κs = (c .before .before .pre .2, omega arith)
 
 reduce-requires : tie.Need-reduce-requires Inv-loop μ-loop
 reduce-requires c κs = search needs
@@ -57,7 +59,7 @@ loop-again c =
     let d = c .before .before .before in
     let l = d .before .before .loop in
     let h = d .before .loop-test .taken in
-    let e = c .before .before .reduce .ensures ∙ d .dot .ensures .0 in
+    let e = c .before .before .reduce .ensures ∙ d .all-products .ensures .1 in
     let g : Bool → Bool = λ b. l .good && b in (
       search needs,
       ⊎-elim
@@ -77,7 +79,7 @@ same-row-spec =
     Inv-loop
     μ-loop
     loop-holds
-    dot-requires
+    all-products-requires
     reduce-requires
     add-if1
     mul-if1

@@ -1,17 +1,22 @@
--- `solve::solve` meets its contract. The loop's invariant: i rows of unknowns are written; `unknown-right` is one turn.
+-- `solve::solve` meets its contract. The loop's invariant: i rows of unknowns are written; `inverse-row-right` is one turn.
 -- The measure is how many are left. Assumes nothing.
-use mathlib.Core.Path.{_≡_}
-use Prim.Native.Nat.{_-_, _≤_}
+use Prim.Native.Nat.{_-_}
 use native.Mathlib.Omega.{arith}
+use lib.Dec.{lit<}
 use borrow.Author.Needs.{needs}
-use Rattle.solve.specs.Solve.{block, unknown-at, unknowns-of}
-use Rattle.solve.proofs.Grids.{Rows, rows-start, rows-more, rows-end}
-use Rattle.solve.proofs.Solution.{near, filled-factors, unknown-right}
+use Rattle.algebra.proofs.Primes.{prime-65521}
+use Rattle.scheme.specs.Limits.{most-blocks}
+use Rattle.scheme.specs.Scheme.{sixteen}
+use Rattle.scheme.specs.Solve.{block, unknown-at, unknowns-of}
+use Rattle.scheme.proofs.Grids.{Rows, rows-long, rows-start, rows-more, rows-end}
+use Rattle.scheme.proofs.Solve.{sums-low, filled-factors}
+use Rattle.scheme.proofs.SolveModular.{inverse-row-right}
+use Rattle.solve.specs.Solve.{laws16}
 use Rattle.solve.proofs.solve.Statement.{statement}
 use Rattle.solve.proofs.solve.Tie as tie
 
 abbrev Inv-loop : tie.InvT-loop
-Inv-loop rows columns alpha beta values n out₀ at₀ i₀ out at i = (i ≤ n) × Rows (λ a b. unknown-at rows columns (block values b) n a) 16 i at out
+Inv-loop rows columns alpha beta values n out₀ at₀ i₀ out at i = Rows (λ a b. unknown-at sixteen laws16 rows columns (block values b) n a) n i at out
 
 abbrev μ-loop : tie.MeasureT-loop
 μ-loop rows columns alpha beta values n out₀ at₀ i₀ out at i = n - i
@@ -20,7 +25,7 @@ no-cells-requires : tie.Need-no-cells-requires Inv-loop μ-loop
 no-cells-requires c κs = search needs
 
 loop-holds : tie.Need-loop-holds Inv-loop μ-loop
-loop-holds c = (omega arith, rw (c .no-cells .ensures) (rows-start _ _))
+loop-holds c = rw (c .no-cells .ensures) (rows-start _ _)
 
 mul-inverse-row : tie.Need-mul-inverse-row Inv-loop μ-loop
 mul-inverse-row c = search needs
@@ -34,17 +39,22 @@ mul-inverse-row-2 c = search needs
 element-copy-out-inverse-row-2 : tie.Need-element-copy-out-inverse-row-2 Inv-loop μ-loop
 element-copy-out-inverse-row-2 c = search needs
 
+abbrev start : tie.In-loop Inv-loop μ-loop → tie.Start Inv-loop μ-loop
+start t = t .before .before .before
+
 inverse-row-requires : tie.Need-inverse-row-requires Inv-loop μ-loop
 inverse-row-requires c κs =
-    let s = c .before .before .before .before .before .pre .square in
-    let i = c .before .before .before .loop .i in
-    (s .few, near (s .rows-good) (omega (arith, s .columns-good .inside i (c .before .before .loop-test .taken))))
+    let t = c .before .before in
+    let s = start t .pre .square in
+    (s .few, sums-low (s .rows-good) (omega (arith, s .columns-good .inside (t .before .loop .i) (t .loop-test .taken))))
 
 put-row-requires : tie.Need-put-row-requires Inv-loop μ-loop
 put-row-requires c κs =
-    let l = c .before .before .before .before .before .before .loop in
-    let s = c .before .before .before .before .before .before .before .before .pre .square in
-    (omega (arith, l .inv .1 .place, s .few, c .before .before .before .before .before .loop-test .taken), l .inv .1 .long, filled-factors _ _ _ (s .few) (c .before .before .inverse-row .ensures))
+    let r = c .before .before in
+    let t = r .before .before .before in
+    let l = t .before .loop in
+    let few = start t .pre .square .few in
+    (omega (arith, l .inv .place, few, t .loop-test .taken), rows-long _ _ _ _ _ few (l .inv), filled-factors _ _ _ few (r .inverse-row .ensures))
 
 add-at : tie.Need-add-at Inv-loop μ-loop
 add-at c = search needs
@@ -57,17 +67,18 @@ loop-less c = search needs
 
 loop-again : tie.Need-loop-again Inv-loop μ-loop
 loop-again c =
-    let l = c .before .before .before .before .before .before .before .loop in
-    let s = c .before .before .before .before .before .before .before .before .before in
-    let h = c .before .before .before .before .before .before .loop-test .taken in
-    (omega arith, rows-more _ _ _ (l .i) _ _ _ (omega arith) (l .inv .1) (λ b k. unknown-right _ _ _ _ (l .i) h _ _ _ b (s .pre) (c .before .before .before .inverse-row .ensures)) (c .put-row .ensures))
+    let r = c .before .before .before in
+    let t = r .before .before .before in
+    let l = t .before .loop in
+    let w = start t .pre in
+    let h = t .loop-test .taken in
+    rows-more _ _ (l .i) _ _ _ most-blocks _ (w .square .few) (omega arith) h
+    (λ b k. inverse-row-right prime-65521 (lit< tt) _ _ _ _ _ _ (l .i) w h _ b (r .inverse-row .ensures))
+    (λ b low high. absurd (omega arith)) (c .put-row .ensures) (l .inv)
 
 returns : tie.Need-returns Inv-loop μ-loop
 unfolding unknowns-of
-returns c =
-    let l = c .before .loop in
-    let e : l .i ≡ c .before .before .before .args .n = omega arith in
-    rows-end _ _ _ _ (c .before .before .before .pre .square .few) (rw e at (l .inv .1))
+returns c = rows-end _ _ _ _ _ (c .loop-test .left) (c .before .loop .inv)
 
 pub solve-spec : {M : Type 1} → statement M
 solve-spec =

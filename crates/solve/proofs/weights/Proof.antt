@@ -1,20 +1,27 @@
 -- `solve::weights` meets its contract. The loop's invariant: the first i weights are written.
 -- The measure is how many are left. Assumes nothing.
+use mathlib.Core.Path.{_∙_}
 use Prim.Native.Nat.{_-_}
+use lib.Dec.{lit<}
 use borrow.Author.Needs.{needs}
-use Rattle.solve.specs.Solve.{weight-at, weights-of}
-use Rattle.solve.proofs.Filled.{Filling, filling-start, filling-more, filling-end}
+use Rattle.algebra.proofs.Primes.{prime-65521}
+use Rattle.scheme.specs.Limits.{most-users}
+use Rattle.scheme.specs.Scheme.{sixteen}
+use Rattle.scheme.specs.Solve.{row-weight, row-weights}
+use Rattle.scheme.proofs.Padded.{Filling, filling-start, filling-more, filling-end}
+use Rattle.scheme.proofs.SolveModular.{weights-exchanged}
+use Rattle.solve.specs.Solve.{laws16}
 use Rattle.solve.proofs.weights.Statement.{statement}
 use Rattle.solve.proofs.weights.Tie as tie
 
 abbrev Inv-loop : tie.InvT-loop
-Inv-loop own other n out₀ i₀ out i = Filling (weight-at own other n) n i out
+Inv-loop own other n out₀ i₀ out i = Filling most-users (row-weight sixteen laws16 own other n) n i out
 
 abbrev μ-loop : tie.MeasureT-loop
 μ-loop own other n out₀ i₀ out i = n - i
 
 loop-holds : tie.Need-loop-holds Inv-loop μ-loop
-loop-holds c = filling-start _ _
+loop-holds c = filling-start _ _ _
 
 weight-of-requires : tie.Need-weight-of-requires Inv-loop μ-loop
 weight-of-requires c κs = let p = c .before .before .pre in (p .0, c .loop-test .taken, p .1, p .2)
@@ -34,11 +41,13 @@ loop-less c = search needs
 loop-again : tie.Need-loop-again Inv-loop μ-loop
 loop-again c =
     let l = c .before .before .loop in
-    filling-more _ _ (l .i) _ _ (c .before .before .before .pre .0) (c .before .loop-test .taken) (c .weight-of .ensures) (l .inv)
+    filling-more _ _ _ (l .i) _ _ (c .before .before .before .pre .0) (c .before .loop-test .taken) (c .weight-of .ensures) (l .inv)
 
 returns : tie.Need-returns Inv-loop μ-loop
-unfolding weights-of
-returns c = filling-end _ _ _ _ (c .loop-test .left) (c .before .loop .inv)
+unfolding row-weights
+returns c =
+    let e = filling-end _ _ _ _ _ (c .loop-test .left) (c .before .loop .inv) in
+    (e, e ∙ weights-exchanged prime-65521 (lit< tt) _ _ _)
 
 pub weights-spec : {M : Type 1} → statement M
 weights-spec =

@@ -1,14 +1,18 @@
--- `solve::two` meets its contract: a folded product is the product modulo q.
+-- `solve::two_products` meets its contract: a folded product is the product modulo q.
 -- Assumes nothing.
 use mathlib.Core.Path.{_≡_, ap, _∙_}
 use Prim.Native.Nat.{ℕ, _+_, _*_, _%_}
 use native.Mathlib.Omega.{arith}
+use lib.Dec.{lit<}
 use lib.ListN.{getD}
 use borrow.Author.Needs.{needs}
+use Rattle.algebra.proofs.Primes.{prime-65521}
+use Rattle.scheme.specs.Limits.{most-blocks}
 use Rattle.scheme.specs.Scheme.{q}
-use Rattle.solve.proofs.Turns.{sum-two}
-use Rattle.solve.proofs.two.Statement.{statement}
-use Rattle.solve.proofs.two.Tie as tie
+use Rattle.scheme.proofs.SolveModular.{unreduced-one, unreduced-both}
+use Rattle.solve.specs.Solve.{most-folded}
+use Rattle.solve.proofs.two_products.Statement.{statement}
+use Rattle.solve.proofs.two_products.Tie as tie
 
 mul-at : tie.Need-mul-at
 mul-at c = search needs
@@ -57,14 +61,17 @@ add-result c = search needs
 
 returns : tie.Need-returns
 returns c =
-    let a = c .before .before .before .before .before .before .args in
-    let s = c .before .before .before .folded .ensures in
+    let d = c .before .before .before in
+    let a = d .before .before .before .args in
+    let s = d .folded .ensures in
     let t = c .folded2 .ensures in
-    let e : a .i * 16 + a .b + 16 ≡ (a .i + 1) * 16 + a .b = omega arith in
-    (sum-two _ (a .i) _ _ (s .0) (t .0 ∙ ap (λ (k : ℕ). getD (a .list .now) (a .i + 1) 0 * getD (a .grid .now) k 0 % q) e), omega (arith, s .1, t .1))
+    let e : a .i * most-blocks + a .b + most-blocks ≡ (a .i + 1) * most-blocks + a .b = omega arith in
+    let f = ap (λ (k : ℕ). getD (a .list .now) (a .i + 1) 0 * getD (a .grid .now) k 0 % q) e in
+    unreduced-both prime-65521 (lit< tt) most-folded _ (a .i) 1 1 _ _ (unreduced-one prime-65521 (lit< tt) _ _ (a .i) _ (s .0) (s .1))
+    (unreduced-one prime-65521 (lit< tt) _ _ (a .i + 1) _ (t .0 ∙ f) (t .1))
 
-pub two-spec : {M : Type 1} → statement M
-two-spec =
+pub two-products-spec : {M : Type 1} → statement M
+two-products-spec =
     tie.close
     (tie.spec
     mul-at

@@ -1,0 +1,227 @@
+-- The closed solution on lists of numbers, over an arithmetic with its laws.
+--   below, points-some                  the positions of n entries; fewer points, in a wider range
+--   sums-low, filled-factors            points in range have small sums; n entries by a rule are n factors
+--   dot-same, dot-row                   the value of a row goes by the first n values; in the words of the scheme, where the columns are 1 to n
+--   row-same                            a row of the system times the unknowns, as code has it, is the value of the row
+--   sum-short                           summands that are 0 do not count
+--   α, β, row-weight-el, column-weight-el       weights in the field
+--   solve-right                         the unknowns solve the system
+--   unknown-right                       a row of the inverse times values is an unknown
+--   unknown-same                        an unknown goes by the first n values alone
+--   unknowns-at                         an unknown of a block, in the grid of all
+--   Weighing, weighing-start, weighing-more, weighing-end     a loop that makes a weight, factor by factor
+-- Assumes nothing.
+use mathlib.Core.Path.{_≡_, refl, sym, ap, ap₂, _∙_}
+use mathlib.Core.List.{List}
+use Prim.Native.Nat.{ℕ, zero, suc, _+_, _*_, _-_, _≤_, _<_}
+use native.Mathlib.Omega.{arith}
+use lib.Dec.{eqb}
+use lib.ListN.{getD}
+use Rattle.algebra.specs.Field.{Field}
+use Rattle.algebra.specs.Sums.{In, sum as field-sum}
+use Rattle.algebra.specs.Cauchy.{System, gap, weight, solution}
+use Rattle.algebra.proofs.Field.{expand, one-mul}
+use Rattle.algebra.proofs.Sums.{sum-same as field-sum-same, sum-scale as field-sum-scale}
+use Rattle.algebra.proofs.Cauchy.{solves}
+use Rattle.scheme.specs.Limits.{most-users, most-threshold, most-blocks, points}
+use Rattle.scheme.specs.Lists.{span, all-of, filled}
+use Rattle.scheme.specs.Scheme.{Arithmetic, sum, row-value}
+use Rattle.scheme.specs.Laws.{Laws}
+use Rattle.scheme.specs.Weighed.{weighed}
+use Rattle.scheme.specs.Solve.{Points, Square, Sums-low, Factors, dot-of, cell, block, row-fits, row-points, column-points, right-side, row-weight, column-weight, row-weights, column-weights, unknown-at, solution-of, unknowns-of}
+use Rattle.scheme.proofs.Lists.{span-in, in-span, span-once, span-start, span-next, span-end}
+use Rattle.scheme.proofs.Sums.{sum-same, sum-shift, el-same, zero-small, sum-el, sum-small, coefficient-el}
+use Rattle.scheme.proofs.Padded.{filled-at, filled-behind}
+use Rattle.scheme.proofs.Grids.{block-at, grid-at}
+
+pub below : (n i : ℕ) → In i (span n 0) → i < n
+below n i m = omega (arith, span-in n 0 i m)
+
+pub points-some : {most more n m : ℕ} {xs : List ℕ} → Points most m xs → most ≤ more → n ≤ m → Points more n xs
+points-some p h l = record {
+  inside = λ i a. let x = p .inside i (omega arith) in (x .0, omega (arith, x .1));
+  apart = λ i k a b. p .apart i k (omega arith) (omega arith);
+}
+
+-- points in range have small sums
+pub sums-low : {x most n : ℕ} {ps : List ℕ} → Points most n ps → x + most < points → Sums-low x n ps
+sums-low p h = record { low = λ i l. omega (arith, p .inside i l) }
+
+pub filled-factors : (f : ℕ → ℕ) (n : ℕ) (cs : List ℕ) → n ≤ most-users → cs ≡ filled most-users n f → Factors n cs
+filled-factors f n cs h e = record { few = h; behind = λ i l. ap (λ (c : List ℕ). getD c i 0) e ∙ filled-behind most-users f n i l }
+
+-- ---- THE VALUE OF A ROW
+module _ (A : Arithmetic) where
+  pub dot-same : (x : ℕ) (ps vs ws : List ℕ) (n : ℕ) → ((a : ℕ) → a < n → getD vs a 0 ≡ getD ws a 0) → dot-of A x ps vs n ≡ dot-of A x ps ws n
+  unfolding dot-of
+  dot-same x ps vs ws n e =
+      sum-same A (span n 0) _ _ (λ i m. ap (λ (v : ℕ). A .multiply (A .coefficient x (getD ps i 0)) v) (e i (below n i m)))
+
+  pub dot-row : (x : ℕ) (cs vs : List ℕ) (n : ℕ) → ((i : ℕ) → i < n → getD cs i 0 ≡ i + 1)
+      → dot-of A x cs vs n ≡ row-value A n x (λ j. getD vs (j - 1) 0)
+  unfolding dot-of row-value
+  dot-row x cs vs n columns =
+      sum-same A (span n 0) _ _ (λ i m.
+      let e : getD cs i 0 ≡ 1 + i = omega (arith, columns i (below n i m)) in
+      let f : i ≡ 1 + i - 1 = omega arith in
+      ap₂ (λ (c k : ℕ). A .multiply (A .coefficient x c) (getD vs k 0)) e f)
+      ∙ sym (sum-shift A n 1 0 (λ j. A .multiply (A .coefficient x j) (getD vs (j - 1) 0)))
+
+  weighed-dot : (x : ℕ) (ps cs g : List ℕ) (n b : ℕ) → n ≤ most-users → cs ≡ filled most-users n (λ i. A .coefficient x (getD ps i 0))
+      → weighed A cs n (λ i. cell g i b) ≡ dot-of A x ps (block g b) n
+  unfolding weighed dot-of
+  weighed-dot x ps cs g n b h e =
+      sum-same A (span n 0) _ _ (λ i m.
+      let l = below n i m in
+      ap₂ (A .multiply) (ap (λ (c : List ℕ). getD c i 0) e ∙ filled-at most-users _ n i l) (sym (block-at g b i (omega arith))))
+
+  pub row-same : (rs cs vs ws list : List ℕ) (n m a at : ℕ) → n ≤ most-users
+      → list ≡ filled most-users n (λ i. A .coefficient (getD rs a 0) (getD cs i 0)) → at ≡ a * most-blocks
+      → all-of (λ b. eqb (weighed A list n (λ i. cell ws i b)) (getD vs (at + b) 0)) (span m 0) ≡ row-fits A rs cs vs ws n m a
+  unfolding row-fits
+  row-same rs cs vs ws list n m a at h e d = λ t.
+      all-of (λ b. eqb (weighed-dot (getD rs a 0) cs list ws n b h e t) (getD vs (d t + b) 0)) (span m 0)
+
+-- ---- IN THE FIELD
+module _ (A : Arithmetic) (L : Laws A most-users most-threshold) where
+  open Laws L using (K, el, val, row, col)
+  open Field K using (F, 𝟙, add as _⊕_, mul as _⊗_, inv)
+
+  infixl 65 _⊕_
+  infixl 70 _⊗_
+  val-of : (a : ℕ) (x : F) → a < A .size → el a ≡ x → a ≡ val x
+  val-of a x h e = sym (L .val-el a h) ∙ ap val e
+
+  -- summands that are 0 do not count
+  add-none : A .add 0 0 ≡ 0
+  add-none =
+      el-same A most-users most-threshold L (L .add-small 0 0) (zero-small A most-users most-threshold L)
+      (L .el-add 0 0 ∙ ap (λ z. el 0 ⊕ z) (L .el-zero) ∙ K .add-zero (el 0))
+
+  sum-none : (n k : ℕ) (f : ℕ → ℕ) → ((i : ℕ) → k ≤ i → f i ≡ 0) → sum A (span n k) f ≡ 0
+  unfolding sum
+  sum-none zero k f z = refl
+  sum-none (suc n) k f z = ap₂ (A .add) (z k (omega arith)) (sum-none n (suc k) f (λ i h. z i (omega arith))) ∙ add-none
+
+  pub sum-short : (m n k : ℕ) (f : ℕ → ℕ) → n ≤ m → ((i : ℕ) → k + n ≤ i → f i ≡ 0) → sum A (span m k) f ≡ sum A (span n k) f
+  unfolding sum
+  sum-short m zero k f h z = sum-none m k f (λ i l. z i (omega arith))
+  sum-short zero (suc n) k f h z = absurd (omega arith)
+  sum-short (suc m) (suc n) k f h z = ap (A .add (f k)) (sum-short m n (suc k) f (omega arith) (λ i l. z i (omega arith)))
+
+  dot-small : (x : ℕ) (ps vs : List ℕ) (n : ℕ) → dot-of A x ps vs n < A .size
+  unfolding dot-of
+  dot-small x ps vs n = sum-small A most-users most-threshold L (span n 0) _
+
+  dot-el : (x : ℕ) (ps vs : List ℕ) (n : ℕ) → (1 ≤ x) × (x ≤ most-users) → Points most-threshold n ps
+      → el (dot-of A x ps vs n) ≡ field-sum K (span n 0) (λ i. inv (row x ⊕ column-points A L ps i) ⊗ right-side A L vs i)
+  unfolding dot-of
+  dot-el x ps vs n h p =
+      sum-el A most-users most-threshold L (span n 0) _
+      ∙ field-sum-same K (span n 0) _ _ (λ i m.
+      L .el-multiply _ _
+      ∙ ap (λ u. u ⊗ el (getD vs i 0)) (coefficient-el A most-users most-threshold L x (getD ps i 0) h (p .inside i (below n i m))))
+
+  module _ (rs cs : List ℕ) (n : ℕ) where
+    -- the weights of algebra's closed solution
+    abbrev pub α : (a : ℕ) → F
+    α a = weight K (row-points A L rs) (column-points A L cs) (span n 0) (span n 0) a
+
+    abbrev pub β : (i : ℕ) → F
+    β i = weight K (column-points A L cs) (row-points A L rs) (span n 0) (span n 0) i
+
+    pub row-weight-el : (a : ℕ) → a < n → el (getD (row-weights A L rs cs n) a 0) ≡ α a
+    unfolding row-weights row-weight
+    row-weight-el a h = ap el (filled-at most-users _ n a h) ∙ L .el-val _
+
+    pub column-weight-el : (i : ℕ) → i < n → el (getD (column-weights A L rs cs n) i 0) ≡ β i
+    unfolding column-weights column-weight
+    column-weight-el i h = ap el (filled-at most-users _ n i h) ∙ L .el-val _
+
+    -- good points are a Cauchy system
+    system : Square rs cs n → System K (row-points A L rs) (column-points A L cs) (span n 0) (span n 0)
+    system square = record {
+      square = refl;
+      rows-once = span-once n 0;
+      columns-once = span-once n 0;
+      rows-apart = λ a k l m ne. L .rows-apart _ _ (row-in a l) (row-in k m) (square .rows-good .apart a k (below n a l) (below n k m) ne);
+      columns-apart = λ i k l m ne. L .columns-apart _ _ (column-in i l) (column-in k m) (square .columns-good .apart i k (below n i l) (below n k m) ne);
+      meet = λ a i l m. L .meet _ _ (row-in a l) (column-in i m);
+    }
+      where
+        row-in : (a : ℕ) → In a (span n 0) → (1 ≤ getD rs a 0) × (getD rs a 0 ≤ most-users)
+        row-in a m = square .rows-good .inside a (below n a m)
+
+        column-in : (i : ℕ) → In i (span n 0) → (1 ≤ getD cs i 0) × (getD cs i 0 ≤ most-threshold)
+        column-in i m = square .columns-good .inside i (below n i m)
+
+    module _ (vs : List ℕ) where
+      solution-el : (i : ℕ) → i < n
+          → right-side A L (solution-of A L rs cs vs n) i ≡ solution K (row-points A L rs) (column-points A L cs) (span n 0) (span n 0) (right-side A L vs) i
+      unfolding solution-of unknown-at
+      solution-el i h = ap el (filled-at most-users (unknown-at A L rs cs vs n) n i h) ∙ L .el-val _
+
+      pub solve-right : Square rs cs n → (a : ℕ) → a < n → getD vs a 0 < A .size
+          → dot-of A (getD rs a 0) cs (solution-of A L rs cs vs n) n ≡ getD vs a 0
+      solve-right square a h small =
+          el-same A most-users most-threshold L (dot-small (getD rs a 0) cs (solution-of A L rs cs vs n) n) small
+          (dot-el (getD rs a 0) cs _ n (square .rows-good .inside a h) (square .columns-good)
+          ∙ field-sum-same K (span n 0) _ _ (λ i m. ap (λ u. inv (row-points A L rs a ⊕ column-points A L cs i) ⊗ u) (solution-el i (below n i m)))
+          ∙ solves (system square) (right-side A L vs) a (in-span n 0 a (omega arith) (omega arith)))
+
+      regroup : (a b c v : F) → a ⊗ (b ⊗ c) ⊗ v ≡ a ⊗ (c ⊗ (b ⊗ v))
+      regroup a b c v = simp expand
+
+      pub unknown-right : (list : List ℕ) (i b : ℕ) → n ≤ most-users
+          → ((a : ℕ) → a < n → el (getD list a 0) ≡ β i ⊗ (α a ⊗ inv (row-points A L rs a ⊕ column-points A L cs i)))
+          → weighed A list n (λ a. cell vs a b) ≡ unknown-at A L rs cs (block vs b) n i
+      unfolding weighed unknown-at
+      unknown-right list i b few e =
+          val-of _ _ (sum-small A most-users most-threshold L (span n 0) _)
+          (sum-el A most-users most-threshold L (span n 0) _
+          ∙ field-sum-same K (span n 0) _ _ (λ a m.
+          let l = below n a m in
+          L .el-multiply _ _ ∙ ap₂ _⊗_ (e a l) (ap el (sym (block-at vs b a (omega arith)))) ∙ regroup _ _ _ _)
+          ∙ field-sum-scale K _ (span n 0) _)
+
+      pub unknown-same : (ws : List ℕ) (i : ℕ) → ((a : ℕ) → a < n → getD vs a 0 ≡ getD ws a 0) → unknown-at A L rs cs vs n i ≡ unknown-at A L rs cs ws n i
+      unfolding unknown-at
+      unknown-same ws i e =
+          ap (λ u. val (β i ⊗ u))
+          (field-sum-same K (span n 0) _ _ (λ a m.
+          ap (λ (v : ℕ). inv (row-points A L rs a ⊕ column-points A L cs i) ⊗ (α a ⊗ el v)) (e a (below n a m))))
+
+      pub unknowns-at : (i b : ℕ) → i < n → b < most-blocks → cell (unknowns-of A L rs cs vs n) i b ≡ unknown-at A L rs cs (block vs b) n i
+      unfolding unknowns-of
+      unknowns-at i b h l = grid-at (λ a b. unknown-at A L rs cs (block vs b) n a) n i b h l
+
+  -- ---- A WEIGHT, FACTOR BY FACTOR
+  module _ (x y : ℕ → F) (n a : ℕ) where
+    -- the weight over the positions of a list
+    abbrev over : List ℕ → F
+    over l = weight K x y l l a
+
+    pub record Weighing (i w : ℕ) : Type 0 where
+      pub inside : i ≤ n
+      pub small : w < A .size
+      pub rest : el w ⊗ over (span (n - i) i) ≡ over (span n 0)
+
+    pub weighing-start : 1 < A .size → el 1 ≡ 𝟙 → Weighing 0 1
+    weighing-start h e = record { inside = omega arith; small = h; rest = rw (e, one-mul, span-start n) }
+
+    pub weighing-more : (i w r : ℕ) → i < n → r < A .size → el r ≡ el w ⊗ ((x a ⊕ y i) ⊗ gap K x y a i) → Weighing i w → Weighing (i + 1) r
+    weighing-more i w r l h e s = record {
+      inside = omega arith;
+      small = h;
+      rest =
+          ap (λ u. u ⊗ over (span (n - (i + 1)) (i + 1))) e ∙ regroup _ _ _ _ _
+          ∙ ap (λ l. el w ⊗ over l) (sym (span-next n i l)) ∙ s .rest;
+    }
+      where
+        regroup : (x s g u v : F) → x ⊗ (s ⊗ g) ⊗ (u ⊗ v) ≡ x ⊗ (s ⊗ u ⊗ (g ⊗ v))
+        regroup x s g u v = simp expand
+
+    pub weighing-end : (i w : ℕ) → n ≤ i → Weighing i w → w ≡ val (weight K x y (span n 0) (span n 0) a)
+    weighing-end i w h s =
+        val-of w _ (s .small)
+        (sym (K .mul-one _ ∙ K .mul-one _) ∙ K .mul-assoc _ _ _ ∙ ap (λ l. el w ⊗ over l) (sym (span-end n i h)) ∙ s .rest)

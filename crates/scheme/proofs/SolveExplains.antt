@@ -1,0 +1,84 @@
+-- The solver in the words of demand 2: rows are users, columns are 1 to U, values are replies.
+--   Block                           the arrays of a block: users, columns, values
+--   explains-first                  the unknowns explain the first U values
+--   fits-explains, explains-fits    they explain all values exactly if the further rows fit
+-- Assumes nothing.
+use mathlib.Core.Path.{_≡_, sym, ap, ap₂, _∙_}
+use mathlib.Core.Bool.{true}
+use mathlib.Core.List.{List, map}
+use Prim.Native.Nat.{ℕ, _+_, _-_, _≤_, _<_}
+use native.Mathlib.Decide.{decLt}
+use native.Mathlib.Omega.{arith}
+use lib.ListN.{length, getD, take}
+use lib.Seq.{take-at, getD-take}
+use borrow.Author.Tests.{eq-eqb, eqb-true}
+use Rattle.scheme.specs.Limits.{most-users, most-threshold}
+use Rattle.scheme.specs.Lists.{span, padded, filled}
+use Rattle.scheme.specs.Scheme.{Arithmetic, Plan, row-value}
+use Rattle.scheme.specs.Laws.{Laws}
+use Rattle.scheme.specs.Solve.{Square, unknown-at, solution-of, dot-of, fits-of}
+use Rattle.scheme.proofs.Lists.{span-in, in-span, map-span-length}
+use Rattle.scheme.proofs.Sums.{sum-same}
+use Rattle.scheme.proofs.Keys.{elements-map}
+use Rattle.scheme.proofs.Totals.{all-of-in, at-all-of, in-at, unknown, Explained}
+use Rattle.scheme.proofs.Solve.{dot-row, solve-right}
+
+-- the values of m users, in order; U of them are solved for
+pub record Block (A : Arithmetic) (p : Plan) (users : List ℕ) (m : ℕ) (y : (k : ℕ) → ℕ) (rs cs vs : List ℕ) : Type 0 where
+  pub many : p .threshold ≤ m
+  pub columns : (i : ℕ) → i < p .threshold → getD cs i 0 ≡ i + 1
+  pub rows : (a : ℕ) → a < m → getD rs a 0 ≡ getD users a 0
+  pub values : (a : ℕ) → a < m → getD vs a 0 ≡ y (getD users a 0)
+  pub small : (a : ℕ) → a < m → getD vs a 0 < A .size
+
+module _ (A : Arithmetic) (L : Laws A most-users most-threshold) (p : Plan) (users : List ℕ) (m : ℕ) (y : (k : ℕ) → ℕ) (rs cs vs : List ℕ) where
+  module _ (block : Block A p users m y rs cs vs) (square : Square rs cs (p .threshold)) where
+    abbrev n : ℕ
+    n = p .threshold
+
+    abbrev W : List ℕ
+    W = solution-of A L rs cs vs n
+
+    first : take n W ≡ map (unknown-at A L rs cs vs n) (span n 0)
+    unfolding solution-of filled padded
+    first = take-at _ _ n (map-span-length _ n 0)
+
+    row-of : (a : ℕ) → a < m → row-value A n (getD users a 0) (unknown (take n W)) ≡ dot-of A (getD rs a 0) cs W n
+    unfolding row-value
+    row-of a h =
+        sum-same A (span n 1) _ _ (λ j i.
+        let s = span-in n 1 j i in
+        ap₂ (λ (k x : ℕ). A .multiply (A .coefficient k j) x) (sym (block .rows a h)) (getD-take n W (j - 1) 0 (omega (arith, s .0, s .1))))
+        ∙ sym (dot-row A (getD rs a 0) cs W n (block .columns))
+
+    explained-by : (k : ℕ) → k ≤ m → ((a : ℕ) → a < k → dot-of A (getD rs a 0) cs W n ≡ getD vs a 0) → Explained A p users k y (take n W)
+    unfolding unknown-at
+    explained-by k h f = record {
+      long = ap length first ∙ map-span-length _ n 0;
+      small = rw first (elements-map A (unknown-at A L rs cs vs n) (span n 0) (λ i l. L .val-small _));
+      fits = λ a l. row-of a (omega arith) ∙ f a l ∙ block .values a (omega arith);
+    }
+
+    solved : (a : ℕ) → a < n → dot-of A (getD rs a 0) cs W n ≡ getD vs a 0
+    solved a h = solve-right A L rs cs n vs square a h (block .small a (omega (arith, block .many)))
+
+    pub explains-first : Explained A p users (p .threshold) y (take (p .threshold) (solution-of A L rs cs vs (p .threshold)))
+    explains-first = explained-by n (block .many) solved
+
+    pub fits-explains : fits-of A rs cs vs (solution-of A L rs cs vs (p .threshold)) (p .threshold) m ≡ true
+        → Explained A p users m y (take (p .threshold) (solution-of A L rs cs vs (p .threshold)))
+    unfolding fits-of
+    fits-explains e = explained-by m (omega arith) (λ a h. go a h (decLt a n))
+      where
+        go : (a : ℕ) → a < m → Dec (a < n) → dot-of A (getD rs a 0) cs W n ≡ getD vs a 0
+        go a h (yes l) = solved a l
+        go a h (no l) = eqb-true _ _ (all-of-in _ (span (m - n) n) e a (in-span (m - n) n a (omega arith) (omega arith)))
+
+    pub explains-fits : Explained A p users m y (take (p .threshold) (solution-of A L rs cs vs (p .threshold)))
+        → fits-of A rs cs vs (solution-of A L rs cs vs (p .threshold)) (p .threshold) m ≡ true
+    unfolding fits-of
+    explains-fits e =
+        at-all-of _ (span (m - n) n) (λ k l.
+        let s = span-in (m - n) n _ (in-at (span (m - n) n) k l) in
+        let a : getD (span (m - n) n) k 0 < m = omega (arith, s .0, s .1) in
+        eq-eqb _ _ (sym (row-of _ a) ∙ e .fits _ a ∙ sym (block .values _ a)))

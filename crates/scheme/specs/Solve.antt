@@ -1,0 +1,125 @@
+-- Square Cauchy systems on lists of numbers, over an arithmetic with its laws, everything by position: row a has the point of the
+-- number rows[a], column i that of columns[i], and the coefficient is 1 / (row + column).
+--   Points, Square             the first n numbers are in range and different; such rows and columns
+--   dot-of, fits-of            the value of a row; the rows from n to m - 1 have the values that follow from the unknowns
+--   cell, grid, block          a grid: the number of a row and a block; n rows by a rule; the numbers of a block
+--   row-fits                   whether a row of several blocks has the values that follow
+--   row-points, column-points, right-side       the points of rows and columns, and values, as elements of the field
+--   row-weight .. column-weights                the weights of algebra's closed solution
+--   Weighted                   a system with its weights
+--   unknown-at, solution-of    algebra's closed solution
+--   unknowns-of                the unknowns of every block
+-- Modulo q, as code computes it:
+--   gap-between, gap-entry     1 / (x - y), and 1 where they are the same; by most-threshold + x - y
+--   inverse-at                 what the value of a row counts for an unknown
+--   Sums-low                   sums with the first n points are below the bound of all
+--   Factors                    n factors, and 0 behind them
+--   Unreduced                  a sum that is to be reduced at its end
+-- Assumes nothing: these are definitions.
+use mathlib.Core.Path.{_≡_}
+use mathlib.Core.Logic.{_≢_}
+use mathlib.Core.Bool.{Bool, cond}
+use mathlib.Core.List.{List, map}
+use Prim.Native.Nat.{ℕ, _+_, _*_, _-_, _/_, _%_, _≤_, _<_}
+use lib.Dec.{eqb}
+use lib.ListN.{getD}
+use Rattle.algebra.specs.Residue.{inverse}
+use Rattle.algebra.specs.Cauchy.{weight, solution}
+use Rattle.scheme.specs.Limits.{most-users, most-threshold, most-blocks, cells, points}
+use Rattle.scheme.specs.Lists.{span, all-of, padded, filled}
+use Rattle.scheme.specs.Scheme.{Arithmetic, modular, sum}
+use Rattle.scheme.specs.Laws.{Laws}
+
+-- ---- WHAT IS ASKED OF THE POINTS
+pub record Points (most n : ℕ) (xs : List ℕ) : Type 0 where
+  pub inside : (i : ℕ) → i < n → (1 ≤ getD xs i 0) × (getD xs i 0 ≤ most)
+  pub apart : (i k : ℕ) → i < n → k < n → i ≢ k → getD xs i 0 ≢ getD xs k 0
+
+pub record Square (rows columns : List ℕ) (n : ℕ) : Type 0 where
+  pub few : n ≤ most-users
+  pub rows-good : Points most-users n rows
+  pub columns-good : Points most-threshold n columns
+
+-- ---- THE VALUE OF A ROW
+unfoldable pub dot-of : Arithmetic → (x : ℕ) → (points values : List ℕ) → (n : ℕ) → ℕ
+dot-of A x ps vs n = sum A (span n 0) (λ i. A .multiply (A .coefficient x (getD ps i 0)) (getD vs i 0))
+
+unfoldable pub fits-of : Arithmetic → (rows columns values unknowns : List ℕ) → (n m : ℕ) → Bool
+fits-of A rs cs vs ws n m = all-of (λ a. eqb (dot-of A (getD rs a 0) cs ws n) (getD vs a 0)) (span (m - n) n)
+
+-- ---- GRIDS: a row for each user, in it a number for each block
+abbrev pub cell : (grid : List ℕ) → (a b : ℕ) → ℕ
+cell g a b = getD g (a * most-blocks + b) 0
+
+-- n rows by a rule, and 0 behind them
+unfoldable pub grid : (n : ℕ) → (rule : (a b : ℕ) → ℕ) → List ℕ
+grid n f = padded cells (map (λ k. f (k / most-blocks) (k % most-blocks)) (span (n * most-blocks) 0))
+
+unfoldable pub block : (grid : List ℕ) → (b : ℕ) → List ℕ
+block g b = map (λ a. cell g a b) (span most-users 0)
+
+unfoldable pub row-fits : Arithmetic → (rows columns values unknowns : List ℕ) → (n blocks a : ℕ) → Bool
+row-fits A rs cs vs ws n m a = all-of (λ b. eqb (dot-of A (getD rs a 0) cs (block ws b) n) (cell vs a b)) (span m 0)
+
+-- ---- THE CLOSED SOLUTION
+module _ (A : Arithmetic) (L : Laws A most-users most-threshold) where
+  open Laws L using (K, el, val, row, col)
+
+  abbrev pub row-points : (rows : List ℕ) → (at : ℕ) → K .F
+  row-points rs a = row (getD rs a 0)
+
+  abbrev pub column-points : (columns : List ℕ) → (at : ℕ) → K .F
+  column-points cs i = col (getD cs i 0)
+
+  abbrev pub right-side : (values : List ℕ) → (at : ℕ) → K .F
+  right-side vs a = el (getD vs a 0)
+
+  unfoldable pub row-weight : (rows columns : List ℕ) → (n at : ℕ) → ℕ
+  row-weight rs cs n a = val (weight K (row-points rs) (column-points cs) (span n 0) (span n 0) a)
+
+  unfoldable pub column-weight : (rows columns : List ℕ) → (n at : ℕ) → ℕ
+  column-weight rs cs n i = val (weight K (column-points cs) (row-points rs) (span n 0) (span n 0) i)
+
+  unfoldable pub row-weights : (rows columns : List ℕ) → (n : ℕ) → List ℕ
+  row-weights rs cs n = filled most-users n (row-weight rs cs n)
+
+  unfoldable pub column-weights : (rows columns : List ℕ) → (n : ℕ) → List ℕ
+  column-weights rs cs n = filled most-users n (column-weight rs cs n)
+
+  pub record Weighted (rows columns alpha beta : List ℕ) (n : ℕ) : Type 0 where
+    pub square : Square rows columns n
+    pub alpha-right : alpha ≡ row-weights rows columns n
+    pub beta-right : beta ≡ column-weights rows columns n
+
+  unfoldable pub unknown-at : (rows columns values : List ℕ) → (n at : ℕ) → ℕ
+  unknown-at rs cs vs n i = val (solution K (row-points rs) (column-points cs) (span n 0) (span n 0) (right-side vs) i)
+
+  unfoldable pub solution-of : (rows columns values : List ℕ) → (n : ℕ) → List ℕ
+  solution-of rs cs vs n = filled most-users n (unknown-at rs cs vs n)
+
+  unfoldable pub unknowns-of : (rows columns values : List ℕ) → (n : ℕ) → List ℕ
+  unknowns-of rs cs vs n = grid n (λ i b. unknown-at rs cs (block vs b) n i)
+
+-- ---- MODULO q, AS CODE COMPUTES IT
+unfoldable pub gap-between : (q x y : ℕ) → ℕ
+gap-between q x y = cond (eqb x y) 1 (inverse q (modular q .subtract x y))
+
+-- 1 / (d - most-threshold), and 1 at most-threshold
+unfoldable pub gap-entry : (q d : ℕ) → ℕ
+gap-entry q d = cond (eqb d most-threshold) 1 (inverse q ((d + (q - most-threshold)) % q))
+
+-- in the row of the unknown with the point x and the weight w
+unfoldable pub inverse-at : (q x : ℕ) → (rows alpha : List ℕ) → (w a : ℕ) → ℕ
+inverse-at q x rs ws w a = w * (getD ws a 0 * modular q .coefficient (getD rs a 0) x % q) % q
+
+pub record Sums-low (x n : ℕ) (ps : List ℕ) : Type 0 where
+  pub low : (i : ℕ) → i < n → x + getD ps i 0 < points
+
+pub record Factors (n : ℕ) (cs : List ℕ) : Type 0 where
+  pub few : n ≤ most-users
+  pub behind : (i : ℕ) → n ≤ i → getD cs i 0 ≡ 0
+
+-- of n terms from k on, each at most `most`
+pub record Unreduced (q most : ℕ) (f : ℕ → ℕ) (k n total : ℕ) : Type 0 where
+  pub small : total ≤ n * most
+  pub right : total % q ≡ sum (modular q) (span n k) f
