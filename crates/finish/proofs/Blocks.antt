@@ -16,6 +16,7 @@ use lib.ListN.{length, getD, take, replicate, length-map}
 use lib.Seq.{take-at}
 use borrow.Author.Tests.{eq-eqb, eqb-true}
 use Rattle.algebra.specs.Sums.{Distinct}
+use Rattle.scheme.specs.Limits.{most-users, most-threshold}
 use Rattle.scheme.specs.Lists.{span, all-of, padded}
 use Rattle.scheme.specs.Scheme.{sixteen, q, elements, Plan, ones, users-in, row-value, in-set}
 use Rattle.scheme.specs.Good.{Good}
@@ -33,11 +34,11 @@ use Rattle.finish.specs.Finish.{rows-of, values-of, columns, choice-of}
 use Rattle.finish.proofs.Padded.{map-at}
 
 -- ---- the points
-column-at : (i : ℕ) → i < 7 → getD columns i 0 ≡ i + 1
-unfolding all-of
-column-at i h = eqb-true _ _ (all-of-in (λ k. eqb (getD columns k 0) (k + 1)) (span 7 0) refl i (in-span 7 0 i (omega arith) (omega arith)))
+column-at : (i : ℕ) → i < most-threshold → getD columns i 0 ≡ i + 1
+unfolding all-of padded
+column-at i h = eqb-true _ _ (all-of-in (λ k. eqb (getD columns k 0) (k + 1)) (span most-threshold 0) refl i (in-span most-threshold 0 i (omega arith) (omega arith)))
 
-pub columns-points : (n : ℕ) → n ≤ 7 → Points 7 n columns
+pub columns-points : (n : ℕ) → n ≤ most-threshold → Points most-threshold n columns
 columns-points n h = record {
   inside = λ i l. let e = column-at i (omega arith) in (omega arith, omega arith);
   apart = λ i k a b ne e. ne (omega (arith, column-at i (omega arith), column-at k (omega arith)));
@@ -51,19 +52,19 @@ users-once : (p : Plan) (v : ℕ) → Distinct (users-in p v)
 unfolding users-in
 users-once p v = members-once (in-set v) (p .users) 1
 
-rows-points : (p : Plan) (v : ℕ) → p .users ≤ 8 → Points 8 (length (users-in p v)) (rows-of p v)
+rows-points : (p : Plan) (v : ℕ) → p .users ≤ most-users → Points most-users (length (users-in p v)) (rows-of p v)
 unfolding rows-of
 rows-points p v h = record {
-  inside = λ i l. let x = users-in-in p v _ (in-at (users-in p v) i l) in rw (padded-at 8 (users-in p v) i l) (x .0, omega (arith, x .1));
-  apart = λ i k a b ne e. at-apart (users-in p v) (users-once p v) i k a b ne (sym (padded-at 8 (users-in p v) i a) ∙ e ∙ padded-at 8 (users-in p v) k b);
+  inside = λ i l. let x = users-in-in p v _ (in-at (users-in p v) i l) in rw (padded-at most-users (users-in p v) i l) (x .0, omega (arith, x .1));
+  apart = λ i k a b ne e. at-apart (users-in p v) (users-once p v) i k a b ne (sym (padded-at most-users (users-in p v) i a) ∙ e ∙ padded-at most-users (users-in p v) k b);
 }
 
 -- what a list of users gives
-module _ (p : Plan) (v : ℕ) (rs : List ℕ) (m : ℕ) (e : rs ≡ rows-of p v) (d : m ≡ length (users-in p v)) (h : p .users ≤ 8) where
-  pub listed-few : m ≤ 8
+module _ (p : Plan) (v : ℕ) (rs : List ℕ) (m : ℕ) (e : rs ≡ rows-of p v) (d : m ≡ length (users-in p v)) (h : p .users ≤ most-users) where
+  pub listed-few : m ≤ most-users
   listed-few = omega (arith, users-few p v)
 
-  pub listed-points : Points 8 m rs
+  pub listed-points : Points most-users m rs
   listed-points = rw (e, d) (rows-points p v h)
 
 -- ---- what `explains` says of one block
@@ -104,7 +105,7 @@ module _ (p : Plan) (r : ℕ) (good : Good p) (many : p .threshold ≤ ones (p .
     pub value-at : (a : ℕ) → a < length (users-in p r) → getD (values-of p r y b) a 0 ≡ y (getD (users-in p r) a 0) b
     unfolding values-of
     value-at a h =
-        padded-at 8 (map (λ k. y k b) (users-in p r)) a (omega (arith, length-map (users-in p r) (λ k. y k b))) ∙ map-at (λ k. y k b) (users-in p r) a h
+        padded-at most-users (map (λ k. y k b) (users-in p r)) a (omega (arith, length-map (users-in p r) (λ k. y k b))) ∙ map-at (λ k. y k b) (users-in p r) a h
 
     block-of : ((a : ℕ) → a < length (users-in p r) → getD (values-of p r y b) a 0 < q)
         → Block p (users-in p r) (length (users-in p r)) (λ k. y k b) (rows-of p r) columns (values-of p r y b)
@@ -112,7 +113,7 @@ module _ (p : Plan) (r : ℕ) (good : Good p) (many : p .threshold ≤ ones (p .
     block-of small = record {
       many = enough-rows;
       columns = λ i h. column-at i (omega (arith, good .threshold-high, good .users-high));
-      rows = padded-at 8 (users-in p r);
+      rows = padded-at most-users (users-in p r);
       values = value-at;
       small = small;
     }
@@ -151,5 +152,5 @@ module _ (p : Plan) (r : ℕ) (good : Good p) (many : p .threshold ≤ ones (p .
         (elements-map sixteen (λ k. y k b) (users-in p r) (λ k m.
         subst (λ (x : ℕ). x < q)
         (eqb-true (row-value sixteen (p .threshold) k (λ j. getD w (j - 1) 0)) (y k b) (all-of-in _ (users-in p r) (both (eqb (length w) (p .threshold) && elements sixteen w) _ h .1) k m))
-        (row-value-small sixteen 8 7 laws16 (p .threshold) k (λ j. getD w (j - 1) 0))))
-        (elements-zeros (8 - length (map (λ k. y k b) (users-in p r))))
+        (row-value-small sixteen most-users most-threshold laws16 (p .threshold) k (λ j. getD w (j - 1) 0))))
+        (elements-zeros (most-users - length (map (λ k. y k b) (users-in p r))))

@@ -10,6 +10,8 @@ use native.Mathlib.Nat.{zero-add}
 use native.Mathlib.Omega.{arith}
 use lib.Dec.{eqb, lit<}
 use lib.ListN.{length, getD}
+use Rattle.algebra.specs.Sums.{In}
+use Rattle.scheme.specs.Limits.{most-users, most-blocks}
 use Rattle.scheme.specs.Lists.{span, all-of}
 use Rattle.scheme.specs.Scheme.{sixteen, q, elements, Plan, users-in}
 use Rattle.scheme.specs.Totals.{explains-all}
@@ -46,13 +48,13 @@ module _ (s : System) (h : Prepared (s .plan) (s .users .set) s) where
   abbrev r : ℕ
   r = s .users .set
 
-  pub system-few : s .users .count ≤ 8
+  pub system-few : s .users .count ≤ most-users
   system-few = listed-few p r (s .users .list) (s .users .count) (h .listed .list-right) (h .listed .count-right) (h .good .users-high)
 
   pub system-many : s .plan .threshold ≤ s .users .count
   system-many = omega (arith, enough-rows p r (h .good) (h .enough), h .listed .count-right)
 
-  pub system-points : Points 8 (s .users .count) (s .users .list)
+  pub system-points : Points most-users (s .users .count) (s .users .list)
   system-points = listed-points p r (s .users .list) (s .users .count) (h .listed .list-right) (h .listed .count-right) (h .good .users-high)
 
   pub system-ready : (cs : List ℕ) → cs ≡ columns → Ready (s .users .list) cs (s .alpha) (s .beta) (s .plan .threshold)
@@ -63,69 +65,78 @@ module _ (s : System) (h : Prepared (s .plan) (s .users .set) s) where
   module _ (ys cs g ws : List ℕ) (c : cs ≡ columns) (v : Gathered ys (s .users .list) (s .users .count) (s .plan .blocks) g)
       (x : ws ≡ unknowns-of (s .users .list) cs g (s .plan .threshold)) where
     abbrev y : (k block : ℕ) → ℕ
-    y = held-in 16 ys
+    y = held-in most-blocks ys
 
     abbrev n : ℕ
     n = s .plan .threshold
 
-    reply-at : (a b : ℕ) → a < length (users-in p r) → held-in 16 ys (getD (s .users .list) a 0) b ≡ getD (values-of p r y b) a 0
+    abbrev m : ℕ
+    m = length (users-in p r)
+
+    abbrev solved : (block at : ℕ) → ℕ
+    solved b = unknown-at (rows-of p r) columns (values-of p r y b) n
+
+    abbrev explained : Bool
+    explained = explains-all sixteen p r y (choice-of p r y)
+
+    reply-at : (a b : ℕ) → a < m → y (getD (s .users .list) a 0) b ≡ getD (values-of p r y b) a 0
     unfolding rows-of
     reply-at a b l =
-        ap (λ (k : ℕ). y k b) (ap (λ (us : List ℕ). getD us a 0) (h .listed .list-right) ∙ padded-at 8 (users-in p r) a l)
+        ap (λ (k : ℕ). y k b) (ap (λ (us : List ℕ). getD us a 0) (h .listed .list-right) ∙ padded-at most-users (users-in p r) a l)
         ∙ sym (value-at p r (h .good) (h .enough) y b a l)
 
-    cell-at : (a b : ℕ) → a < length (users-in p r) → b < s .plan .blocks → cell g a b ≡ getD (values-of p r y b) a 0
+    cell-at : (a b : ℕ) → a < m → b < s .plan .blocks → cell g a b ≡ getD (values-of p r y b) a 0
     cell-at a b l k = v .each a b (omega (arith, h .listed .count-right)) k ∙ reply-at a b l
 
-    unknown-cell : (i b : ℕ) → i < n → b < s .plan .blocks → cell ws i b ≡ unknown-at (rows-of p r) columns (values-of p r y b) n i
+    unknown-cell : (i b : ℕ) → i < n → b < s .plan .blocks → cell ws i b ≡ solved b i
     unknown-cell i b l k =
         ap (λ (u : List ℕ). cell u i b) x ∙ unknowns-at _ cs g n i b l (omega (arith, h .good .blocks-high))
         ∙ ap₂ (λ (rs cs : List ℕ). unknown-at rs cs (block g b) n i) (h .listed .list-right) c
-        ∙ unknown-same _ _ _ _ n i (λ a m.
-        let few : a < length (users-in p r) = omega (arith, enough-rows p r (h .good) (h .enough)) in
-        block-at g b a (omega (arith, users-few p r, h .good .users-high)) ∙ cell-at a b few k)
+        ∙ unknown-same _ _ _ _ n i (λ a few.
+        let in-set : a < m = omega (arith, enough-rows p r (h .good) (h .enough)) in
+        block-at g b a (omega (arith, users-few p r, h .good .users-high)) ∙ cell-at a b in-set k)
 
-    pub unknowns-right : (i b : ℕ) → i < s .plan .threshold → b < s .plan .blocks → cell ws i b ≡ getD (choice-of p r (held-in 16 ys) b) i 0
+    pub unknowns-right : (i b : ℕ) → i < s .plan .threshold → b < s .plan .blocks → cell ws i b ≡ getD (choice-of p r (held-in most-blocks ys) b) i 0
     unfolding choice-of
-    unknowns-right i b l k =
-        unknown-cell i b l k
-        ∙ sym (map-span-at (unknown-at (rows-of p r) columns (values-of p r y b) n) n 0 i l ∙ ap (unknown-at (rows-of p r) columns (values-of p r y b) n) (zero-add i))
+    unknowns-right i b l k = unknown-cell i b l k ∙ sym (map-span-at (solved b) n 0 i l ∙ ap (solved b) (zero-add i))
 
     abbrev passes : (a b : ℕ) → Bool
-    passes a b = eqb (dot-of (getD (rows-of p r) a 0) columns (solution-of (rows-of p r) columns (values-of p r y b) n) n) (getD (values-of p r y b) a 0)
+    passes a b =
+        eqb (dot-of (getD (rows-of p r) a 0) columns (solution-of (rows-of p r) columns (values-of p r y b) n) n) (getD (values-of p r y b) a 0)
 
-    tested : (a b : ℕ) → a < length (users-in p r) → b < s .plan .blocks → eqb (dot-of (getD (s .users .list) a 0) cs (block ws b) n) (cell g a b) ≡ passes a b
+    tested : (a b : ℕ) → a < m → b < s .plan .blocks → eqb (dot-of (getD (s .users .list) a 0) cs (block ws b) n) (cell g a b) ≡ passes a b
     unfolding solution-of
     tested a b l k =
         ap₂ eqb
         (ap₂ (λ (rs cs : List ℕ). dot-of (getD rs a 0) cs (block ws b) n) (h .listed .list-right) c
-        ∙ dot-same (getD (rows-of p r) a 0) columns _ _ n (λ i m.
-        let few = rows-square p r (h .good) (h .enough) .few in
-        block-at ws b i (omega arith) ∙ unknown-cell i b m k ∙ sym (filled-at _ n i m)))
+        ∙ dot-same (getD (rows-of p r) a 0) columns _ _ n (λ i few.
+        block-at ws b i (omega (arith, rows-square p r (h .good) (h .enough) .few)) ∙ unknown-cell i b few k ∙ sym (filled-at _ n i few)))
         (cell-at a b l k)
 
-    pub fits-right : elements sixteen g ≡ true → all-of (row-fits (s .users .list) cs g ws (s .plan .threshold) (s .plan .blocks)) (span (s .users .count - s .plan .threshold) (s .plan .threshold))
-        ≡ explains-all sixteen p r (held-in 16 ys) (choice-of p r (held-in 16 ys))
+    pub fits-right : elements sixteen g ≡ true
+        → all-of (row-fits (s .users .list) cs g ws (s .plan .threshold) (s .plan .blocks)) (span (s .users .count - s .plan .threshold) (s .plan .threshold))
+        ≡ explains-all sixteen p r (held-in most-blocks ys) (choice-of p r (held-in most-blocks ys))
     unfolding row-fits fits-of explains-all
     fits-right ok =
-        let m : ℕ = length (users-in p r) in
         let ks : List ℕ = span (m - n) n in
         let bs : List ℕ = span (s .plan .blocks) 0 in
         ap (λ (k : ℕ). all-of (row-fits (s .users .list) cs g ws n (s .plan .blocks)) (span (k - n) n)) (h .listed .count-right)
-        ∙ all-of-same _ _ ks (λ a i.
-        all-of-same _ _ bs (λ b j. tested a b (omega (arith, span-in (m - n) n a i)) (omega (arith, span-in (s .plan .blocks) 0 b j))))
+        ∙ all-of-same _ _ ks (λ a i. all-of-same _ _ bs (λ b j. tested a b (omega (arith, span-in (m - n) n a i)) (block-in b j)))
         ∙ all-swap passes ks bs
-        ∙ all-of-same _ _ bs (λ b j.
-        fits-same p r (h .good) (h .enough) y b (λ a l.
-        subst (λ (z : ℕ). z < q) (cell-at a b l (omega (arith, span-in (s .plan .blocks) 0 b j))) (elements-at sixteen (lit< tt) g (a * 16 + b) ok)))
+        ∙ all-of-same _ _ bs (λ b j. fits-same p r (h .good) (h .enough) y b (λ a l.
+        subst (λ (z : ℕ). z < q) (cell-at a b l (block-in b j)) (elements-at sixteen (lit< tt) g (a * most-blocks + b) ok)))
+      where
+        block-in : (b : ℕ) → In b (span (s .plan .blocks) 0) → b < s .plan .blocks
+        block-in b j = omega (arith, span-in (s .plan .blocks) 0 b j)
 
     -- a reply that is no element
-    pub nothing-fits : elements sixteen g ≡ false → false ≡ explains-all sixteen p r (held-in 16 ys) (choice-of p r (held-in 16 ys))
+    pub nothing-fits : elements sixteen g ≡ false → false ≡ explains-all sixteen p r (held-in most-blocks ys) (choice-of p r (held-in most-blocks ys))
     unfolding explains-all
     nothing-fits bad =
-        sym (is-false _ (λ d.
-        holds (sym bad ∙ elements-every g (v .small q (lit< tt) (λ a b l k.
-        let few : a < length (users-in p r) = omega (arith, h .listed .count-right) in
-        subst (λ (z : ℕ). z < q) (sym (reply-at a b few))
-        (elements-at sixteen (lit< tt) (values-of p r y b) a
-        (explained-small p r (h .good) (h .enough) y b _ (all-of-in _ (span (s .plan .blocks) 0) d b (in-span (s .plan .blocks) 0 b (omega arith) (omega arith))))))))))
+        sym (is-false _ (λ d. holds (sym bad ∙ elements-every g (v .small q (lit< tt) (λ a b l. small d a b (omega (arith, h .listed .count-right)))))))
+      where
+        small : explained ≡ true → (a b : ℕ) → a < m → b < s .plan .blocks → y (getD (s .users .list) a 0) b < q
+        small d a b few k =
+            subst (λ (z : ℕ). z < q) (sym (reply-at a b few))
+            (elements-at sixteen (lit< tt) (values-of p r y b) a
+            (explained-small p r (h .good) (h .enough) y b _ (all-of-in _ (span (s .plan .blocks) 0) d b (in-span (s .plan .blocks) 0 b (omega arith) (omega arith)))))

@@ -10,6 +10,7 @@ use lib.ListN.{getD, set}
 use borrow.Author.Needs.{needs}
 use Rattle.scheme.proofs.Tests.{none-below}
 use Rattle.solve.proofs.Grids.{Putting, putting-start, putting-more, putting-end}
+use Rattle.finish.specs.Parts.{most-word}
 use Rattle.finish.proofs.add_first.Statement.{statement}
 use Rattle.finish.proofs.add_first.Tie as tie
 
@@ -20,7 +21,7 @@ next : (f : ℕ → ℕ) (n : ℕ) (old new : List ℕ) (i x : ℕ) → Putting 
 next f n old new i x = subst (λ (k : ℕ). Putting f n 0 old (i + 1) (set new k x)) (zero-add i)
 
 abbrev Inv-loop : tie.InvT-loop
-Inv-loop sums₀ first from places i₀ sums i = Putting (raised sums₀ first from) places 0 sums₀ i sums × ((j : ℕ) → j < i → getD first (from + j) 0 - 1 ≤ 65535)
+Inv-loop sums₀ first from places i₀ sums i = Putting (raised sums₀ first from) places 0 sums₀ i sums × ((j : ℕ) → j < i → getD first (from + j) 0 - 1 ≤ most-word)
 
 abbrev μ-loop : tie.MeasureT-loop
 μ-loop sums₀ first from places i₀ sums i = places - i
@@ -51,9 +52,9 @@ cast-sums c = search needs
 
 add-sums : tie.Need-add-sums Inv-loop μ-loop
 add-sums c =
-    let l = c .before .before .before .before .loop in
     let t = c .before .before .before in
-    omega (arith, l .inv .0 .put .rest (l .i) (omega arith), t .before .before .pre .1 (l .i) (t .loop-test .taken))
+    let l = t .before .loop in
+    omega (arith, l .inv .0 .put .rest (l .i) (omega arith), t .before .before .pre .1 .low (l .i) (t .loop-test .taken))
 
 mul-sums-2 : tie.Need-mul-sums-2 Inv-loop μ-loop
 mul-sums-2 c = search needs
@@ -69,10 +70,11 @@ loop-less c = search needs
 
 loop-again : tie.Need-loop-again Inv-loop μ-loop
 loop-again c =
-    let l = c .before .before .before .before .loop in
+    let t = c .before .before .before in
+    let l = t .before .loop in
     let e = ap₂ (λ (x y : ℕ). x + y) (l .inv .0 .put .rest (l .i) (omega arith)) (c .element-in .ensures) in (
       next _ _ _ (l .sums) (l .i) (getD (l .sums) (l .i) 0 + c .element-in .result)
-          (putting-more _ _ _ _ (l .i) _ _ (c .before .before .before .loop-test .taken) (omega arith) e (l .inv .0)),
+          (putting-more _ _ _ _ (l .i) _ _ (t .loop-test .taken) (omega arith) e (l .inv .0)),
       λ j h.
           ⊎-elim (λ (d : j ≡ l .i). rw d (omega (arith, c .element-in .ensures))) (λ (d : j < l .i). l .inv .1 j d) (eq-or-lt-of-le (omega arith)),
     )

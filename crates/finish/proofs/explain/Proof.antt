@@ -6,6 +6,23 @@ use Rattle.finish.proofs.Systems.{system-few, system-many, system-point
 use Rattle.finish.proofs.explain.Statement.{statement}
 use Rattle.finish.proofs.explain.Tie as tie
 
+-- ---- the places where the facts stand
+abbrev start : tie.After-the-columns → tie.Start
+start c = c .before .before .before .before
+
+abbrev pointed : tie.After-rows2 → tie.After-the-columns
+pointed c = let weighed = c .before .before .before in weighed .before .before
+
+abbrev gathered : tie.After-values → tie.After-gather
+gathered c = let lent = c .before .before .before in lent .before .before
+
+abbrev solved : tie.After-all-elements → tie.After-solve
+solved c = c .before .before
+
+abbrev tested : tie.After-unknowns → tie.Else1
+tested c = c .before .before .before .before
+
+-- ---- the needs
 the-columns-requires : tie.Need-the-columns-requires
 the-columns-requires c κs = search needs
 
@@ -16,12 +33,10 @@ cast-blocks : tie.Need-cast-blocks
 cast-blocks c = search needs
 
 gather-requires : tie.Need-gather-requires
-gather-requires c κs =
-    let h = c .before .before .before .before .before .before .before .before .before .pre in
-    (system-few _ h, h .good .blocks-high, system-points _ h)
+gather-requires c κs = let h = start (pointed c) .pre in (system-few _ h, h .good .blocks-high, system-points _ h)
 
 solve-requires : tie.Need-solve-requires
-solve-requires c κs = system-ready _ (c .before .before .before .before .before .before .before .before .before .before .before .before .before .before .before .pre) _ (c .before .before .before .before .before .before .before .before .before .before .before .the-columns .ensures)
+solve-requires c κs = let k = pointed (gathered c .before) in system-ready _ (start k .pre) _ (k .the-columns .ensures)
 
 slice-aggregate-all-elements : tie.Need-slice-aggregate-all-elements
 slice-aggregate-all-elements c = search needs
@@ -31,30 +46,33 @@ all-elements-requires c κs = search needs
 
 returns : tie.Need-returns
 returns c =
-    let h = c .before .before .before .before .before .before .before .before .before .before .before .before .before .before .before .before .before .before .before .pre in
-    let k = c .before .before .before .before .before .before .before .before .before .before .before .before .before .before .before .the-columns .ensures in
-    let g = c .before .before .before .before .before .before .before .before .before .gather .ensures in
-    let w = c .before .before .before .solve .ensures in
+    let w = solved (c .before) in
+    let g = gathered (w .before) in
+    let k = pointed (g .before) in
+    let h = start k .pre in
+    let bad = sym (c .before .all-elements .ensures) ∙ not-true _ (c .if1 .taken) in
     record {
-      fits-right = nothing-fits _ h _ _ _ _ k g w (sym (c .before .all-elements .ensures) ∙ not-true _ (c .if1 .taken));
-      unknowns-right = unknowns-right _ h _ _ _ _ k g w;
+      fits-right = nothing-fits _ h _ _ _ _ (k .the-columns .ensures) (g .gather .ensures) (w .solve .ensures) bad;
+      unknowns-right = unknowns-right _ h _ _ _ _ (k .the-columns .ensures) (g .gather .ensures) (w .solve .ensures);
     }
 
 fits-requires : tie.Need-fits-requires
 fits-requires c κs =
-    let h = c .before .before .before .before .before .before .before .before .before .before .before .before .before .before .before .before .before .before .before .before .before .before .before .pre in
-    let k = c .before .before .before .before .before .before .before .before .before .before .before .before .before .before .before .before .before .before .before .the-columns .ensures in
-    (system-many _ h, system-few _ h, h .good .blocks-high, system-points _ h, system-ready _ h _ k .square .columns-good)
+    let k = pointed (gathered (solved (tested c .before) .before) .before) in
+    let h = start k .pre in
+    (system-many _ h, system-few _ h, h .good .blocks-high, system-points _ h, system-ready _ h _ (k .the-columns .ensures) .square .columns-good)
 
 returns-2 : tie.Need-returns-2
 returns-2 c =
-    let h = c .before .before .before .before .before .before .before .before .before .before .before .before .before .before .before .before .before .before .before .before .before .before .before .before .pre in
-    let k = c .before .before .before .before .before .before .before .before .before .before .before .before .before .before .before .before .before .before .before .before .the-columns .ensures in
-    let g = c .before .before .before .before .before .before .before .before .before .before .before .before .before .before .gather .ensures in
-    let w = c .before .before .before .before .before .before .before .before .solve .ensures in
+    let t = tested (c .before) in
+    let w = solved (t .before) in
+    let g = gathered (w .before) in
+    let k = pointed (g .before) in
+    let h = start k .pre in
+    let ok = sym (t .before .all-elements .ensures) ∙ not-false _ (t .if1 .left) in
     record {
-      fits-right = c .fits2 .ensures ∙ fits-right _ h _ _ _ _ k g w (sym (c .before .before .before .before .before .before .all-elements .ensures) ∙ not-false _ (c .before .before .before .before .before .if1 .left));
-      unknowns-right = unknowns-right _ h _ _ _ _ k g w;
+      fits-right = c .fits2 .ensures ∙ fits-right _ h _ _ _ _ (k .the-columns .ensures) (g .gather .ensures) (w .solve .ensures) ok;
+      unknowns-right = unknowns-right _ h _ _ _ _ (k .the-columns .ensures) (g .gather .ensures) (w .solve .ensures);
     }
 
 pub explain-spec : {M : Type 1} → statement M

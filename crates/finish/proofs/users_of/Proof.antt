@@ -44,8 +44,9 @@ loop-less c = search needs
 
 loop-again : tie.Need-loop-again Inv-loop μ-loop
 loop-again c =
-    let l = c .before .before .before .before .loop in
-    listing-in _ _ (l .k) (l .list) (l .count) (l .inv) (c .before .before .before .before .before .pre) (c .before .before .if1 .taken)
+    let a = c .before .before .before .before in
+    let l = a .loop in
+    listing-in _ _ (l .k) (l .list) (l .count) (l .inv) (a .before .pre) (c .before .before .if1 .taken)
     (sym (c .before .holds .ensures) ∙ c .if2 .taken)
 
 add-k-2 : tie.Need-add-k-2 Inv-loop μ-loop
