@@ -1,5 +1,6 @@
 -- Lists that are written from the first place on.
 --   sets-zeros                a rule over zeros
+--   sets-at, sets-behind      a word that is written, and what stands behind
 --   sets-both                 two rules, one behind the other, that are one
 --   map-at, sum-by-place      a map over a list, and a sum, by the places of its padded form
 -- Assumes nothing.
@@ -8,8 +9,8 @@ use mathlib.Core.List.{List, [], _∷_, _++_, map, map-append}
 use Prim.Native.Nat.{ℕ, zero, suc, _+_, _-_, _≤_, _<_}
 use native.Mathlib.Nat.{zero-add}
 use native.Mathlib.Omega.{arith}
-use lib.ListN.{length, getD, drop, replicate, length-replicate}
-use lib.Seq.{sets, sets-eq, ext-getD}
+use lib.ListN.{length, getD, set, drop, replicate, length-replicate, List·getD-append}
+use lib.Seq.{sets, sets-eq, getD-set-other, ext-getD}
 use Rattle.algebra.specs.Sums.{In}
 use Rattle.scheme.specs.Lists.{span, padded}
 use Rattle.scheme.specs.Scheme.{Arithmetic, sum}
@@ -30,6 +31,17 @@ sets-zeros size n f h e =
     let l : List ℕ = map f (span n 0) in
     ap (λ (o : List ℕ). sets o 0 l) e ∙ sets-eq l (replicate size 0) 0 (omega (arith, map-span-length f n 0, length-replicate {A = ℕ} size 0))
     ∙ ap (λ (r : List ℕ). l ++ r) (ap (λ (k : ℕ). drop k (replicate size 0)) (zero-add (length l)) ∙ drop-zeros (length l) size)
+
+-- the words that are written, and what stands behind them
+pub sets-at : (f : ℕ → ℕ) (n : ℕ) (o : List ℕ) {new : List ℕ} → n ≤ length o → new ≡ sets o 0 (map f (span n 0)) → (i : ℕ) → i < n → getD new i 0 ≡ f i
+sets-at f n o h e i l =
+    let long = map-span-length f n 0 in
+    ap (λ (r : List ℕ). getD r i 0) (e ∙ sets-eq (map f (span n 0)) o 0 (omega (arith, long)))
+    ∙ List·getD-append (map f (span n 0)) _ 0 i (omega (arith, long)) ∙ map-span-at f n 0 i l ∙ ap f (zero-add i)
+
+pub sets-behind : (o l : List ℕ) (at i : ℕ) → at + length l ≤ i → getD (sets o at l) i 0 ≡ getD o i 0
+sets-behind o [] at i h = refl
+sets-behind o (x ∷ l) at i h = sets-behind (set o at x) l (suc at) i (omega arith) ∙ getD-set-other o at i x 0 (λ e. omega arith)
 
 pub sets-both : (o : List ℕ) (m n : ℕ) (g h : ℕ → ℕ) → ((i : ℕ) → i < n → h i ≡ g (m + i))
     → sets (sets o 0 (map g (span m 0))) m (map h (span n 0)) ≡ sets o 0 (map g (span (m + n) 0))

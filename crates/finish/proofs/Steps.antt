@@ -90,13 +90,14 @@ module _ (s : Service) (w : Formed s) where
     choice-explains f h =
         let r = replied (view s) in
         let y = values (view s .replies) in
+        let g = good p (ripe .good) in
         explained-back sixteen p r y (choice s) (λ b i.
+        let first = choice-first p r g (ripe .many) y b (values-small p r g (ripe .many) y b (λ k. w .well .replies-small k b)) in
         subst (Explained sixteen p (users-in p r) (length (users-in p r)) (λ k. y k b))
-        (settled sixteen p (sixteen-laws p (ripe .good)) r y (ripe .many) b i (choice s b)
-        (choice-first p r (good p (ripe .good)) (ripe .many) y b (values-small p r (good p (ripe .good)) (ripe .many) y b (λ k. w .well .replies-small k b))) f h)
-        (explained sixteen p r y f h b i))
+        (settled sixteen p (sixteen-laws p (ripe .good)) r y (ripe .many) b i (choice s b) first f h) (explained sixteen p r y f h b i))
 
-    taken : explained-by sixteen (view s) (choice s) ≡ true → Is-step finish-record s (totalled (s .head .round) (take (places p) (padded most-places sums))) (finished (s .head))
+    taken : explained-by sixteen (view s) (choice s) ≡ true
+        → Is-step finish-record s (totalled (s .head .round) (take (places p) (padded most-places sums))) (finished (s .head))
     unfolding finished view phase-of has-plan nothing-first nothing-reply
     taken h =
         let d : Steps sixteen finish-record (view s) (totalled (s .head .round) sums) (idle-state (view s)) = totals-up (view s) (choice s) e h in
@@ -112,7 +113,9 @@ module _ (s : Service) (w : Formed s) where
 
   -- the answer goes by the number
   abbrev Answers : (number : ℕ) → Type 0
-  Answers n = Is-step finish-record s (told (finish-answer n s .number) (totalled (s .head .round) (take (places p) (finish-answer n s .totals)))) (finish-answer n s .service)
+  Answers n =
+      let t = finish-answer n s in
+      Is-step finish-record s (told (t .number) (totalled (s .head .round) (take (places p) (t .totals)))) (t .service)
 
   answers : (n : ℕ) (b : Bool) → refusal sixteen finish-record (view s) ≡ n → explained-by sixteen (view s) (choice s) ≡ b → Answers (n then unless b 16)
   unfolding unless _then_ finish-answer after told

@@ -55,8 +55,8 @@ module _ (t : ℕ → Bool) (n : ℕ) where
           few = omega (arith, s .few);
           counted = omega (arith, s .counted, ap length m, length-append (members t k 1) ((k + 1) ∷ []));
           written =
-              ap (λ (o : List ℕ). set o count (k + 1)) (s .written) ∙ padded-next most-users (members t k 1) (k + 1) count (sym (s .counted)) (omega (arith, s .few))
-              ∙ ap (padded most-users) (sym m);
+              ap (λ (o : List ℕ). set o count (k + 1)) (s .written)
+              ∙ padded-next most-users (members t k 1) (k + 1) count (sym (s .counted)) (omega (arith, s .few)) ∙ ap (padded most-users) (sym m);
         }
 
     pub listing-out : k < n → t (k + 1) ≡ false → Listing t n (k + 1) list count

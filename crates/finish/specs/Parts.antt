@@ -3,13 +3,13 @@
 --   Listed, Prepared                     the users of a set; the system of the complete replies
 --   Gathered, Blocks-solved              the replies of all blocks; the closed solution of each, and whether it explains them
 --   most-word, most-sum, At-most         the largest number of 16 bits; of a sum of one for each user; bounds of a list
---   first-sum, First-sums                the sum of the first elements of a place; of each place, not reduced
+--   raised, first-sum, First-sums        a sum and one element more; the sum of the first elements of a place; of each place, not reduced
 --   block-total, place-total             a total: by its block and item, by its place
 --   Totalled, Answered                   the number and the totals: of a set of complete replies, of a state
 -- Assumes nothing: these are definitions.
 use mathlib.Core.Path.{_≡_}
 use mathlib.Core.List.{List}
-use Prim.Native.Nat.{ℕ, _+_, _*_, _/_, _%_, _≤_, _<_}
+use Prim.Native.Nat.{ℕ, _+_, _*_, _-_, _/_, _%_, _≤_, _<_}
 use lib.ListN.{length, getD, replicate}
 use Rattle.scheme.specs.Limits.{most-users, most-blocks, most-places}
 use Rattle.scheme.specs.Lists.{span, padded}
@@ -65,6 +65,10 @@ most-sum = most-users * most-word
 -- the first n numbers of a list
 pub record At-most (most n : ℕ) (xs : List ℕ) : Type 0 where
   pub low : (i : ℕ) → i < n → getD xs i 0 ≤ most
+
+-- a sum with the first element that is held at `from` and i
+abbrev pub raised : (sums first : List ℕ) → (from i : ℕ) → ℕ
+raised ss xs from i = getD ss i 0 + (getD xs (from + i) 0 - 1)
 
 -- the first elements of a place, over the first n rows
 unfoldable pub first-sum : Arithmetic → (first rows : List ℕ) → (n place : ℕ) → ℕ

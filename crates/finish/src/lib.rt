@@ -26,7 +26,7 @@ ghost use Rattle.plan.specs.Plan.{plan-of};
 ghost use Rattle.service.specs.Calls.{lent};
 ghost use Rattle.solve.specs.Solve.{Points, Put};
 ghost use Rattle.finish.specs.Finish.{columns, finished, finishing, finish-step};
-ghost use Rattle.finish.specs.Parts.{Listed, Prepared, Gathered, Blocks-solved, most-word, most-sum, At-most, First-sums, block-total, place-total, Totalled, Answered};
+ghost use Rattle.finish.specs.Parts.{Listed, Prepared, Gathered, Blocks-solved, most-word, most-sum, At-most, raised, First-sums, block-total, place-total, Totalled, Answered};
 use plan::BLOCKS;
 use plan::CELLS;
 use plan::FIRSTS;
@@ -179,8 +179,8 @@ fn explain(system: System, reply: &[u16; CELLS]) -> Explained
 fn add_first(sums: &mut [u32; MOST_PLACES], first: &[u16; FIRSTS], from: usize, places: usize)
     requires { ⌜ (places ≤ most-places) × (from + places ≤ firsts) × (length (now sums) ≡ most-places) ⌝ }
     requires { ⌜ At-most most-sum places (now sums) ⌝ }
-    ensures added { λ r. ⌜ Put (λ i. getD (now (sums .entry)) i 0 + (getD (now (first .entry)) (from + i) 0 - 1)) places 0
-        (now (sums .entry)) (now (sums .exit)) ⌝ }
+    ensures added { λ r. ⌜ now (sums .exit) ≡ sets (now (sums .entry)) 0
+        (map (raised (now (sums .entry)) (now (first .entry)) from) (span places 0)) ⌝ }
     ensures small { λ r. ⌜ ((i : ℕ) → i < places → getD (now (first .entry)) (from + i) 0 - 1 ≤ most-word) ⌝ }
 {
     let mut i = 0;

@@ -1,23 +1,21 @@
 -- `finish::first_sums` meets its contract. The loop's invariant: in each place the sum so far and the sum over the rows that are left make
 -- the whole sum. The measure is how many are left. Assumes nothing.
 use mathlib.Core.Path.{_≡_, sym, ap, _∙_}
-use mathlib.Core.List.{List}
+use mathlib.Core.List.{map}
 use Prim.Native.Nat.{ℕ, _+_, _-_, _≤_, _<_}
-use native.Mathlib.Nat.{zero-add}
 use native.Mathlib.Omega.{arith}
 use lib.ListN.{length, getD, length-replicate}
+use lib.Seq.{length-sets}
 use borrow.Author.Needs.{needs}
 use Rattle.scheme.specs.Limits.{most-users, most-places}
+use Rattle.scheme.specs.Lists.{span}
 use Rattle.scheme.specs.Scheme.{q}
-use Rattle.solve.specs.Solve.{Put}
 use Rattle.scheme.proofs.Lists.{zeros-at}
-use Rattle.finish.specs.Parts.{held-in, first-sum}
+use Rattle.finish.specs.Parts.{held-in, raised, first-sum}
+use Rattle.finish.proofs.Padded.{sets-at}
 use Rattle.finish.proofs.Turns.{held-at, Summing, summing-start, summing-more, summing-end}
 use Rattle.finish.proofs.first_sums.Statement.{statement}
 use Rattle.finish.proofs.first_sums.Tie as tie
-
-put-first : {f : ℕ → ℕ} {n : ℕ} {old new : List ℕ} → Put f n 0 old new → (i : ℕ) → i < n → getD new i 0 ≡ f i
-put-first {new = new} d i h = ap (λ (k : ℕ). getD new k 0) (sym (zero-add i)) ∙ d .each i h
 
 abbrev Inv-loop : tie.InvT-loop
 Inv-loop first rows count places sums₀ i₀ sums i =
@@ -75,11 +73,13 @@ loop-again c =
     let l = t .before .loop in
     let k = user t in
     let y = start t .args .first .now in
+    let n = start t .args .places in
+    let f : ℕ → ℕ = raised (l .sums) y (c .before .before .start-of .result) in
     let d = c .add-first .ensures .0 in (
       omega arith,
-      d .long ∙ l .inv .1,
+      ap length d ∙ length-sets (l .sums) 0 (map f (span n 0)) ∙ l .inv .1,
       λ p h.
-          rw (put-first d p h)
+          rw (sets-at f n (l .sums) (omega (arith, start t .pre .1, l .inv .1)) d p h)
           (summing-more _ _ _ (l .i) _ _ (t .loop-test .taken)
           (ap (λ (f : ℕ). getD y (f + p) 0 - 1) (c .before .before .start-of .ensures)
           ∙ sym (held-at most-places y _ p (k .0) (k .1) (omega (arith, start t .pre))))

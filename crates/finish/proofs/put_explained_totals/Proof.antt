@@ -71,7 +71,7 @@ first-sums-requires : tie.Need-first-sums-requires
 first-sums-requires c κs =
     let u = listed c .users-of .ensures in
     let few = a-plan (listed c) .users-high in
-    (listed-few _ _ _ _ (u .list-right) (u .count-right) few, c .places-of .ensures .1, listed-points _ _ _ _ (u .list-right) (u .count-right) few)
+    (listed-few _ _ few _ _ (u .list-right) (u .count-right), c .places-of .ensures .1, listed-points _ _ few _ _ (u .list-right) (u .count-right))
 
 sub-items : tie.Need-sub-items
 sub-items c = let g = a-plan (listed (c .before .before)) in omega (arith, g .collusion-high)

@@ -12,7 +12,8 @@ sub-result : tie.Need-sub-result
 sub-result c = search needs
 
 mul-result : tie.Need-mul-result
-mul-result c = omega (arith, mul-le-mul {n₁ = c .args .user - 1} {m₁ = c .args .stride} {n₂ = most-threshold} {m₂ = most-places} (omega (arith, c .pre)) (c .pre .2))
+mul-result c =
+    omega (arith, mul-le-mul {n₁ = c .args .user - 1} {m₁ = c .args .stride} {n₂ = most-threshold} {m₂ = most-places} (omega (arith, c .pre)) (c .pre .2))
 
 returns : tie.Need-returns
 returns c = search needs
