@@ -1,10 +1,9 @@
 -- What finish hands back.
---   prepared-own, solved-same        the system by the plan and the set that it holds
 --   refused-right                    the number and the totals of a refusal
 --   answer-right                     the number and the totals, with the state
 --   answer-number                    the number that it answers
 --   finish-refuses, finish-kept      a refused finish
---   Ripe, ripe-refusal               the tests before 16 are passed
+--   Passed, passed-refusal               the tests before 16 are passed
 --   totalled-right                   then the number and the totals are those of the complete replies
 -- Assumes nothing.
 use mathlib.Core.Path.{_≡_, refl, sym, ap, _∙_, subst}
@@ -17,23 +16,11 @@ use Rattle.scheme.specs.Limits.{most-places}
 use Rattle.scheme.specs.Scheme.{sixteen, plan-good, ones, unless, _then_, after}
 use Rattle.scheme.specs.Service.{has-plan, is-replying, replied, explained-by, totals-by}
 use Rattle.scheme.proofs.Refusals.{after-refused}
-use Rattle.plan.specs.declared.Plan.{Plan}
 use Rattle.plan.specs.Plan.{plan-of}
 use Rattle.service.specs.declared.Service.{Service}
 use Rattle.service.specs.View.{phase-of, view}
-use Rattle.finish.specs.declared.System.{System}
-use Rattle.finish.specs.declared.Explained.{Explained}
 use Rattle.finish.specs.Finish.{choice, finish-refusal, finished, finish-refused, finish-answer, finish-step}
-use Rattle.finish.specs.Parts.{Prepared, Blocks-solved, Totalled, Answered}
-
--- ---- the system by the plan and the set that it holds
-pub prepared-own : {p : Plan} {r : ℕ} {s : System} → Prepared p r s → Prepared (s .plan) (s .users .set) s
-prepared-own {p} {r} {s} h =
-    subst (λ (k : Plan). Prepared k (s .users .set) s) (sym (h .plan-kept)) (subst (λ (w : ℕ). Prepared p w s) (sym (h .listed .set-kept)) h)
-
-pub solved-same : {p : Plan} {r : ℕ} {s : System} {ys : List ℕ} {e : Explained} → Prepared p r s
-    → Blocks-solved (plan-of (s .plan)) (s .users .set) ys e → Blocks-solved (plan-of p) r ys e
-solved-same h b = rw (← h .plan-kept, ← h .listed .set-kept) b
+use Rattle.finish.specs.Parts.{Totalled, Answered}
 
 -- ---- the answer
 module _ (s : Service) where
@@ -59,20 +46,20 @@ unfolding finish-answer
 answer-number n s = refl
 
 -- ---- the tests before 16 are passed
-pub record Ripe (s : Service) : Type 0 where
+pub record Passed (s : Service) : Type 0 where
   pub planned : has-plan (phase-of (s .head .phase)) ≡ true
   pub replying : is-replying (phase-of (s .head .phase)) ≡ true
   pub good : plan-good (plan-of (s .head .plan)) ≡ true
   pub many : s .head .plan .threshold ≤ ones (s .head .plan .users) (replied (view s))
 
-module _ (s : Service) (r : Ripe s) where
-  pub ripe-refusal : finish-refusal s ≡ unless (explained-by sixteen (view s) (choice s)) 16
+module _ (s : Service) (r : Passed s) where
+  pub passed-refusal : finish-refusal s ≡ unless (explained-by sixteen (view s) (choice s)) 16
   unfolding finish-refusal unless _then_
-  ripe-refusal = simp (r .planned, r .replying, r .good, le-leb _ _ (r .many))
+  passed-refusal = simp (r .planned, r .replying, r .good, le-leb _ _ (r .many))
 
   pub totalled-right : (v n : ℕ) (out : List ℕ) → v ≡ replied (view s)
       → Totalled (plan-of (s .head .plan)) v (s .head .survivors) (s .first) (s .reply) n out → Answered s n out
   unfolding explained-by totals-by choice view finish-answer
   totalled-right v n out e h =
       let t = subst (λ (w : ℕ). Totalled (plan-of (s .head .plan)) w (s .head .survivors) (s .first) (s .reply) n out) e h in
-      record { number-right = t .number-right ∙ sym ripe-refusal; totals-right = t .totals-right }
+      record { number-right = t .number-right ∙ sym passed-refusal; totals-right = t .totals-right }

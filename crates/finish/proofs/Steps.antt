@@ -34,7 +34,7 @@ use Rattle.service.proofs.View.{look-nothing}
 use Rattle.finish.specs.Finish.{choice, finish-refusal, finished, finish-answer, finish-step}
 use Rattle.finish.specs.Promise.{Finish-steps, Finish-right, Refused-unchanged}
 use Rattle.finish.proofs.Blocks.{values-small, choice-first}
-use Rattle.finish.proofs.Answers.{finish-refuses, Ripe}
+use Rattle.finish.proofs.Answers.{finish-refuses, Passed}
 
 split : (a b g l e : Bool) → (a ≡ true → g ≡ true)
     → (unless a 11 then unless b 12 then unless g 15 then unless l 15 then unless e 16) ≡ ((unless a 11 then unless b 12 then unless l 15) then unless e 16)
@@ -81,20 +81,20 @@ module _ (s : Service) (w : Formed s) where
   whole-answer n e = let t = after-taken e (padded most-places sums) _ in t ∙ ap (padded most-places) (sym whole ∙ ap (take (places p)) (sym t))
 
   module _ (e : refusal sixteen finish-record (view s) ≡ 0) where
-    ripe : Ripe s
+    passed : Passed s
     unfolding view
-    ripe = let f = finishing sixteen (view s) e in record { planned = f .planned; replying = f .replying; good = w .well .good (f .planned); many = f .many }
+    passed = let f = finishing sixteen (view s) e in record { planned = f .planned; replying = f .replying; good = w .well .good (f .planned); many = f .many }
 
     choice-explains : (f : (block : ℕ) → List ℕ) → explained-by sixteen (view s) f ≡ true → explained-by sixteen (view s) (choice s) ≡ true
     unfolding explained-by choice view
     choice-explains f h =
         let r = replied (view s) in
         let y = values (view s .replies) in
-        let g = good p (ripe .good) in
+        let g = good p (passed .good) in
         explained-back sixteen p r y (choice s) (λ b i.
-        let first = choice-first p r g (ripe .many) y b (values-small p r g (ripe .many) y b (λ k. w .well .replies-small k b)) in
+        let first = choice-first p r g (passed .many) y b (values-small p r g (passed .many) y b (λ k. w .well .replies-small k b)) in
         subst (Explained sixteen p (users-in p r) (length (users-in p r)) (λ k. y k b))
-        (settled sixteen p (sixteen-laws p (ripe .good)) r y (ripe .many) b i (choice s b) first f h) (explained sixteen p r y f h b i))
+        (settled sixteen p (sixteen-laws p (passed .good)) r y (passed .many) b i (choice s b) first f h) (explained sixteen p r y f h b i))
 
     taken : explained-by sixteen (view s) (choice s) ≡ true
         → Is-step finish-record s (totalled (s .head .round) (take (places p) (padded most-places sums))) (finished (s .head))
@@ -104,7 +104,7 @@ module _ (s : Service) (w : Formed s) where
         record {
           step = rw (whole, finished-view s) d;
           formed = record {
-            ready = λ a. w .ready (ripe .planned);
+            ready = λ a. w .ready (passed .planned);
             first-length = length-replicate {A = ℕ} firsts 0;
             reply-length = length-replicate {A = ℕ} cells 0;
             well = rw (finished-view s) (steps-well sixteen finish-record (view s) _ _ (w .well) d);

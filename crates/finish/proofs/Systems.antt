@@ -20,6 +20,7 @@ use Rattle.scheme.proofs.Lists.{map-span-at, span-in, in-span}
 use Rattle.scheme.proofs.Keys.{whole-list, elements-at, elements-map}
 use Rattle.scheme.proofs.Tests.{is-false, holds}
 use Rattle.scheme.proofs.Totals.{all-of-in, at-all-of, all-of-same, in-at, explained, explained-back}
+use Rattle.plan.specs.declared.Plan as code
 use Rattle.plan.specs.Plan.{plan-of}
 use Rattle.solve.specs.Solve.{Points, Ready, unknown-at, solution-of, dot-of, fits-of, cell, block, unknowns-of, row-fits}
 use Rattle.solve.proofs.Filled.{filled-at}
@@ -46,17 +47,14 @@ all-swap s ks bs = same-test _ _ (turn s ks bs) (turn (λ b a. s a b) bs ks)
     turn s ks bs h = at-all-of _ bs (λ j l. at-all-of _ ks (λ i k. all-of-in (s (getD ks i 0)) bs (all-of-in _ ks h _ (in-at ks i k)) _ (in-at bs j l)))
 
 -- ---- the system of the complete replies
-module _ (s : System) (h : Prepared (s .plan) (s .users .set) s) where
+module _ (plan : code.Plan) (r : ℕ) (s : System) (h : Prepared plan r s) where
   abbrev p : Plan
-  p = plan-of (s .plan)
-
-  abbrev r : ℕ
-  r = s .users .set
+  p = plan-of plan
 
   pub system-few : s .users .count ≤ most-users
   system-few = listed-few p r (h .good .users-high) (s .users .list) (s .users .count) (h .listed .list-right) (h .listed .count-right)
 
-  pub system-many : s .plan .threshold ≤ s .users .count
+  pub system-many : plan .threshold ≤ s .users .count
   system-many = omega (arith, enough-rows p r (h .good) (h .enough), h .listed .count-right)
 
   pub system-points : Points most-users (s .users .count) (s .users .list)
@@ -67,18 +65,18 @@ module _ (s : System) (h : Prepared (s .plan) (s .users .set) s) where
       listed-at p r (h .good .users-high) (s .users .list) (s .users .count) (h .listed .list-right) (h .listed .count-right) a
       (omega (arith, h .listed .count-right))
 
-  pub system-ready : (cs : List ℕ) → cs ≡ columns → Ready (s .users .list) cs (s .alpha) (s .beta) (s .plan .threshold)
+  pub system-ready : (cs : List ℕ) → cs ≡ columns → Ready (s .users .list) cs (s .alpha) (s .beta) (plan .threshold)
   system-ready cs e =
       rw (h .listed .list-right, e) (record { square = rows-square p r (h .good) (h .enough); alpha-right = h .alpha-right; beta-right = h .beta-right })
 
   -- the replies as a grid, and its unknowns
-  module _ (ys cs g ws : List ℕ) (c : cs ≡ columns) (v : Gathered ys (s .users .list) (s .users .count) (s .plan .blocks) g)
-      (x : ws ≡ unknowns-of (s .users .list) cs g (s .plan .threshold)) where
+  module _ (ys cs g ws : List ℕ) (c : cs ≡ columns) (v : Gathered ys (s .users .list) (s .users .count) (plan .blocks) g)
+      (x : ws ≡ unknowns-of (s .users .list) cs g (plan .threshold)) where
     abbrev y : (k block : ℕ) → ℕ
     y = held-in most-blocks ys
 
     abbrev n : ℕ
-    n = s .plan .threshold
+    n = plan .threshold
 
     abbrev m : ℕ
     m = length (users-in p r)
@@ -89,10 +87,10 @@ module _ (s : System) (h : Prepared (s .plan) (s .users .set) s) where
     reply-at : (a b : ℕ) → a < m → y (getD (s .users .list) a 0) b ≡ getD (values-of p r y b) a 0
     reply-at a b l = ap (λ (k : ℕ). y k b) (user-at a l) ∙ sym (value-at p r (h .good) (h .enough) y b a l)
 
-    cell-at : (a b : ℕ) → a < m → b < s .plan .blocks → cell g a b ≡ getD (values-of p r y b) a 0
+    cell-at : (a b : ℕ) → a < m → b < plan .blocks → cell g a b ≡ getD (values-of p r y b) a 0
     cell-at a b l k = v .each a b (omega (arith, h .listed .count-right)) k ∙ reply-at a b l
 
-    unknown-cell : (i b : ℕ) → i < n → b < s .plan .blocks → cell ws i b ≡ solved b i
+    unknown-cell : (i b : ℕ) → i < n → b < plan .blocks → cell ws i b ≡ solved b i
     unknown-cell i b l k =
         ap (λ (u : List ℕ). cell u i b) x ∙ unknowns-at _ cs g n i b l (omega (arith, h .good .blocks-high))
         ∙ ap₂ (λ (rs cs : List ℕ). unknown-at rs cs (block g b) n i) (h .listed .list-right) c
@@ -100,7 +98,7 @@ module _ (s : System) (h : Prepared (s .plan) (s .users .set) s) where
         let in-set : a < m = omega (arith, enough-rows p r (h .good) (h .enough)) in
         block-at g b a (omega (arith, users-few p r, h .good .users-high)) ∙ cell-at a b in-set k)
 
-    pub unknowns-right : (i b : ℕ) → i < s .plan .threshold → b < s .plan .blocks → cell ws i b ≡ getD (choice-of p r (held-in most-blocks ys) b) i 0
+    pub unknowns-right : (i b : ℕ) → i < plan .threshold → b < plan .blocks → cell ws i b ≡ getD (choice-of p r (held-in most-blocks ys) b) i 0
     unfolding choice-of
     unknowns-right i b l k = unknown-cell i b l k ∙ sym (map-span-at (solved b) n 0 i l ∙ ap (solved b) (zero-add i))
 
@@ -108,7 +106,7 @@ module _ (s : System) (h : Prepared (s .plan) (s .users .set) s) where
     passes a b =
         eqb (dot-of (getD (rows-of p r) a 0) columns (solution-of (rows-of p r) columns (values-of p r y b) n) n) (getD (values-of p r y b) a 0)
 
-    tested : (a b : ℕ) → a < m → b < s .plan .blocks → eqb (dot-of (getD (s .users .list) a 0) cs (block ws b) n) (cell g a b) ≡ passes a b
+    tested : (a b : ℕ) → a < m → b < plan .blocks → eqb (dot-of (getD (s .users .list) a 0) cs (block ws b) n) (cell g a b) ≡ passes a b
     unfolding solution-of
     tested a b l k =
         ap₂ eqb
@@ -118,26 +116,26 @@ module _ (s : System) (h : Prepared (s .plan) (s .users .set) s) where
         (cell-at a b l k)
 
     pub fits-right : elements sixteen g ≡ true
-        → all-of (row-fits (s .users .list) cs g ws (s .plan .threshold) (s .plan .blocks)) (span (s .users .count - s .plan .threshold) (s .plan .threshold))
+        → all-of (row-fits (s .users .list) cs g ws (plan .threshold) (plan .blocks)) (span (s .users .count - plan .threshold) (plan .threshold))
         ≡ explains-all sixteen p r (held-in most-blocks ys) (choice-of p r (held-in most-blocks ys))
     unfolding row-fits fits-of
     fits-right ok =
         let ks : List ℕ = span (m - n) n in
-        let bs : List ℕ = span (s .plan .blocks) 0 in
-        ap (λ (k : ℕ). all-of (row-fits (s .users .list) cs g ws n (s .plan .blocks)) (span (k - n) n)) (h .listed .count-right)
+        let bs : List ℕ = span (plan .blocks) 0 in
+        ap (λ (k : ℕ). all-of (row-fits (s .users .list) cs g ws n (plan .blocks)) (span (k - n) n)) (h .listed .count-right)
         ∙ all-of-same _ _ ks (λ a i. all-of-same _ _ bs (λ b j. tested a b (omega (arith, span-in (m - n) n a i)) (block-in b j)))
         ∙ all-swap passes ks bs
         ∙ same-test _ _
         (λ e. explained-back sixteen p r y (choice-of p r y) (λ b k.
-        explains-further p r (h .good) (h .enough) y b (small b k) (all-of-in _ bs e b (in-span (s .plan .blocks) 0 b (omega arith) (omega arith)))))
+        explains-further p r (h .good) (h .enough) y b (small b k) (all-of-in _ bs e b (in-span (plan .blocks) 0 b (omega arith) (omega arith)))))
         (λ e. at-all-of _ bs (λ j l.
         let k = block-in (getD bs j 0) (in-at bs j l) in
         fits-further p r (h .good) (h .enough) y (getD bs j 0) (small (getD bs j 0) k) (explained sixteen p r y (choice-of p r y) e (getD bs j 0) k)))
       where
-        block-in : (b : ℕ) → In b (span (s .plan .blocks) 0) → b < s .plan .blocks
-        block-in b j = omega (arith, span-in (s .plan .blocks) 0 b j)
+        block-in : (b : ℕ) → In b (span (plan .blocks) 0) → b < plan .blocks
+        block-in b j = omega (arith, span-in (plan .blocks) 0 b j)
 
-        small : (b : ℕ) → b < s .plan .blocks → (a : ℕ) → a < m → getD (values-of p r y b) a 0 < q
+        small : (b : ℕ) → b < plan .blocks → (a : ℕ) → a < m → getD (values-of p r y b) a 0 < q
         small b k a l = subst (λ (z : ℕ). z < q) (cell-at a b l k) (elements-at sixteen (lit< tt) g (a * most-blocks + b) ok)
 
     -- a reply that is no element

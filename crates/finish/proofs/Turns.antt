@@ -1,6 +1,6 @@
 -- One turn of each loop.
 --   held-at                                                    one element of a user
---   Listing, listing-start, listing-in, listing-out, listing-end     the users of a set
+--   Listing, listing-start, listing-more-in, listing-more-out, listing-end     the users of a set
 --   Storing, storing-start, storing-more, storing-end                a run of stores
 --   Summing, summing-start, summing-more, summing-end                a sum that is reduced at its end
 -- Assumes nothing.
@@ -47,8 +47,8 @@ module _ (t : ℕ → Bool) (n : ℕ) where
   listing-start = record { inside = omega arith; few = omega arith; counted = refl; written = refl }
 
   module _ (k : ℕ) (list : List ℕ) (count : ℕ) (s : Listing t n k list count) where
-    pub listing-in : n ≤ most-users → k < n → t (k + 1) ≡ true → Listing t n (k + 1) (set list count (k + 1)) (count + 1)
-    listing-in h l e =
+    pub listing-more-in : n ≤ most-users → k < n → t (k + 1) ≡ true → Listing t n (k + 1) (set list count (k + 1)) (count + 1)
+    listing-more-in h l e =
         let m : members t (k + 1) 1 ≡ members t k 1 ++ ((k + 1) ∷ []) = members-next t k ∙ ap (λ (b : Bool). members t k 1 ++ keep b (k + 1) []) e in
         record {
           inside = omega arith;
@@ -59,8 +59,8 @@ module _ (t : ℕ → Bool) (n : ℕ) where
               ∙ padded-next most-users (members t k 1) (k + 1) count (sym (s .counted)) (omega (arith, s .few)) ∙ ap (padded most-users) (sym m);
         }
 
-    pub listing-out : k < n → t (k + 1) ≡ false → Listing t n (k + 1) list count
-    listing-out l e =
+    pub listing-more-out : k < n → t (k + 1) ≡ false → Listing t n (k + 1) list count
+    listing-more-out l e =
         let m : members t (k + 1) 1 ≡ members t k 1 = members-next t k ∙ ap (λ (b : Bool). members t k 1 ++ keep b (k + 1) []) e ∙ append-nil (members t k 1) in
         record {
           inside = omega arith;

@@ -31,13 +31,11 @@ abbrev pub held-in : (stride : ℕ) → List ℕ → (k at : ℕ) → ℕ
 held-in w xs = values (look w xs)
 
 pub record Listed (p : Plan) (v : ℕ) (us : Users) : Type 0 where
-  pub set-kept : us .set ≡ v
   pub list-right : us .list ≡ rows-of p v
   pub count-right : us .count ≡ length (users-in p v)
 
 -- at least U users of a good plan
 pub record Prepared (p : code.Plan) (r : ℕ) (s : System) : Type 0 where
-  pub plan-kept : s .plan ≡ p
   pub good : Good (plan-of p)
   pub enough : p .threshold ≤ ones (p .users) r
   pub listed : Listed (plan-of p) r (s .users)

@@ -39,7 +39,6 @@ use service::Service;
 
 // The users of a set in rising number, in the first `count` places.
 struct Users {
-    set: u32,
     list: [u32; USERS],
     count: usize,
 }
@@ -60,7 +59,7 @@ fn users_of(plan: Plan, set: u32) -> Users
             k += 1;
         }
     }
-    Users { set, list, count }
+    Users { list, count }
 }
 
 fn the_columns() -> [u32; USERS]
@@ -71,7 +70,6 @@ fn the_columns() -> [u32; USERS]
 
 // The users whose replies are complete, and the solver's weights for the first U of them.
 struct System {
-    plan: Plan,
     users: Users,
     alpha: [u16; USERS],
     beta: [u16; USERS],
@@ -87,12 +85,7 @@ fn system_of(plan: Plan, set: u32) -> System
     let n = plan.threshold as usize;
     let alpha = solve::weights(&rows, &columns, n);
     let beta = solve::weights(&columns, &rows, n);
-    System {
-        plan,
-        users,
-        alpha,
-        beta,
-    }
+    System { users, alpha, beta }
 }
 
 // What is held as itself plus 1, and 0 where nothing is held.
@@ -150,11 +143,11 @@ struct Explained {
 
 // The sums and noise of each block from the first U replies, and whether they explain all. Nothing explains a reply that is no
 // element; no state that calls make has one.
-fn explain(system: System, reply: &[u16; CELLS]) -> Explained
-    requires { ⌜ Prepared (system .plan) (system .users .set) system ⌝ }
-    ensures { λ r. ⌜ Blocks-solved (plan-of (system .plan)) (system .users .set) (now (reply .entry)) r ⌝ }
+fn explain(plan: Plan, set: u32, reply: &[u16; CELLS]) -> Explained
+    requires { ⌜ Good (plan-of plan) × (plan .threshold ≤ ones (plan .users) set) ⌝ }
+    ensures { λ r. ⌜ Blocks-solved (plan-of plan) set (now (reply .entry)) r ⌝ }
 {
-    let plan = system.plan;
+    let system = system_of(plan, set);
     let users = system.users;
     let rows = users.list;
     let count = users.count;
@@ -277,8 +270,7 @@ fn put_explained_totals<'a>(
     requires { ⌜ Good (plan-of plan) × (plan .threshold ≤ ones (plan .users) set) × (now out ≡ replicate most-places 0) ⌝ }
     ensures { λ r. ⌜ Totalled (plan-of plan) set survivors (now (first .entry)) (now (reply .entry)) r (now (out .exit)) ⌝ }
 {
-    let system = system_of(plan, set);
-    let explained = explain(system, reply);
+    let explained = explain(plan, set, reply);
     if !explained.fits {
         return 16;
     }

@@ -32,21 +32,12 @@ start c = c .before .before .before
 user : (c : tie.In-loop Inv-loop μ-loop) → let k = getD (start c .args .rows .now) (c .before .loop .i) 0 in (1 ≤ k) × (k ≤ most-users)
 user c = start c .pre .2 .inside _ (c .loop-test .taken)
 
-no-sums-requires : tie.Need-no-sums-requires Inv-loop μ-loop
-no-sums-requires c κs = search needs
-
 loop-holds : tie.Need-loop-holds Inv-loop μ-loop
 loop-holds c = (
   omega arith,
   rw (c .no-sums .ensures) (length-replicate {A = ℕ} most-places 0),
   λ p h. rw (c .no-sums .ensures, zeros-at most-places p) (summing-start _ _ _),
 )
-
-mul-start-of : tie.Need-mul-start-of Inv-loop μ-loop
-mul-start-of c = search needs
-
-element-copy-out-start-of : tie.Need-element-copy-out-start-of Inv-loop μ-loop
-element-copy-out-start-of c = search needs
 
 start-of-requires : tie.Need-start-of-requires Inv-loop μ-loop
 start-of-requires c κs = let k = user (c .before) in (k .0, k .1, omega arith)
@@ -60,12 +51,6 @@ add-first-requires c κs =
       (s .1, omega (arith, k .0, k .1, s .1, c .before .start-of .ensures), l .inv .1),
       record { low = λ p m. omega (arith, l .inv .2 p m .low, t .loop-test .taken, s .0) },
     )
-
-add-i : tie.Need-add-i Inv-loop μ-loop
-add-i c = search needs
-
-loop-less : tie.Need-loop-less Inv-loop μ-loop
-loop-less c = search needs
 
 loop-again : tie.Need-loop-again Inv-loop μ-loop
 loop-again c =
@@ -98,16 +83,5 @@ returns c =
 pub first-sums-spec : {M : Type 1} → statement M
 first-sums-spec =
     tie.close
-    (tie.spec
-    Inv-loop
-    μ-loop
-    no-sums-requires
-    loop-holds
-    mul-start-of
-    element-copy-out-start-of
-    start-of-requires
-    add-first-requires
-    add-i
-    loop-less
-    loop-again
-    returns)
+    (tie.spec Inv-loop μ-loop (λ c κs. search needs) loop-holds (λ c. search needs) (λ c. search needs) start-of-requires
+    add-first-requires (λ c. search needs) (λ c. search needs) loop-again returns)

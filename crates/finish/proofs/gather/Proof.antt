@@ -25,17 +25,8 @@ start c = c .before .before .before
 user : (c : tie.In-loop Inv-loop μ-loop) → let k = getD (start c .args .rows .now) (c .before .loop .i) 0 in (1 ≤ k) × (k ≤ most-users)
 user c = start c .pre .2 .inside _ (c .loop-test .taken)
 
-no-cells-requires : tie.Need-no-cells-requires Inv-loop μ-loop
-no-cells-requires c κs = search needs
-
 loop-holds : tie.Need-loop-holds Inv-loop μ-loop
 loop-holds c = (omega arith, rw (c .no-cells .ensures) (rows-start _ _))
-
-mul-start-of : tie.Need-mul-start-of Inv-loop μ-loop
-mul-start-of c = search needs
-
-element-copy-out-start-of : tie.Need-element-copy-out-start-of Inv-loop μ-loop
-element-copy-out-start-of c = search needs
 
 start-of-requires : tie.Need-start-of-requires Inv-loop μ-loop
 start-of-requires c κs = let k = user (c .before) in (k .0, k .1, omega arith)
@@ -46,15 +37,6 @@ put-held-requires c κs =
     let k = user t in
     let r = t .before .loop .inv .1 in
     (start t .pre .1, omega (arith, r .place, start t .pre), omega (arith, k .0, k .1, start t .pre, c .before .start-of .ensures), r .long)
-
-add-at : tie.Need-add-at Inv-loop μ-loop
-add-at c = search needs
-
-add-i : tie.Need-add-i Inv-loop μ-loop
-add-i c = search needs
-
-loop-less : tie.Need-loop-less Inv-loop μ-loop
-loop-less c = search needs
 
 loop-again : tie.Need-loop-again Inv-loop μ-loop
 loop-again c =
@@ -78,17 +60,5 @@ returns c =
 pub gather-spec : {M : Type 1} → statement M
 gather-spec =
     tie.close
-    (tie.spec
-    Inv-loop
-    μ-loop
-    no-cells-requires
-    loop-holds
-    mul-start-of
-    element-copy-out-start-of
-    start-of-requires
-    put-held-requires
-    add-at
-    add-i
-    loop-less
-    loop-again
-    returns)
+    (tie.spec Inv-loop μ-loop (λ c κs. search needs) loop-holds (λ c. search needs) (λ c. search needs) start-of-requires
+    put-held-requires (λ c. search needs) (λ c. search needs) (λ c. search needs) loop-again returns)

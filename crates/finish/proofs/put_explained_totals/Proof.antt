@@ -12,8 +12,7 @@ use Rattle.scheme.specs.Good.{Good}
 use Rattle.scheme.proofs.Refusals.{unless-held, unless-failed, after-taken, after-refused}
 use Rattle.plan.specs.Plan.{plan-of}
 use Rattle.plan.proofs.Laws.{places-le}
-use Rattle.finish.specs.Parts.{Blocks-solved, First-sums}
-use Rattle.finish.proofs.Answers.{prepared-own, solved-same}
+use Rattle.finish.specs.Parts.{First-sums}
 use Rattle.finish.proofs.Blocks.{listed-few, listed-points}
 use Rattle.finish.proofs.Padded.{sets-zeros}
 use Rattle.finish.proofs.Totalling.{totals-same}
@@ -21,9 +20,6 @@ use Rattle.finish.proofs.put_explained_totals.Statement.{statement}
 use Rattle.finish.proofs.put_explained_totals.Tie as tie
 
 -- ---- the places, and what is known there
-abbrev start : tie.After-explain → tie.Start
-start c = c .before .before
-
 abbrev explained : tie.After-users-of → tie.After-explain
 explained c = c .before .before .before .before
 
@@ -33,36 +29,30 @@ listed c = c .before .before .before
 abbrev summed : tie.After-put-all-totals-arg → tie.After-first-sums
 summed c = let lent = c .before .before in lent .before .before .before
 
-solved : (c : tie.After-explain) → let a = start c .args in Blocks-solved (plan-of (a .plan)) (a .set) (a .reply .now) (c .explain .result)
-solved c = solved-same (c .before .system-of .ensures) (c .explain .ensures)
+a-plan : (c : tie.After-users-of) → Good (plan-of (explained c .before .args .plan))
+a-plan c = explained c .before .pre .0
 
-a-plan : (c : tie.After-users-of) → Good (plan-of (start (explained c) .args .plan))
-a-plan c = start (explained c) .pre .0
-
-sums-right : (c : tie.After-first-sums) → let u = listed (c .before) in let a = start (explained u) .args in
+sums-right : (c : tie.After-first-sums) → let u = listed (c .before) in let a = explained u .before .args in
     First-sums q (a .first .now) (u .users-of .result .list) (u .users-of .result .count) (places (plan-of (a .plan))) (c .first-sums .result)
 sums-right c =
     let u = listed (c .before) in
-    subst (λ (n : ℕ). First-sums q (start (explained u) .args .first .now) (u .users-of .result .list) (u .users-of .result .count) n (c .first-sums .result))
+    subst (λ (n : ℕ). First-sums q (explained u .before .args .first .now) (u .users-of .result .list) (u .users-of .result .count) n (c .first-sums .result))
     (c .before .places-of .ensures .0) (c .first-sums .ensures)
 
 -- ---- the needs
-system-of-requires : tie.Need-system-of-requires
-system-of-requires c κs = (c .pre .0, c .pre .1)
-
 explain-requires : tie.Need-explain-requires
-explain-requires c κs = prepared-own (c .system-of .ensures)
+explain-requires c κs = (c .pre .0, c .pre .1)
 
 returns : tie.Need-returns
 returns c =
     let e = c .before .before in
     record {
-      number-right = sym (unless-failed (sym (solved e .fits-right) ∙ not-true _ (c .if1 .taken)) 16);
-      totals-right = start e .pre .2 ∙ sym (after-refused (λ z. omega arith) _ _);
+      number-right = sym (unless-failed (sym (e .explain .ensures .fits-right) ∙ not-true _ (c .if1 .taken)) 16);
+      totals-right = e .before .pre .2 ∙ sym (after-refused (λ z. omega arith) _ _);
     }
 
 users-of-requires : tie.Need-users-of-requires
-users-of-requires c κs = start (c .before .before .before) .pre .0 .users-high
+users-of-requires c κs = c .before .before .before .before .pre .0 .users-high
 
 places-of-requires : tie.Need-places-of-requires
 places-of-requires c κs = a-plan (c .before .before)
@@ -76,12 +66,6 @@ first-sums-requires c κs =
 sub-items : tie.Need-sub-items
 sub-items c = let g = a-plan (listed (c .before .before)) in omega (arith, g .collusion-high)
 
-cast-items : tie.Need-cast-items
-cast-items c = search needs
-
-cast-put-all-totals : tie.Need-cast-put-all-totals
-cast-put-all-totals c = search needs
-
 put-all-totals-requires : tie.Need-put-all-totals-requires
 unfolding places items
 put-all-totals-requires c κs =
@@ -94,27 +78,17 @@ returns-2 c =
     let t = summed (c .before) in
     let u = listed (t .before) in
     let l = u .users-of .ensures in
-    let e = solved (explained u) in
+    let e = explained u .explain .ensures in
     let same = totals-same q _ _ _ _ _ _ _ _ (omega arith) (l .list-right) (l .count-right) (sums-right t) (e .unknowns-right) in
     record {
       number-right = sym (unless-held (sym (e .fits-right) ∙ not-false _ (u .before .before .if1 .left)) 16);
       totals-right =
-          c .put-all-totals .ensures ∙ sets-zeros most-places _ _ (places-le _ (a-plan u)) (start (explained u) .pre .2)
+          c .put-all-totals .ensures ∙ sets-zeros most-places _ _ (places-le _ (a-plan u)) (explained u .before .pre .2)
           ∙ ap (padded most-places) same ∙ sym (after-taken refl _ _);
     }
 
 pub put-explained-totals-spec : {M : Type 1} → statement M
 put-explained-totals-spec =
     tie.close
-    (tie.spec
-    system-of-requires
-    explain-requires
-    returns
-    users-of-requires
-    places-of-requires
-    first-sums-requires
-    sub-items
-    cast-items
-    cast-put-all-totals
-    put-all-totals-requires
-    returns-2)
+    (tie.spec explain-requires returns users-of-requires places-of-requires first-sums-requires sub-items
+    (λ c. search needs) (λ c. search needs) put-all-totals-requires returns-2)

@@ -20,7 +20,7 @@ use Rattle.service.specs.Calls.{lent}
 use Rattle.service.specs.View.{phase-of, view}
 use Rattle.service.proofs.Refused.{past-phase, stopped}
 use Rattle.finish.specs.Finish.{finish-refusal}
-use Rattle.finish.proofs.Answers.{refused-right, Ripe, totalled-right}
+use Rattle.finish.proofs.Answers.{refused-right, Passed, totalled-right}
 use Rattle.finish.proofs.put_state_totals.Statement.{statement}
 use Rattle.finish.proofs.put_state_totals.Tie as tie
 
@@ -52,22 +52,15 @@ counted c =
     let users = state c .head .plan .users in
     ones-same _ _ (subst (λ (v : ℕ). v < 2 ^ users) (sym (c .complete-set .ensures)) (complete-below _ _ _)) ∙ ap (ones users) (whole c)
 
-ripe : (c : tie.Else3) → Ripe (state (c .before .before))
-ripe c =
+passed : (c : tie.Else3) → Passed (state (c .before .before))
+passed c =
     let t = past-plan-test (c .before .before) in
     let p = phase-right (past-phase-test t) in
     record { planned = p .0; replying = p .1; good = a-plan t; many = omega (arith, c .if3 .left, counted (c .before .before)) }
 
--- ---- the needs
-not-replying-requires : tie.Need-not-replying-requires
-not-replying-requires c κs = search needs
-
 returns : tie.Need-returns
 unfolding finish-refusal
 returns c = refused-right _ (c .if1 .taken) (stopped _ _ _ _ (c .before .not-replying .ensures) (c .if1 .taken)) (c .before .before .pre)
-
-is-good-requires : tie.Need-is-good-requires
-is-good-requires c κs = search needs
 
 returns-2 : tie.Need-returns-2
 unfolding finish-refusal unless _then_
@@ -76,9 +69,6 @@ returns-2 c =
     let p = phase-right e in
     let h = sym (c .before .is-good .ensures) ∙ not-true _ (c .if2 .taken) in
     refused-right _ (λ z. omega arith) (simp (p .0, p .1, h)) (start e .pre)
-
-cast-complete-set : tie.Need-cast-complete-set
-cast-complete-set c = search needs
 
 complete-set-requires : tie.Need-complete-set-requires
 complete-set-requires c κs =
@@ -99,22 +89,14 @@ returns-3 c =
 put-explained-totals-requires : tie.Need-put-explained-totals-requires
 put-explained-totals-requires c κs =
     let d = c .before .before .before in
-    let r = ripe (c .before) in
+    let r = passed (c .before) in
     (good _ (r .good), omega (arith, r .many, ap (ones (state d .head .plan .users)) (whole d)), start (past-phase-test (past-plan-test d)) .pre)
 
 returns-4 : tie.Need-returns-4
-returns-4 c = let e = c .before .before in totalled-right _ (ripe e) _ _ _ (whole (e .before .before)) (c .put-explained-totals .ensures)
+returns-4 c = let e = c .before .before in totalled-right _ (passed e) _ _ _ (whole (e .before .before)) (c .put-explained-totals .ensures)
 
 pub put-state-totals-spec : {M : Type 1} → statement M
 put-state-totals-spec =
     tie.close
-    (tie.spec
-    not-replying-requires
-    returns
-    is-good-requires
-    returns-2
-    cast-complete-set
-    complete-set-requires
-    returns-3
-    put-explained-totals-requires
-    returns-4)
+    (tie.spec (λ c κs. search needs) returns (λ c κs. search needs) returns-2 (λ c. search needs) complete-set-requires returns-3
+    put-explained-totals-requires returns-4)

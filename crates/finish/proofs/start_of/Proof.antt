@@ -8,15 +8,9 @@ use Rattle.scheme.specs.Limits.{most-threshold, most-places}
 use Rattle.finish.proofs.start_of.Statement.{statement}
 use Rattle.finish.proofs.start_of.Tie as tie
 
-sub-result : tie.Need-sub-result
-sub-result c = search needs
-
 mul-result : tie.Need-mul-result
 mul-result c =
     omega (arith, mul-le-mul {n₁ = c .args .user - 1} {m₁ = c .args .stride} {n₂ = most-threshold} {m₂ = most-places} (omega (arith, c .pre)) (c .pre .2))
 
-returns : tie.Need-returns
-returns c = search needs
-
 pub start-of-spec : {M : Type 1} → statement M
-start-of-spec = tie.close (tie.spec sub-result mul-result returns)
+start-of-spec = tie.close (tie.spec (λ c. search needs) mul-result (λ c. search needs))

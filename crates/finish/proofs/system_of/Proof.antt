@@ -1,6 +1,6 @@
 -- `finish::system_of` meets its contract: the users of a set and the columns are good points.
 -- Assumes nothing.
-use mathlib.Core.Path.{refl, sym, ap₂, _∙_, subst}
+use mathlib.Core.Path.{sym, ap₂, _∙_, subst}
 use mathlib.Core.List.{List}
 use Prim.Native.Nat.{ℕ, _≤_}
 use native.Mathlib.Omega.{arith}
@@ -41,12 +41,6 @@ few c = let g = good-plan c in omega (arith, g .threshold-high, g .users-high)
 users-of-requires : tie.Need-users-of-requires
 users-of-requires c κs = c .pre .0 .users-high
 
-the-columns-requires : tie.Need-the-columns-requires
-the-columns-requires c κs = search needs
-
-cast-n : tie.Need-cast-n
-cast-n c = search needs
-
 weights-requires : tie.Need-weights-requires
 weights-requires c κs = let k = c .before .before .before in (few (listed k), rows-in (listed k), columns-in k)
 
@@ -60,7 +54,6 @@ returns c =
     let u = listed k in
     let n = u .before .args .plan .threshold in
     record {
-      plan-kept = refl;
       good = u .before .pre .0;
       enough = u .before .pre .1;
       listed = u .users-of .ensures;
@@ -71,10 +64,4 @@ returns c =
 pub system-of-spec : {M : Type 1} → statement M
 system-of-spec =
     tie.close
-    (tie.spec
-    users-of-requires
-    the-columns-requires
-    cast-n
-    weights-requires
-    weights-requires-2
-    returns)
+    (tie.spec users-of-requires (λ c κs. search needs) (λ c. search needs) weights-requires weights-requires-2 returns)
