@@ -11,7 +11,6 @@ use native.Mathlib.Nat.{zero-add}
 use native.Mathlib.Omega.{arith}
 use lib.ListN.{length, getD, set, drop, replicate, length-replicate, List·getD-append}
 use lib.Seq.{sets, sets-eq, getD-set-other, ext-getD}
-use Rattle.algebra.specs.Sums.{In}
 use Rattle.scheme.specs.Lists.{span, padded}
 use Rattle.scheme.specs.Scheme.{Arithmetic, sum}
 use Rattle.scheme.proofs.Lists.{span-in, span-append, map-span-length, map-span-at, sets-append}

@@ -29,7 +29,7 @@ use Rattle.solve.proofs.Solution.{block-at, dot-same, unknown-same}
 use Rattle.finish.specs.Finish.{rows-of, values-of, columns, choice-of}
 use Rattle.finish.specs.Parts.{held-in, Prepared, Gathered}
 use Rattle.finish.specs.declared.System.{System}
-use Rattle.finish.proofs.Blocks.{users-few, enough-rows, rows-square, listed-few, listed-points, listed-at, value-at, further-fit, explains-further, fits-further, explained-small}
+use Rattle.finish.proofs.Blocks.{users-few, enough-rows, rows-square, listed-few, listed-points, listed-at, value-at, explains-further, fits-further, explained-small}
 
 -- ---- tests of a list
 elements-every : (l : List ℕ) → ((k : ℕ) → getD l k 0 < q) → elements sixteen l ≡ true

@@ -47,7 +47,8 @@ fits-requires : tie.Need-fits-requires
 fits-requires c κs =
     let k = pointed (gathered (solved (tested c .before) .before) .before) in
     let h = prepared k .system-of .ensures in
-    (system-many _ _ _ h, system-few _ _ _ h, h .good .blocks-high, system-points _ _ _ h, system-ready _ _ _ h _ (k .the-columns .ensures) .square .columns-good)
+    let s = system-ready _ _ _ h _ (k .the-columns .ensures) .square in
+    (system-many _ _ _ h, system-few _ _ _ h, h .good .blocks-high, system-points _ _ _ h, s .columns-good)
 
 returns-2 : tie.Need-returns-2
 returns-2 c =
