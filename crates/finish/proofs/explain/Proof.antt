@@ -22,6 +22,7 @@ solved c = c .before .before
 abbrev tested : tie.After-unknowns → tie.Else1
 tested c = c .before .before .before .before
 
+-- ---- the needs
 system-of-requires : tie.Need-system-of-requires
 system-of-requires c κs = c .pre
 

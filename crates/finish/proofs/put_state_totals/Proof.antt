@@ -58,6 +58,7 @@ passed c =
     let p = phase-right (past-phase-test t) in
     record { planned = p .0; replying = p .1; good = a-plan t; many = omega (arith, c .if3 .left, counted (c .before .before)) }
 
+-- ---- the needs
 returns : tie.Need-returns
 unfolding finish-refusal
 returns c = refused-right _ (c .if1 .taken) (stopped _ _ _ _ (c .before .not-replying .ensures) (c .if1 .taken)) (c .before .before .pre)
