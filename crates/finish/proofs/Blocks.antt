@@ -1,31 +1,30 @@
 -- One block: the closed solution of the first U complete replies.
 --   columns-points, users-few, enough-rows, rows-square, listed-few, listed-points      the points of columns and rows
---   value-at                        the reply of a row
---   values-small, choice-first      where the replies are elements, it explains the first U of them
---   fits-same                       and it explains all exactly if the further replies fit
---   explained-small                 replies that something explains are elements
---   same-test                       two tests of which each gives the other
+--   value-at, values-small         the reply of a row; where the replies are elements
+--   choice-first                   then the closed solution explains the first U of them
+--   further-fit                    whether the further replies fit too
+--   explains-further, fits-further     if so it explains all, and where it explains all they fit
+--   explained-small                replies that something explains are elements
 -- Assumes nothing.
 use mathlib.Core.Path.{_≡_, refl, sym, _∙_, subst}
-use mathlib.Core.Bool.{Bool, true, false, _&&_}
+use mathlib.Core.Bool.{Bool, true}
 use mathlib.Core.List.{List, map}
-use Prim.Native.Nat.{ℕ, zero, suc, _+_, _-_, _≤_, _<_}
+use Prim.Native.Nat.{ℕ, _+_, _≤_, _<_}
 use native.Mathlib.Omega.{arith}
 use lib.Dec.{eqb}
-use lib.ListN.{length, getD, take, replicate, length-map}
+use lib.ListN.{length, getD, take, length-map}
 use lib.Seq.{take-at}
-use borrow.Author.Tests.{eq-eqb, eqb-true}
+use borrow.Author.Tests.{eqb-true}
 use Rattle.algebra.specs.Sums.{Distinct}
+use Rattle.scheme.specs.Limits.{most-users, most-threshold}
 use Rattle.scheme.specs.Lists.{span, all-of, padded}
-use Rattle.scheme.specs.Scheme.{sixteen, q, elements, Plan, ones, users-in, row-value, in-set}
+use Rattle.scheme.specs.Scheme.{sixteen, q, Plan, ones, users-in, in-set}
 use Rattle.scheme.specs.Good.{Good}
-use Rattle.scheme.specs.Totals.{explains}
+use Rattle.scheme.specs.Totals.{explains-all}
 use Rattle.scheme.proofs.Lists.{map-span-length, in-span, members-once, members-le}
 use Rattle.scheme.proofs.Sums.{row-value-small}
-use Rattle.scheme.proofs.Keys.{elements-map, elements-append}
-use Rattle.scheme.proofs.Tests.{both, joined, is-false, holds}
 use Rattle.scheme.proofs.Sets.{users-in-in, users-in-size}
-use Rattle.scheme.proofs.Totals.{all-of-in, at-all-of, in-at, at-apart, Explained}
+use Rattle.scheme.proofs.Totals.{all-of-in, in-at, at-apart, unknown, Explained, explained}
 use Rattle.solve.specs.Solve.{laws16, Points, Square, filled, solution-of, fits-of}
 use Rattle.solve.proofs.Explains.{points-some, Block, explains-first, fits-explains, explains-fits}
 use Rattle.solve.proofs.Filled.{padded-at}
@@ -33,11 +32,13 @@ use Rattle.finish.specs.Finish.{rows-of, values-of, columns, choice-of}
 use Rattle.finish.proofs.Padded.{map-at}
 
 -- ---- the points
-column-at : (i : ℕ) → i < 7 → getD columns i 0 ≡ i + 1
-unfolding all-of
-column-at i h = eqb-true _ _ (all-of-in (λ k. eqb (getD columns k 0) (k + 1)) (span 7 0) refl i (in-span 7 0 i (omega arith) (omega arith)))
+column-at : (i : ℕ) → i < most-threshold → getD columns i 0 ≡ i + 1
+unfolding all-of padded
+column-at i h =
+    let n : ℕ = most-threshold in
+    eqb-true _ _ (all-of-in (λ k. eqb (getD columns k 0) (k + 1)) (span n 0) refl i (in-span n 0 i (omega arith) (omega arith)))
 
-pub columns-points : (n : ℕ) → n ≤ 7 → Points 7 n columns
+pub columns-points : (n : ℕ) → n ≤ most-threshold → Points most-threshold n columns
 columns-points n h = record {
   inside = λ i l. let e = column-at i (omega arith) in (omega arith, omega arith);
   apart = λ i k a b ne e. ne (omega (arith, column-at i (omega arith), column-at k (omega arith)));
@@ -51,42 +52,27 @@ users-once : (p : Plan) (v : ℕ) → Distinct (users-in p v)
 unfolding users-in
 users-once p v = members-once (in-set v) (p .users) 1
 
-rows-points : (p : Plan) (v : ℕ) → p .users ≤ 8 → Points 8 (length (users-in p v)) (rows-of p v)
+row-at : (p : Plan) (v a : ℕ) → a < length (users-in p v) → getD (rows-of p v) a 0 ≡ getD (users-in p v) a 0
 unfolding rows-of
-rows-points p v h = record {
-  inside = λ i l. let x = users-in-in p v _ (in-at (users-in p v) i l) in rw (padded-at 8 (users-in p v) i l) (x .0, omega (arith, x .1));
-  apart = λ i k a b ne e. at-apart (users-in p v) (users-once p v) i k a b ne (sym (padded-at 8 (users-in p v) i a) ∙ e ∙ padded-at 8 (users-in p v) k b);
-}
+row-at p v = padded-at most-users (users-in p v)
 
 -- what a list of users gives
-module _ (p : Plan) (v : ℕ) (rs : List ℕ) (m : ℕ) (e : rs ≡ rows-of p v) (d : m ≡ length (users-in p v)) (h : p .users ≤ 8) where
-  pub listed-few : m ≤ 8
-  listed-few = omega (arith, users-few p v)
+module _ (p : Plan) (v : ℕ) (h : p .users ≤ most-users) where
+  rows-points : Points most-users (length (users-in p v)) (rows-of p v)
+  rows-points = record {
+    inside = λ i l. let x = users-in-in p v _ (in-at (users-in p v) i l) in rw (row-at p v i l) (x .0, omega (arith, x .1));
+    apart = λ i k a b ne e. at-apart (users-in p v) (users-once p v) i k a b ne (sym (row-at p v i a) ∙ e ∙ row-at p v k b);
+  }
 
-  pub listed-points : Points 8 m rs
-  listed-points = rw (e, d) (rows-points p v h)
+  module _ (rs : List ℕ) (m : ℕ) (e : rs ≡ rows-of p v) (d : m ≡ length (users-in p v)) where
+    pub listed-few : m ≤ most-users
+    listed-few = omega (arith, users-few p v)
 
--- ---- what `explains` says of one block
-explains-facts : (p : Plan) (r : ℕ) (y : (k : ℕ) → ℕ) (w : List ℕ) → explains sixteen p r y w ≡ true → Explained sixteen p (users-in p r) (length (users-in p r)) y w
-unfolding explains
-explains-facts p r y w h =
-    let s = both (eqb (length w) (p .threshold) && elements sixteen w) _ h in
-    let t = both (eqb (length w) (p .threshold)) (elements sixteen w) (s .0) in
-    record { long = eqb-true _ _ (t .0); small = t .1; fits = λ a i. eqb-true _ _ (all-of-in _ (users-in p r) (s .1) _ (in-at (users-in p r) a i)) }
+    pub listed-points : Points most-users m rs
+    listed-points = rw (e, d) rows-points
 
-facts-explains : (p : Plan) (r : ℕ) (y : (k : ℕ) → ℕ) (w : List ℕ) → Explained sixteen p (users-in p r) (length (users-in p r)) y w → explains sixteen p r y w ≡ true
-unfolding explains
-facts-explains p r y w e =
-    joined (joined (eq-eqb _ _ (e .long)) (e .small)) (at-all-of _ (users-in p r) (λ a i. eq-eqb _ _ (e .fits a i)))
-
-pub same-test : (a b : Bool) → (a ≡ true → b ≡ true) → (b ≡ true → a ≡ true) → a ≡ b
-same-test true b f g = sym (f refl)
-same-test false b f g = sym (is-false b (λ e. holds (g e)))
-
-elements-zeros : (n : ℕ) → elements sixteen (replicate n 0) ≡ true
-unfolding elements
-elements-zeros zero = refl
-elements-zeros (suc n) = elements-zeros n
+    pub listed-at : (a : ℕ) → a < m → getD rs a 0 ≡ getD (users-in p v) a 0
+    listed-at a l = rw e (row-at p v a (omega arith))
 
 module _ (p : Plan) (r : ℕ) (good : Good p) (many : p .threshold ≤ ones (p .users) r) where
   pub enough-rows : p .threshold ≤ length (users-in p r)
@@ -100,56 +86,53 @@ module _ (p : Plan) (r : ℕ) (good : Good p) (many : p .threshold ≤ ones (p .
   }
 
   -- ---- one block
-  module _ (y : (k block : ℕ) → ℕ) (b : ℕ) where
-    pub value-at : (a : ℕ) → a < length (users-in p r) → getD (values-of p r y b) a 0 ≡ y (getD (users-in p r) a 0) b
-    unfolding values-of
-    value-at a h =
-        padded-at 8 (map (λ k. y k b) (users-in p r)) a (omega (arith, length-map (users-in p r) (λ k. y k b))) ∙ map-at (λ k. y k b) (users-in p r) a h
+  module _ (y : (k block : ℕ) → ℕ) where
+    abbrev m : ℕ
+    m = length (users-in p r)
 
-    block-of : ((a : ℕ) → a < length (users-in p r) → getD (values-of p r y b) a 0 < q)
-        → Block p (users-in p r) (length (users-in p r)) (λ k. y k b) (rows-of p r) columns (values-of p r y b)
-    unfolding rows-of
-    block-of small = record {
-      many = enough-rows;
-      columns = λ i h. column-at i (omega (arith, good .threshold-high, good .users-high));
-      rows = padded-at 8 (users-in p r);
-      values = value-at;
-      small = small;
-    }
+    pub explained-small : (f : (block : ℕ) → List ℕ) → explains-all sixteen p r y f ≡ true
+        → (a b : ℕ) → a < length (users-in p r) → b < p .blocks → y (getD (users-in p r) a 0) b < q
+    explained-small f h a b l k =
+        subst (λ (x : ℕ). x < q) (explained sixteen p r y f h b k .fits a l)
+        (row-value-small sixteen most-users most-threshold laws16 (p .threshold) (getD (users-in p r) a 0) (unknown (f b)))
 
-    pub values-small : ((k : ℕ) → y k b < q) → (a : ℕ) → a < length (users-in p r) → getD (values-of p r y b) a 0 < q
-    values-small h a l = rw (value-at a l) (h (getD (users-in p r) a 0))
+    module _ (b : ℕ) where
+      pub value-at : (a : ℕ) → a < length (users-in p r) → getD (values-of p r y b) a 0 ≡ y (getD (users-in p r) a 0) b
+      unfolding values-of
+      value-at a h =
+          padded-at most-users (map (λ k. y k b) (users-in p r)) a (omega (arith, length-map (users-in p r) (λ k. y k b)))
+          ∙ map-at (λ k. y k b) (users-in p r) a h
 
-    choice-take : take (p .threshold) (solution-of (rows-of p r) columns (values-of p r y b) (p .threshold)) ≡ choice-of p r y b
-    unfolding solution-of filled choice-of padded
-    choice-take = take-at _ _ (p .threshold) (map-span-length _ (p .threshold) 0)
+      pub values-small : ((k : ℕ) → y k b < q) → (a : ℕ) → a < length (users-in p r) → getD (values-of p r y b) a 0 < q
+      values-small h a l = rw (value-at a l) (h (getD (users-in p r) a 0))
 
-    module _ (small : (a : ℕ) → a < length (users-in p r) → getD (values-of p r y b) a 0 < q) where
-      abbrev users : List ℕ
-      users = users-in p r
+      choice-take : take (p .threshold) (solution-of (rows-of p r) columns (values-of p r y b) (p .threshold)) ≡ choice-of p r y b
+      unfolding solution-of filled choice-of padded
+      choice-take = take-at _ _ (p .threshold) (map-span-length _ (p .threshold) 0)
 
-      pub choice-first : Explained sixteen p (users-in p r) (p .threshold) (λ k. y k b) (choice-of p r y b)
-      choice-first =
-          subst (Explained sixteen p users (p .threshold) (λ k. y k b)) choice-take
-          (explains-first p users (length users) (λ k. y k b) (rows-of p r) columns (values-of p r y b) (block-of small) rows-square)
+      abbrev pub Explains : (n : ℕ) (unknowns : List ℕ) → Type 0
+      Explains n = Explained sixteen p (users-in p r) n (λ k. y k b)
 
-      pub fits-same : fits-of (rows-of p r) columns (values-of p r y b) (solution-of (rows-of p r) columns (values-of p r y b) (p .threshold)) (p .threshold) (length (users-in p r))
-          ≡ explains sixteen p r (λ k. y k b) (choice-of p r y b)
-      fits-same =
-          same-test _ _
-          (λ e. facts-explains p r (λ k. y k b) (choice-of p r y b)
-          (subst (Explained sixteen p users (length users) (λ k. y k b)) choice-take
-          (fits-explains p users (length users) (λ k. y k b) (rows-of p r) columns (values-of p r y b) (block-of small) rows-square e)))
-          (λ e. explains-fits p users (length users) (λ k. y k b) (rows-of p r) columns (values-of p r y b) (block-of small) rows-square
-          (subst (Explained sixteen p users (length users) (λ k. y k b)) (sym choice-take) (explains-facts p r (λ k. y k b) (choice-of p r y b) e)))
+      abbrev pub further-fit : Bool
+      further-fit =
+          fits-of (rows-of p r) columns (values-of p r y b) (solution-of (rows-of p r) columns (values-of p r y b) (p .threshold)) (p .threshold)
+          (length (users-in p r))
 
-    -- replies that something explains are elements
-    pub explained-small : (w : List ℕ) → explains sixteen p r (λ k. y k b) w ≡ true → elements sixteen (values-of p r y b) ≡ true
-    unfolding explains values-of padded
-    explained-small w h =
-        elements-append sixteen (map (λ k. y k b) (users-in p r)) _
-        (elements-map sixteen (λ k. y k b) (users-in p r) (λ k m.
-        subst (λ (x : ℕ). x < q)
-        (eqb-true (row-value sixteen (p .threshold) k (λ j. getD w (j - 1) 0)) (y k b) (all-of-in _ (users-in p r) (both (eqb (length w) (p .threshold) && elements sixteen w) _ h .1) k m))
-        (row-value-small sixteen 8 7 laws16 (p .threshold) k (λ j. getD w (j - 1) 0))))
-        (elements-zeros (8 - length (map (λ k. y k b) (users-in p r))))
+      module _ (small : (a : ℕ) → a < length (users-in p r) → getD (values-of p r y b) a 0 < q) where
+        block : Block p (users-in p r) m (λ k. y k b) (rows-of p r) columns (values-of p r y b)
+        block = record {
+          many = enough-rows;
+          columns = λ i h. column-at i (omega (arith, good .threshold-high, good .users-high));
+          rows = row-at p r;
+          values = value-at;
+          small = small;
+        }
+
+        pub choice-first : Explains (p .threshold) (choice-of p r y b)
+        choice-first = subst (Explains (p .threshold)) choice-take (explains-first _ _ _ _ _ _ _ block rows-square)
+
+        pub explains-further : further-fit ≡ true → Explains (length (users-in p r)) (choice-of p r y b)
+        explains-further e = subst (Explains m) choice-take (fits-explains _ _ _ _ _ _ _ block rows-square e)
+
+        pub fits-further : Explains (length (users-in p r)) (choice-of p r y b) → further-fit ≡ true
+        fits-further e = explains-fits _ _ _ _ _ _ _ block rows-square (subst (Explains m) (sym choice-take) e)

@@ -1,8 +1,9 @@
 -- All blocks, as the code solves them.
+--   same-test, all-swap                                         two tests of which each gives the other; a test of every pair
 --   system-few, system-many, system-points, system-ready        the system of the complete replies
 --   unknowns-right, fits-right, nothing-fits                    its unknowns, and whether they explain the replies
 -- Assumes nothing.
-use mathlib.Core.Path.{_≡_, sym, ap, ap₂, _∙_, subst}
+use mathlib.Core.Path.{_≡_, refl, sym, ap, ap₂, _∙_, subst}
 use mathlib.Core.Bool.{Bool, true, false}
 use mathlib.Core.List.{List}
 use Prim.Native.Nat.{ℕ, _+_, _*_, _-_, _≤_, _<_}
@@ -10,26 +11,33 @@ use native.Mathlib.Nat.{zero-add}
 use native.Mathlib.Omega.{arith}
 use lib.Dec.{eqb, lit<}
 use lib.ListN.{length, getD}
+use Rattle.algebra.specs.Sums.{In}
+use Rattle.scheme.specs.Limits.{most-users, most-blocks}
 use Rattle.scheme.specs.Lists.{span, all-of}
 use Rattle.scheme.specs.Scheme.{sixteen, q, elements, Plan, users-in}
 use Rattle.scheme.specs.Totals.{explains-all}
 use Rattle.scheme.proofs.Lists.{map-span-at, span-in, in-span}
 use Rattle.scheme.proofs.Keys.{whole-list, elements-at, elements-map}
 use Rattle.scheme.proofs.Tests.{is-false, holds}
-use Rattle.scheme.proofs.Totals.{all-of-in, at-all-of, all-of-same, in-at}
+use Rattle.scheme.proofs.Totals.{all-of-in, at-all-of, all-of-same, in-at, explained, explained-back}
+use Rattle.plan.specs.declared.Plan as code
 use Rattle.plan.specs.Plan.{plan-of}
 use Rattle.solve.specs.Solve.{Points, Ready, unknown-at, solution-of, dot-of, fits-of, cell, block, unknowns-of, row-fits}
-use Rattle.solve.proofs.Filled.{padded-at, filled-at}
+use Rattle.solve.proofs.Filled.{filled-at}
 use Rattle.solve.proofs.Grids.{unknowns-at}
 use Rattle.solve.proofs.Solution.{block-at, dot-same, unknown-same}
 use Rattle.finish.specs.Finish.{rows-of, values-of, columns, choice-of}
 use Rattle.finish.specs.Parts.{held-in, Prepared, Gathered}
 use Rattle.finish.specs.declared.System.{System}
-use Rattle.finish.proofs.Blocks.{same-test, users-few, enough-rows, rows-square, listed-few, listed-points, value-at, fits-same, explained-small}
+use Rattle.finish.proofs.Blocks.{users-few, enough-rows, rows-square, listed-few, listed-points, listed-at, value-at, explains-further, fits-further, explained-small}
 
 -- ---- tests of a list
 elements-every : (l : List ℕ) → ((k : ℕ) → getD l k 0 < q) → elements sixteen l ≡ true
 elements-every l h = ap (elements sixteen) (sym (whole-list l)) ∙ elements-map sixteen (λ k. getD l k 0) (span (length l) 0) (λ k m. h k)
+
+same-test : (a b : Bool) → (a ≡ true → b ≡ true) → (b ≡ true → a ≡ true) → a ≡ b
+same-test true b f g = sym (f refl)
+same-test false b f g = sym (is-false b (λ e. holds (g e)))
 
 -- a test of every pair of two lists, by either first
 all-swap : (s : (a b : ℕ) → Bool) (ks bs : List ℕ) → all-of (λ a. all-of (s a) bs) ks ≡ all-of (λ b. all-of (λ a. s a b) ks) bs
@@ -39,93 +47,101 @@ all-swap s ks bs = same-test _ _ (turn s ks bs) (turn (λ b a. s a b) bs ks)
     turn s ks bs h = at-all-of _ bs (λ j l. at-all-of _ ks (λ i k. all-of-in (s (getD ks i 0)) bs (all-of-in _ ks h _ (in-at ks i k)) _ (in-at bs j l)))
 
 -- ---- the system of the complete replies
-module _ (s : System) (h : Prepared (s .plan) (s .users .set) s) where
+module _ (plan : code.Plan) (r : ℕ) (s : System) (h : Prepared plan r s) where
   abbrev p : Plan
-  p = plan-of (s .plan)
+  p = plan-of plan
 
-  abbrev r : ℕ
-  r = s .users .set
+  pub system-few : s .users .count ≤ most-users
+  system-few = listed-few p r (h .good .users-high) (s .users .list) (s .users .count) (h .listed .list-right) (h .listed .count-right)
 
-  pub system-few : s .users .count ≤ 8
-  system-few = listed-few p r (s .users .list) (s .users .count) (h .listed .list-right) (h .listed .count-right) (h .good .users-high)
-
-  pub system-many : s .plan .threshold ≤ s .users .count
+  pub system-many : plan .threshold ≤ s .users .count
   system-many = omega (arith, enough-rows p r (h .good) (h .enough), h .listed .count-right)
 
-  pub system-points : Points 8 (s .users .count) (s .users .list)
-  system-points = listed-points p r (s .users .list) (s .users .count) (h .listed .list-right) (h .listed .count-right) (h .good .users-high)
+  pub system-points : Points most-users (s .users .count) (s .users .list)
+  system-points = listed-points p r (h .good .users-high) (s .users .list) (s .users .count) (h .listed .list-right) (h .listed .count-right)
 
-  pub system-ready : (cs : List ℕ) → cs ≡ columns → Ready (s .users .list) cs (s .alpha) (s .beta) (s .plan .threshold)
+  user-at : (a : ℕ) → a < length (users-in p r) → getD (s .users .list) a 0 ≡ getD (users-in p r) a 0
+  user-at a l =
+      listed-at p r (h .good .users-high) (s .users .list) (s .users .count) (h .listed .list-right) (h .listed .count-right) a
+      (omega (arith, h .listed .count-right))
+
+  pub system-ready : (cs : List ℕ) → cs ≡ columns → Ready (s .users .list) cs (s .alpha) (s .beta) (plan .threshold)
   system-ready cs e =
       rw (h .listed .list-right, e) (record { square = rows-square p r (h .good) (h .enough); alpha-right = h .alpha-right; beta-right = h .beta-right })
 
   -- the replies as a grid, and its unknowns
-  module _ (ys cs g ws : List ℕ) (c : cs ≡ columns) (v : Gathered ys (s .users .list) (s .users .count) (s .plan .blocks) g)
-      (x : ws ≡ unknowns-of (s .users .list) cs g (s .plan .threshold)) where
+  module _ (ys cs g ws : List ℕ) (c : cs ≡ columns) (v : Gathered ys (s .users .list) (s .users .count) (plan .blocks) g)
+      (x : ws ≡ unknowns-of (s .users .list) cs g (plan .threshold)) where
     abbrev y : (k block : ℕ) → ℕ
-    y = held-in 16 ys
+    y = held-in most-blocks ys
 
     abbrev n : ℕ
-    n = s .plan .threshold
+    n = plan .threshold
 
-    reply-at : (a b : ℕ) → a < length (users-in p r) → held-in 16 ys (getD (s .users .list) a 0) b ≡ getD (values-of p r y b) a 0
-    unfolding rows-of
-    reply-at a b l =
-        ap (λ (k : ℕ). y k b) (ap (λ (us : List ℕ). getD us a 0) (h .listed .list-right) ∙ padded-at 8 (users-in p r) a l)
-        ∙ sym (value-at p r (h .good) (h .enough) y b a l)
+    abbrev m : ℕ
+    m = length (users-in p r)
 
-    cell-at : (a b : ℕ) → a < length (users-in p r) → b < s .plan .blocks → cell g a b ≡ getD (values-of p r y b) a 0
+    abbrev solved : (block at : ℕ) → ℕ
+    solved b = unknown-at (rows-of p r) columns (values-of p r y b) n
+
+    reply-at : (a b : ℕ) → a < m → y (getD (s .users .list) a 0) b ≡ getD (values-of p r y b) a 0
+    reply-at a b l = ap (λ (k : ℕ). y k b) (user-at a l) ∙ sym (value-at p r (h .good) (h .enough) y b a l)
+
+    cell-at : (a b : ℕ) → a < m → b < plan .blocks → cell g a b ≡ getD (values-of p r y b) a 0
     cell-at a b l k = v .each a b (omega (arith, h .listed .count-right)) k ∙ reply-at a b l
 
-    unknown-cell : (i b : ℕ) → i < n → b < s .plan .blocks → cell ws i b ≡ unknown-at (rows-of p r) columns (values-of p r y b) n i
+    unknown-cell : (i b : ℕ) → i < n → b < plan .blocks → cell ws i b ≡ solved b i
     unknown-cell i b l k =
         ap (λ (u : List ℕ). cell u i b) x ∙ unknowns-at _ cs g n i b l (omega (arith, h .good .blocks-high))
         ∙ ap₂ (λ (rs cs : List ℕ). unknown-at rs cs (block g b) n i) (h .listed .list-right) c
-        ∙ unknown-same _ _ _ _ n i (λ a m.
-        let few : a < length (users-in p r) = omega (arith, enough-rows p r (h .good) (h .enough)) in
-        block-at g b a (omega (arith, users-few p r, h .good .users-high)) ∙ cell-at a b few k)
+        ∙ unknown-same _ _ _ _ n i (λ a few.
+        let in-set : a < m = omega (arith, enough-rows p r (h .good) (h .enough)) in
+        block-at g b a (omega (arith, users-few p r, h .good .users-high)) ∙ cell-at a b in-set k)
 
-    pub unknowns-right : (i b : ℕ) → i < s .plan .threshold → b < s .plan .blocks → cell ws i b ≡ getD (choice-of p r (held-in 16 ys) b) i 0
+    pub unknowns-right : (i b : ℕ) → i < plan .threshold → b < plan .blocks → cell ws i b ≡ getD (choice-of p r (held-in most-blocks ys) b) i 0
     unfolding choice-of
-    unknowns-right i b l k =
-        unknown-cell i b l k
-        ∙ sym (map-span-at (unknown-at (rows-of p r) columns (values-of p r y b) n) n 0 i l ∙ ap (unknown-at (rows-of p r) columns (values-of p r y b) n) (zero-add i))
+    unknowns-right i b l k = unknown-cell i b l k ∙ sym (map-span-at (solved b) n 0 i l ∙ ap (solved b) (zero-add i))
 
     abbrev passes : (a b : ℕ) → Bool
-    passes a b = eqb (dot-of (getD (rows-of p r) a 0) columns (solution-of (rows-of p r) columns (values-of p r y b) n) n) (getD (values-of p r y b) a 0)
+    passes a b =
+        eqb (dot-of (getD (rows-of p r) a 0) columns (solution-of (rows-of p r) columns (values-of p r y b) n) n) (getD (values-of p r y b) a 0)
 
-    tested : (a b : ℕ) → a < length (users-in p r) → b < s .plan .blocks → eqb (dot-of (getD (s .users .list) a 0) cs (block ws b) n) (cell g a b) ≡ passes a b
+    tested : (a b : ℕ) → a < m → b < plan .blocks → eqb (dot-of (getD (s .users .list) a 0) cs (block ws b) n) (cell g a b) ≡ passes a b
     unfolding solution-of
     tested a b l k =
         ap₂ eqb
         (ap₂ (λ (rs cs : List ℕ). dot-of (getD rs a 0) cs (block ws b) n) (h .listed .list-right) c
-        ∙ dot-same (getD (rows-of p r) a 0) columns _ _ n (λ i m.
-        let few = rows-square p r (h .good) (h .enough) .few in
-        block-at ws b i (omega arith) ∙ unknown-cell i b m k ∙ sym (filled-at _ n i m)))
+        ∙ dot-same (getD (rows-of p r) a 0) columns _ _ n (λ i few.
+        block-at ws b i (omega (arith, rows-square p r (h .good) (h .enough) .few)) ∙ unknown-cell i b few k ∙ sym (filled-at _ n i few)))
         (cell-at a b l k)
 
-    pub fits-right : elements sixteen g ≡ true → all-of (row-fits (s .users .list) cs g ws (s .plan .threshold) (s .plan .blocks)) (span (s .users .count - s .plan .threshold) (s .plan .threshold))
-        ≡ explains-all sixteen p r (held-in 16 ys) (choice-of p r (held-in 16 ys))
-    unfolding row-fits fits-of explains-all
+    pub fits-right : elements sixteen g ≡ true
+        → all-of (row-fits (s .users .list) cs g ws (plan .threshold) (plan .blocks)) (span (s .users .count - plan .threshold) (plan .threshold))
+        ≡ explains-all sixteen p r (held-in most-blocks ys) (choice-of p r (held-in most-blocks ys))
+    unfolding row-fits fits-of
     fits-right ok =
-        let m : ℕ = length (users-in p r) in
         let ks : List ℕ = span (m - n) n in
-        let bs : List ℕ = span (s .plan .blocks) 0 in
-        ap (λ (k : ℕ). all-of (row-fits (s .users .list) cs g ws n (s .plan .blocks)) (span (k - n) n)) (h .listed .count-right)
-        ∙ all-of-same _ _ ks (λ a i.
-        all-of-same _ _ bs (λ b j. tested a b (omega (arith, span-in (m - n) n a i)) (omega (arith, span-in (s .plan .blocks) 0 b j))))
+        let bs : List ℕ = span (plan .blocks) 0 in
+        ap (λ (k : ℕ). all-of (row-fits (s .users .list) cs g ws n (plan .blocks)) (span (k - n) n)) (h .listed .count-right)
+        ∙ all-of-same _ _ ks (λ a i. all-of-same _ _ bs (λ b j. tested a b (omega (arith, span-in (m - n) n a i)) (block-in b j)))
         ∙ all-swap passes ks bs
-        ∙ all-of-same _ _ bs (λ b j.
-        fits-same p r (h .good) (h .enough) y b (λ a l.
-        subst (λ (z : ℕ). z < q) (cell-at a b l (omega (arith, span-in (s .plan .blocks) 0 b j))) (elements-at sixteen (lit< tt) g (a * 16 + b) ok)))
+        ∙ same-test _ _
+        (λ e. explained-back sixteen p r y (choice-of p r y) (λ b k.
+        explains-further p r (h .good) (h .enough) y b (small b k) (all-of-in _ bs e b (in-span (plan .blocks) 0 b (omega arith) (omega arith)))))
+        (λ e. at-all-of _ bs (λ j l.
+        let k = block-in (getD bs j 0) (in-at bs j l) in
+        fits-further p r (h .good) (h .enough) y (getD bs j 0) (small (getD bs j 0) k) (explained sixteen p r y (choice-of p r y) e (getD bs j 0) k)))
+      where
+        block-in : (b : ℕ) → In b (span (plan .blocks) 0) → b < plan .blocks
+        block-in b j = omega (arith, span-in (plan .blocks) 0 b j)
+
+        small : (b : ℕ) → b < plan .blocks → (a : ℕ) → a < m → getD (values-of p r y b) a 0 < q
+        small b k a l = subst (λ (z : ℕ). z < q) (cell-at a b l k) (elements-at sixteen (lit< tt) g (a * most-blocks + b) ok)
 
     -- a reply that is no element
-    pub nothing-fits : elements sixteen g ≡ false → false ≡ explains-all sixteen p r (held-in 16 ys) (choice-of p r (held-in 16 ys))
-    unfolding explains-all
+    pub nothing-fits : elements sixteen g ≡ false → false ≡ explains-all sixteen p r (held-in most-blocks ys) (choice-of p r (held-in most-blocks ys))
     nothing-fits bad =
         sym (is-false _ (λ d.
         holds (sym bad ∙ elements-every g (v .small q (lit< tt) (λ a b l k.
-        let few : a < length (users-in p r) = omega (arith, h .listed .count-right) in
-        subst (λ (z : ℕ). z < q) (sym (reply-at a b few))
-        (elements-at sixteen (lit< tt) (values-of p r y b) a
-        (explained-small p r (h .good) (h .enough) y b _ (all-of-in _ (span (s .plan .blocks) 0) d b (in-span (s .plan .blocks) 0 b (omega arith) (omega arith))))))))))
+        let in-list : a < m = omega (arith, h .listed .count-right) in
+        subst (λ (u : ℕ). y u b < q) (sym (user-at a in-list)) (explained-small p r (h .good) (h .enough) y _ d a b in-list k))))))

@@ -1,17 +1,18 @@
 -- What the finish call answers and leaves, for every state value.
---   rows-of, values-of, columns   the users of a set, and their replies of a block, in eight places; the columns' points
+--   rows-of, values-of, columns   the users of a set, and their replies of a block, in a place for each user; the columns' points
 --   choice-of, choice             the sums and noise of each block: the closed solution of the first U complete replies
 --   finish-refusal                11, 12, 15, 16; on a well-formed state the plan's test never acts
 --   finished, finish-refused      the state after a finish; what a refused one hands back
 --   finishing                     the same where head and arrays stand apart
 --   finish-answer, finish-step    the whole answer, of a refusal's number and of a state
 -- Assumes nothing: these are definitions.
-use mathlib.Core.List.{List, [], _∷_, map}
-use Prim.Native.Nat.{ℕ, zero, suc, _-_}
+use mathlib.Core.List.{List, map}
+use Prim.Native.Nat.{ℕ}
 use lib.Dec.{leb}
 use lib.ListN.{replicate}
+use Rattle.scheme.specs.Limits.{most-users, most-threshold, most-places}
 use Rattle.scheme.specs.Lists.{span, padded}
-use Rattle.scheme.specs.Scheme.{sixteen, Plan, plan-good, ones, users-in, _then_, unless}
+use Rattle.scheme.specs.Scheme.{sixteen, Plan, plan-good, ones, users-in, _then_, unless, after}
 use Rattle.scheme.specs.Service.{has-plan, is-replying, replied, values, explained-by, totals-by}
 use Rattle.plan.specs.Plan.{plan-of}
 use Rattle.solve.specs.Solve.{unknown-at}
@@ -24,13 +25,14 @@ use Rattle.finish.specs.declared.FinishedHead.{FinishedHead}
 use Rattle.finish.specs.declared.Finished.{Finished}
 
 unfoldable pub rows-of : Plan → (set : ℕ) → List ℕ
-rows-of p r = padded 8 (users-in p r)
+rows-of p r = padded most-users (users-in p r)
 
 unfoldable pub values-of : Plan → (set : ℕ) → (replies : (k block : ℕ) → ℕ) → (block : ℕ) → List ℕ
-values-of p r y b = padded 8 (map (λ k. y k b) (users-in p r))
+values-of p r y b = padded most-users (map (λ k. y k b) (users-in p r))
 
+-- column i, from 0 on, is at the point i + 1
 abbrev pub columns : List ℕ
-columns = 1 ∷ 2 ∷ 3 ∷ 4 ∷ 5 ∷ 6 ∷ 7 ∷ 0 ∷ []
+columns = padded most-users (span most-threshold 1)
 
 unfoldable pub choice-of : Plan → (set : ℕ) → (replies : (k block : ℕ) → ℕ) → (block : ℕ) → List ℕ
 choice-of p r y b = map (unknown-at (rows-of p r) columns (values-of p r y b) (p .threshold)) (span (p .threshold) 0)
@@ -55,15 +57,19 @@ finished h =
 
 -- a refused finish hands back its number alone: the totals are 0
 abbrev pub finish-refused : (number : ℕ) → Service → Finished
-finish-refused n s = record { number = n; totals = replicate 96 0; service = s }
+finish-refused n s = record { number = n; totals = replicate most-places 0; service = s }
 
 -- where head and arrays stand apart
 abbrev pub finishing : FinishedHead → (first reply : List ℕ) → Finished
 finishing r xs ys = record { number = r .number; totals = r .totals; service = lent (r .head) xs ys }
 
 unfoldable pub finish-answer : (refusal : ℕ) → Service → Finished
-finish-answer zero s = record { number = 0; totals = padded 96 (totals-by sixteen (view s) (choice s)); service = finished (s .head) }
-finish-answer (suc n) s = finish-refused (suc n) s
+finish-answer n s =
+    record {
+      number = n;
+      totals = after n (padded most-places (totals-by sixteen (view s) (choice s))) (replicate most-places 0);
+      service = after n (finished (s .head)) s;
+    }
 
 unfoldable pub finish-step : Service → Finished
 finish-step s = finish-answer (finish-refusal s) s

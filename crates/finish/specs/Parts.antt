@@ -1,19 +1,19 @@
 -- What the functions under finish answer.
---   held-in                     the element of a user in an array, and 0 where none is held
---   Listed, Prepared            the users of a set; the system of the complete replies
---   Gathered, Blocks-solved     the replies of all blocks; the closed solution of each, and whether it explains them
---   first-of, Low, First-sums   the sum of the first elements of a place; of each place, not reduced
---   total-from, place-total     the totals of a block, from a place on; of a place
---   Totalled                    whether the replies are explained, and then the totals
---   given-refused, given        what finish answers of a state, without the state after it
+--   held-in                              the element of a user in an array, and 0 where none is held
+--   Listed, Prepared                     the users of a set; the system of the complete replies
+--   Gathered, Blocks-solved              the replies of all blocks; the closed solution of each, and whether it explains them
+--   most-word, most-sum, At-most         the largest number of 16 bits; of a sum of one for each user; bounds of a list
+--   raised, first-sum, First-sums        a sum and one element more; the sum of the first elements of a place; of each place, not reduced
+--   block-total, place-total             a total: by its block and item, by its place
+--   Totalled, Answered                   the number and the totals: of a set of complete replies, of a state
 -- Assumes nothing: these are definitions.
 use mathlib.Core.Path.{_≡_}
-use mathlib.Core.Bool.{true}
 use mathlib.Core.List.{List}
-use Prim.Native.Nat.{ℕ, _+_, _*_, _/_, _%_, _≤_, _<_}
+use Prim.Native.Nat.{ℕ, _+_, _*_, _-_, _/_, _%_, _≤_, _<_}
 use lib.ListN.{length, getD, replicate}
+use Rattle.scheme.specs.Limits.{most-users, most-blocks, most-places}
 use Rattle.scheme.specs.Lists.{span, padded}
-use Rattle.scheme.specs.Scheme.{q, sixteen, sum, Plan, ones, users-in}
+use Rattle.scheme.specs.Scheme.{Arithmetic, modular, sixteen, sum, Plan, ones, users-in, unless, after}
 use Rattle.scheme.specs.Good.{Good}
 use Rattle.scheme.specs.Totals.{explains-all, totals}
 use Rattle.scheme.specs.Service.{values}
@@ -25,21 +25,17 @@ use Rattle.service.specs.View.{look}
 use Rattle.finish.specs.declared.Users.{Users}
 use Rattle.finish.specs.declared.System.{System}
 use Rattle.finish.specs.declared.Explained.{Explained}
-use Rattle.finish.specs.declared.Summed.{Summed}
-use Rattle.finish.specs.declared.Given.{Given}
-use Rattle.finish.specs.Finish.{rows-of, columns, choice-of, finish-step}
+use Rattle.finish.specs.Finish.{rows-of, columns, choice-of, finish-refusal, finish-answer}
 
 abbrev pub held-in : (stride : ℕ) → List ℕ → (k at : ℕ) → ℕ
 held-in w xs = values (look w xs)
 
 pub record Listed (p : Plan) (v : ℕ) (us : Users) : Type 0 where
-  pub set-kept : us .set ≡ v
   pub list-right : us .list ≡ rows-of p v
   pub count-right : us .count ≡ length (users-in p v)
 
 -- at least U users of a good plan
 pub record Prepared (p : code.Plan) (r : ℕ) (s : System) : Type 0 where
-  pub plan-kept : s .plan ≡ p
   pub good : Good (plan-of p)
   pub enough : p .threshold ≤ ones (p .users) r
   pub listed : Listed (plan-of p) r (s .users)
@@ -48,38 +44,51 @@ pub record Prepared (p : code.Plan) (r : ℕ) (s : System) : Type 0 where
 
 -- the grid of the replies: count rows, in each the numbers of the blocks; it is made of these numbers and 0
 pub record Gathered (reply rows : List ℕ) (count blocks : ℕ) (g : List ℕ) : Type 0 where
-  pub each : (a b : ℕ) → a < count → b < blocks → cell g a b ≡ held-in 16 reply (getD rows a 0) b
-  pub small : (m : ℕ) → 0 < m → ((a b : ℕ) → a < count → b < blocks → held-in 16 reply (getD rows a 0) b < m) → (k : ℕ) → getD g k 0 < m
+  pub each : (a b : ℕ) → a < count → b < blocks → cell g a b ≡ held-in most-blocks reply (getD rows a 0) b
+  pub small : (m : ℕ) → 0 < m → ((a b : ℕ) → a < count → b < blocks → held-in most-blocks reply (getD rows a 0) b < m)
+      → (k : ℕ) → getD g k 0 < m
 
 pub record Blocks-solved (p : Plan) (r : ℕ) (reply : List ℕ) (e : Explained) : Type 0 where
-  pub fits-right : e .fits ≡ explains-all sixteen p r (held-in 16 reply) (choice-of p r (held-in 16 reply))
-  pub unknowns-right : (i b : ℕ) → i < p .threshold → b < p .blocks → cell (e .unknowns) i b ≡ getD (choice-of p r (held-in 16 reply) b) i 0
+  pub fits-right : e .fits ≡ explains-all sixteen p r (held-in most-blocks reply) (choice-of p r (held-in most-blocks reply))
+  pub unknowns-right : (i b : ℕ) → i < p .threshold → b < p .blocks
+      → cell (e .unknowns) i b ≡ getD (choice-of p r (held-in most-blocks reply) b) i 0
+
+-- ---- sums that are not reduced
+abbrev pub most-word : ℕ
+most-word = 65535
+
+abbrev pub most-sum : ℕ
+most-sum = most-users * most-word
+
+-- the first n numbers of a list
+pub record At-most (most n : ℕ) (xs : List ℕ) : Type 0 where
+  pub low : (i : ℕ) → i < n → getD xs i 0 ≤ most
+
+-- a sum with the first element that is held at `from` and i
+abbrev pub raised : (sums first : List ℕ) → (from i : ℕ) → ℕ
+raised ss xs from i = getD ss i 0 + (getD xs (from + i) 0 - 1)
 
 -- the first elements of a place, over the first n rows
-unfoldable pub first-of : (first rows : List ℕ) → (n place : ℕ) → ℕ
-first-of xs rs n i = sum sixteen (span n 0) (λ a. held-in 96 xs (getD rs a 0) i)
+unfoldable pub first-sum : Arithmetic → (first rows : List ℕ) → (n place : ℕ) → ℕ
+first-sum A xs rs n i = sum A (span n 0) (λ a. held-in most-places xs (getD rs a 0) i)
 
--- eight numbers of 16 bits in each of the first n places
-pub record Low (sums : List ℕ) (n : ℕ) : Type 0 where
-  pub low : (i : ℕ) → i < n → getD sums i 0 ≤ 8 * 65535
+pub record First-sums (q : ℕ) (first rows : List ℕ) (n places : ℕ) (sums : List ℕ) : Type 0 where
+  pub small : At-most most-sum places sums
+  pub right : (i : ℕ) → i < places → getD sums i 0 % q ≡ first-sum (modular q) first rows n i
 
-pub record First-sums (first rows : List ℕ) (n places : ℕ) (sums : List ℕ) : Type 0 where
-  pub small : Low sums places
-  pub right : (i : ℕ) → i < places → getD sums i 0 % q ≡ first-of first rows n i
+-- ---- totals
+-- item j of a block whose places start at `at`
+unfoldable pub block-total : Arithmetic → (sums unknowns : List ℕ) → (block at j : ℕ) → ℕ
+block-total A xs ws b at j = A .subtract (getD xs (at + j) 0) (cell ws j b)
 
-unfoldable pub total-from : (sums unknowns : List ℕ) → (block at j : ℕ) → ℕ
-total-from xs ws b at j = sixteen .subtract (getD xs (at + j) 0) (cell ws j b)
+unfoldable pub place-total : Arithmetic → (sums unknowns : List ℕ) → (items place : ℕ) → ℕ
+place-total A xs ws n i = A .subtract (getD xs i 0) (cell ws (i % n) (i / n))
 
-unfoldable pub place-total : (sums unknowns : List ℕ) → (items place : ℕ) → ℕ
-place-total xs ws n i = sixteen .subtract (getD xs i 0) (cell ws (i % n) (i / n))
+pub record Totalled (p : Plan) (r v : ℕ) (first reply : List ℕ) (n : ℕ) (out : List ℕ) : Type 0 where
+  pub number-right : n ≡ unless (explains-all sixteen p r (held-in most-blocks reply) (choice-of p r (held-in most-blocks reply))) 16
+  pub totals-right : out
+      ≡ after n (padded most-places (totals sixteen p v (held-in most-places first) (choice-of p r (held-in most-blocks reply)))) (replicate most-places 0)
 
-pub record Totalled (p : Plan) (r v : ℕ) (first reply : List ℕ) (t : Summed) : Type 0 where
-  pub explained-right : t .explained ≡ explains-all sixteen p r (held-in 16 reply) (choice-of p r (held-in 16 reply))
-  pub totals-right : t .explained ≡ true → t .totals ≡ padded 96 (totals sixteen p v (held-in 96 first) (choice-of p r (held-in 16 reply)))
-
--- what finish hands back of a state, without the state after it
-abbrev pub given-refused : (number : ℕ) → Given
-given-refused n = record { number = n; totals = replicate 96 0 }
-
-unfoldable pub given : Service → Given
-given s = record { number = finish-step s .number; totals = finish-step s .totals }
+pub record Answered (s : Service) (n : ℕ) (out : List ℕ) : Type 0 where
+  pub number-right : n ≡ finish-refusal s
+  pub totals-right : out ≡ finish-answer n s .totals

@@ -9,6 +9,7 @@ use mathlib.Core.Bool.{true}
 use mathlib.Core.List.{List, map}
 use Prim.Native.Nat.{ℕ}
 use lib.ListN.{take}
+use Rattle.scheme.specs.Limits.{most-places}
 use Rattle.scheme.specs.Lists.{span, padded}
 use Rattle.scheme.specs.Scheme.{sixteen, places, total-at}
 use Rattle.scheme.specs.Promise.{Table, admissible, list-good}
@@ -23,15 +24,17 @@ use Rattle.finish.specs.Finish.{finish-refused, finish-step}
 unfoldable pub Finish-steps : Type 0
 Finish-steps =
     (s : Service) → Formed s →
-    Is-step finish-record s (told (finish-step s .number) (totalled (s .head .round) (take (places (plan-of (s .head .plan))) (finish-step s .totals)))) (finish-step s .service)
+    let t = finish-step s in
+    Is-step finish-record s (told (t .number) (totalled (s .head .round) (take (places (plan-of (s .head .plan))) (t .totals)))) (t .service)
 
 -- whatever else was sent
 unfoldable pub Finish-right : Type 0
 Finish-right =
-    (s : Service) (xs : List ℕ) (x : Table) → Formed s → refusal sixteen finish-record (view s) ≡ 0 → list-good sixteen (plan-of (s .head .plan)) xs ≡ true →
-    admissible sixteen (plan-of (s .head .plan)) x →
-    Follows sixteen (plan-of (s .head .plan)) xs x (s .head .survivors) (replied (view s)) (values (view s .firsts)) (values (view s .replies)) →
-    (finish-step s .number ≡ 0) × (finish-step s .totals ≡ padded 96 (map (total-at sixteen (plan-of (s .head .plan)) x (s .head .survivors)) (span (places (plan-of (s .head .plan))) 0)))
+    (s : Service) (xs : List ℕ) (x : Table) →
+    let p = plan-of (s .head .plan) in
+    Formed s → refusal sixteen finish-record (view s) ≡ 0 → list-good sixteen p xs ≡ true → admissible sixteen p x →
+    Follows sixteen p xs x (s .head .survivors) (replied (view s)) (values (view s .firsts)) (values (view s .replies)) →
+    (finish-step s .number ≡ 0) × (finish-step s .totals ≡ padded most-places (map (total-at sixteen p x (s .head .survivors)) (span (places p) 0)))
 
 unfoldable pub Refused-unchanged : Type 0
 Refused-unchanged = (s : Service) → finish-step s .number ≢ 0 → finish-step s ≡ finish-refused (finish-step s .number) s

@@ -1,103 +1,62 @@
 -- `finish::add_first` meets its contract. The loop's invariant: the first i sums are new, and the others old.
 -- The measure is how many are left. Assumes nothing.
-use mathlib.Core.Path.{_≡_, ap₂, subst}
+use mathlib.Core.Path.{_≡_, ap, ap₂, _∙_, subst}
 use mathlib.Core.Logic.{⊎-elim}
-use mathlib.Core.List.{List}
+use mathlib.Core.List.{List, map}
 use Prim.Native.Nat.{ℕ, _+_, _-_, _≤_, _<_}
 use native.Mathlib.Nat.{zero-add, eq-or-lt-of-le}
 use native.Mathlib.Omega.{arith}
 use lib.ListN.{getD, set}
 use borrow.Author.Needs.{needs}
+use Rattle.scheme.specs.Lists.{span}
 use Rattle.scheme.proofs.Tests.{none-below}
-use Rattle.solve.proofs.Grids.{Putting, putting-start, putting-more, putting-end}
+use Rattle.scheme.proofs.Lists.{map-span-length}
+use Rattle.finish.specs.Parts.{most-word, raised}
+use Rattle.finish.proofs.Padded.{sets-behind}
+use Rattle.finish.proofs.Turns.{Storing, storing-start, storing-more, storing-end}
 use Rattle.finish.proofs.add_first.Statement.{statement}
 use Rattle.finish.proofs.add_first.Tie as tie
 
-abbrev raised : (sums first : List ℕ) → (from i : ℕ) → ℕ
-raised xs ys from i = getD xs i 0 + (getD ys (from + i) 0 - 1)
+-- the sum that stands at i before its turn
+old-at : {f : ℕ → ℕ} {n : ℕ} {old new : List ℕ} (i : ℕ) → Storing f n 0 old i new → getD new i 0 ≡ getD old i 0
+old-at {f} {old = old} i s = ap (λ (l : List ℕ). getD l i 0) (s .done) ∙ sets-behind old (map f (span i 0)) 0 i (omega (arith, map-span-length f i 0))
 
-next : (f : ℕ → ℕ) (n : ℕ) (old new : List ℕ) (i x : ℕ) → Putting f n 0 old (i + 1) (set new (0 + i) x) → Putting f n 0 old (i + 1) (set new i x)
-next f n old new i x = subst (λ (k : ℕ). Putting f n 0 old (i + 1) (set new k x)) (zero-add i)
+next : {f : ℕ → ℕ} {n : ℕ} {old new : List ℕ} (i : ℕ) {x : ℕ} → i < n → x ≡ f i → Storing f n 0 old i new → Storing f n 0 old (i + 1) (set new i x)
+next {f} {n} {old} {new} i {x} l e s =
+    subst (λ (k : ℕ). Storing f n 0 old (i + 1) (set new k x)) (zero-add i) (storing-more f n 0 old i x new l e s)
 
 abbrev Inv-loop : tie.InvT-loop
-Inv-loop sums₀ first from places i₀ sums i = Putting (raised sums₀ first from) places 0 sums₀ i sums × ((j : ℕ) → j < i → getD first (from + j) 0 - 1 ≤ 65535)
+Inv-loop sums₀ first from places i₀ sums i =
+    Storing (raised sums₀ first from) places 0 sums₀ i sums × ((j : ℕ) → j < i → getD first (from + j) 0 - 1 ≤ most-word)
 
 abbrev μ-loop : tie.MeasureT-loop
 μ-loop sums₀ first from places i₀ sums i = places - i
 
 loop-holds : tie.Need-loop-holds Inv-loop μ-loop
-loop-holds c = (putting-start _ _ _ _, λ j h. absurd (none-below j h))
-
-mul-sums : tie.Need-mul-sums Inv-loop μ-loop
-mul-sums c = search needs
-
-element-copy-out-sums : tie.Need-element-copy-out-sums Inv-loop μ-loop
-element-copy-out-sums c = search needs
-
-add-element-in : tie.Need-add-element-in Inv-loop μ-loop
-add-element-in c = search needs
-
-mul-element-in : tie.Need-mul-element-in Inv-loop μ-loop
-mul-element-in c = search needs
-
-element-copy-out-element-in : tie.Need-element-copy-out-element-in Inv-loop μ-loop
-element-copy-out-element-in c = search needs
-
-element-in-requires : tie.Need-element-in-requires Inv-loop μ-loop
-element-in-requires c κs = search needs
-
-cast-sums : tie.Need-cast-sums Inv-loop μ-loop
-cast-sums c = search needs
+loop-holds c = (storing-start _ _ _ _, λ j h. absurd (none-below j h))
 
 add-sums : tie.Need-add-sums Inv-loop μ-loop
 add-sums c =
-    let l = c .before .before .before .before .loop in
     let t = c .before .before .before in
-    omega (arith, l .inv .0 .put .rest (l .i) (omega arith), t .before .before .pre .1 (l .i) (t .loop-test .taken))
-
-mul-sums-2 : tie.Need-mul-sums-2 Inv-loop μ-loop
-mul-sums-2 c = search needs
-
-element-write-sums : tie.Need-element-write-sums Inv-loop μ-loop
-element-write-sums c = search needs
-
-add-i : tie.Need-add-i Inv-loop μ-loop
-add-i c = search needs
-
-loop-less : tie.Need-loop-less Inv-loop μ-loop
-loop-less c = search needs
+    let l = t .before .loop in
+    omega (arith, old-at (l .i) (l .inv .0), t .before .before .pre .1 .low (l .i) (t .loop-test .taken))
 
 loop-again : tie.Need-loop-again Inv-loop μ-loop
 loop-again c =
-    let l = c .before .before .before .before .loop in
-    let e = ap₂ (λ (x y : ℕ). x + y) (l .inv .0 .put .rest (l .i) (omega arith)) (c .element-in .ensures) in (
-      next _ _ _ (l .sums) (l .i) (getD (l .sums) (l .i) 0 + c .element-in .result)
-          (putting-more _ _ _ _ (l .i) _ _ (c .before .before .before .loop-test .taken) (omega arith) e (l .inv .0)),
+    let t = c .before .before .before in
+    let l = t .before .loop in
+    let e = ap₂ (λ (x y : ℕ). x + y) (old-at (l .i) (l .inv .0)) (c .element-in .ensures) in (
+      next (l .i) (t .loop-test .taken) e (l .inv .0),
       λ j h.
           ⊎-elim (λ (d : j ≡ l .i). rw d (omega (arith, c .element-in .ensures))) (λ (d : j < l .i). l .inv .1 j d) (eq-or-lt-of-le (omega arith)),
     )
 
 returns : tie.Need-returns Inv-loop μ-loop
-returns c = (putting-end _ _ _ _ _ _ (c .loop-test .left) (c .before .loop .inv .0), λ i h. c .before .loop .inv .1 i (omega arith))
+returns c = (storing-end _ _ _ _ _ _ (c .loop-test .left) (c .before .loop .inv .0), λ i h. c .before .loop .inv .1 i (omega arith))
 
 pub add-first-spec : {M : Type 1} → statement M
 add-first-spec =
     tie.close
-    (tie.spec
-    Inv-loop
-    μ-loop
-    loop-holds
-    mul-sums
-    element-copy-out-sums
-    add-element-in
-    mul-element-in
-    element-copy-out-element-in
-    element-in-requires
-    cast-sums
-    add-sums
-    mul-sums-2
-    element-write-sums
-    add-i
-    loop-less
-    loop-again
-    returns)
+    (tie.spec Inv-loop μ-loop loop-holds (λ c. search needs) (λ c. search needs) (λ c. search needs) (λ c. search needs)
+    (λ c. search needs) (λ c κs. search needs) (λ c. search needs) add-sums (λ c. search needs) (λ c. search needs)
+    (λ c. search needs) (λ c. search needs) loop-again returns)

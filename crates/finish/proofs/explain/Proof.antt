@@ -6,68 +6,66 @@ use Rattle.finish.proofs.Systems.{system-few, system-many, system-point
 use Rattle.finish.proofs.explain.Statement.{statement}
 use Rattle.finish.proofs.explain.Tie as tie
 
-the-columns-requires : tie.Need-the-columns-requires
-the-columns-requires c κs = search needs
+-- ---- the places where the facts stand
+abbrev prepared : tie.After-the-columns → tie.After-system-of
+prepared c = c .before .before .before
 
-cast-n : tie.Need-cast-n
-cast-n c = search needs
+abbrev pointed : tie.After-rows2 → tie.After-the-columns
+pointed c = let weighed = c .before .before .before in weighed .before .before
 
-cast-blocks : tie.Need-cast-blocks
-cast-blocks c = search needs
+abbrev gathered : tie.After-values → tie.After-gather
+gathered c = let lent = c .before .before .before in lent .before .before
+
+abbrev solved : tie.After-all-elements → tie.After-solve
+solved c = c .before .before
+
+abbrev tested : tie.After-unknowns → tie.Else1
+tested c = c .before .before .before .before
+
+-- ---- the needs
+system-of-requires : tie.Need-system-of-requires
+system-of-requires c κs = c .pre
 
 gather-requires : tie.Need-gather-requires
-gather-requires c κs =
-    let h = c .before .before .before .before .before .before .before .before .before .pre in
-    (system-few _ h, h .good .blocks-high, system-points _ h)
+gather-requires c κs = let h = prepared (pointed c) .system-of .ensures in (system-few _ _ _ h, h .good .blocks-high, system-points _ _ _ h)
 
 solve-requires : tie.Need-solve-requires
-solve-requires c κs = system-ready _ (c .before .before .before .before .before .before .before .before .before .before .before .before .before .before .before .pre) _ (c .before .before .before .before .before .before .before .before .before .before .before .the-columns .ensures)
-
-slice-aggregate-all-elements : tie.Need-slice-aggregate-all-elements
-slice-aggregate-all-elements c = search needs
-
-all-elements-requires : tie.Need-all-elements-requires
-all-elements-requires c κs = search needs
+solve-requires c κs = let k = pointed (gathered c .before) in system-ready _ _ _ (prepared k .system-of .ensures) _ (k .the-columns .ensures)
 
 returns : tie.Need-returns
 returns c =
-    let h = c .before .before .before .before .before .before .before .before .before .before .before .before .before .before .before .before .before .before .before .pre in
-    let k = c .before .before .before .before .before .before .before .before .before .before .before .before .before .before .before .the-columns .ensures in
-    let g = c .before .before .before .before .before .before .before .before .before .gather .ensures in
-    let w = c .before .before .before .solve .ensures in
+    let w = solved (c .before) in
+    let g = gathered (w .before) in
+    let k = pointed (g .before) in
+    let h = prepared k .system-of .ensures in
+    let bad = sym (c .before .all-elements .ensures) ∙ not-true _ (c .if1 .taken) in
     record {
-      fits-right = nothing-fits _ h _ _ _ _ k g w (sym (c .before .all-elements .ensures) ∙ not-true _ (c .if1 .taken));
-      unknowns-right = unknowns-right _ h _ _ _ _ k g w;
+      fits-right = nothing-fits _ _ _ h _ _ _ _ (k .the-columns .ensures) (g .gather .ensures) (w .solve .ensures) bad;
+      unknowns-right = unknowns-right _ _ _ h _ _ _ _ (k .the-columns .ensures) (g .gather .ensures) (w .solve .ensures);
     }
 
 fits-requires : tie.Need-fits-requires
 fits-requires c κs =
-    let h = c .before .before .before .before .before .before .before .before .before .before .before .before .before .before .before .before .before .before .before .before .before .before .before .pre in
-    let k = c .before .before .before .before .before .before .before .before .before .before .before .before .before .before .before .before .before .before .before .the-columns .ensures in
-    (system-many _ h, system-few _ h, h .good .blocks-high, system-points _ h, system-ready _ h _ k .square .columns-good)
+    let k = pointed (gathered (solved (tested c .before) .before) .before) in
+    let h = prepared k .system-of .ensures in
+    let s = system-ready _ _ _ h _ (k .the-columns .ensures) .square in
+    (system-many _ _ _ h, system-few _ _ _ h, h .good .blocks-high, system-points _ _ _ h, s .columns-good)
 
 returns-2 : tie.Need-returns-2
 returns-2 c =
-    let h = c .before .before .before .before .before .before .before .before .before .before .before .before .before .before .before .before .before .before .before .before .before .before .before .before .pre in
-    let k = c .before .before .before .before .before .before .before .before .before .before .before .before .before .before .before .before .before .before .before .before .the-columns .ensures in
-    let g = c .before .before .before .before .before .before .before .before .before .before .before .before .before .before .gather .ensures in
-    let w = c .before .before .before .before .before .before .before .before .solve .ensures in
+    let t = tested (c .before) in
+    let w = solved (t .before) in
+    let g = gathered (w .before) in
+    let k = pointed (g .before) in
+    let h = prepared k .system-of .ensures in
+    let ok = sym (t .before .all-elements .ensures) ∙ not-false _ (t .if1 .left) in
     record {
-      fits-right = c .fits2 .ensures ∙ fits-right _ h _ _ _ _ k g w (sym (c .before .before .before .before .before .before .all-elements .ensures) ∙ not-false _ (c .before .before .before .before .before .if1 .left));
-      unknowns-right = unknowns-right _ h _ _ _ _ k g w;
+      fits-right = c .fits2 .ensures ∙ fits-right _ _ _ h _ _ _ _ (k .the-columns .ensures) (g .gather .ensures) (w .solve .ensures) ok;
+      unknowns-right = unknowns-right _ _ _ h _ _ _ _ (k .the-columns .ensures) (g .gather .ensures) (w .solve .ensures);
     }
 
 pub explain-spec : {M : Type 1} → statement M
 explain-spec =
     tie.close
-    (tie.spec
-    the-columns-requires
-    cast-n
-    cast-blocks
-    gather-requires
-    solve-requires
-    slice-aggregate-all-elements
-    all-elements-requires
-    returns
-    fits-requires
-    returns-2)
+    (tie.spec system-of-requires (λ c κs. search needs) (λ c. search needs) (λ c. search needs) gather-requires solve-requires (λ c. search needs)
+    (λ c κs. search needs) returns fits-requires returns-2)

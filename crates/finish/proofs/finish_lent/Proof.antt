@@ -1,28 +1,25 @@
 -- `finish::finish_lent` meets its contract: the answer, and the state after it.
 -- Assumes nothing.
+use mathlib.Core.Path.{sym}
 use borrow.Author.Needs.{needs}
+use Rattle.scheme.proofs.Refusals.{after-taken, after-refused}
 use Rattle.finish.specs.Finish.{finished}
-use Rattle.finish.proofs.Answers.{left-refused, left-taken}
+use Rattle.finish.proofs.Answers.{answer-right}
 use Rattle.finish.proofs.finish_lent.Statement.{statement}
 use Rattle.finish.proofs.finish_lent.Tie as tie
 
-totals-given-requires : tie.Need-totals-given-requires
-totals-given-requires c κs = search needs
+put-state-totals-requires : tie.Need-put-state-totals-requires
+put-state-totals-requires c κs = c .before .before .before .no-totals .ensures
 
 returns : tie.Need-returns
-returns c = left-refused _ (c .before .before .totals-given .result) (c .if1 .taken) (c .before .before .totals-given .ensures)
-
-clear-requires : tie.Need-clear-requires
-clear-requires c κs = search needs
-
-idle-requires : tie.Need-idle-requires
-idle-requires c κs = search needs
+returns c = answer-right _ _ (c .before .put-state-totals .ensures) (sym (after-refused (c .if1 .taken) _ _))
 
 returns-2 : tie.Need-returns-2
 unfolding finished
 returns-2 c =
+    let e = c .before .before .before .before in
     rw (c .idle .ensures, c .before .clear .ensures .0, c .before .clear .ensures .1)
-    (left-taken _ (c .before .before .before .before .before .before .totals-given .result) (c .before .before .before .before .if1 .left) (c .before .before .before .before .before .before .totals-given .ensures))
+    (answer-right _ _ (e .before .put-state-totals .ensures) (sym (after-taken (e .if1 .left) _ _)))
 
 pub finish-lent-spec : {M : Type 1} → statement M
-finish-lent-spec = tie.close (tie.spec totals-given-requires returns clear-requires idle-requires returns-2)
+finish-lent-spec = tie.close (tie.spec (λ c κs. search needs) put-state-totals-requires returns (λ c κs. search needs) (λ c κs. search needs) returns-2)

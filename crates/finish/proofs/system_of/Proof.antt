@@ -1,64 +1,67 @@
 -- `finish::system_of` meets its contract: the users of a set and the columns are good points.
 -- Assumes nothing.
-use mathlib.Core.Path.{refl, ap₂, _∙_}
+use mathlib.Core.Path.{sym, ap₂, _∙_, subst}
 use mathlib.Core.List.{List}
-use Prim.Native.Nat.{ℕ}
+use Prim.Native.Nat.{ℕ, _≤_}
 use native.Mathlib.Omega.{arith}
 use borrow.Author.Needs.{needs}
+use Rattle.scheme.specs.Limits.{most-users}
+use Rattle.scheme.specs.Good.{Good}
+use Rattle.plan.specs.Plan.{plan-of}
 use Rattle.solve.specs.Solve.{Points, weights-of}
 use Rattle.solve.proofs.Explains.{points-some}
 use Rattle.finish.proofs.Blocks.{columns-points, rows-square}
 use Rattle.finish.proofs.system_of.Statement.{statement}
 use Rattle.finish.proofs.system_of.Tie as tie
 
-rows-in : (c : tie.After-users-of) → Points 8 (c .before .args .plan .threshold) (c .users-of .result .list)
+-- ---- the places, and the points that stand there
+abbrev listed : tie.After-the-columns → tie.After-users-of
+listed c = c .before .before
+
+abbrev pointed : tie.After-weights → tie.After-the-columns
+pointed c = c .before .before .before .before
+
+good-plan : (c : tie.After-users-of) → Good (plan-of (c .before .args .plan))
+good-plan c = c .before .pre .0
+
+rows-in : (c : tie.After-users-of) → Points most-users (c .before .args .plan .threshold) (c .users-of .result .list)
 rows-in c = rw (c .users-of .ensures .list-right) (rows-square _ _ (c .before .pre .0) (c .before .pre .1) .rows-good)
 
-columns-in : (c : tie.After-the-columns) → Points 8 (c .before .before .before .args .plan .threshold) (c .the-columns .result)
+columns-in : (c : tie.After-the-columns) → Points most-users (listed c .before .args .plan .threshold) (c .the-columns .result)
 columns-in c =
-    let g = c .before .before .before .pre .0 in
-    rw (c .the-columns .ensures) (points-some (columns-points (c .before .before .before .args .plan .threshold) (omega (arith, g .threshold-high, g .users-high))) (omega arith) (omega arith))
+    let g = good-plan (listed c) in
+    let n = listed c .before .args .plan .threshold in
+    subst (Points most-users n) (sym (c .the-columns .ensures))
+    (points-some (columns-points n (omega (arith, g .threshold-high, g .users-high))) (omega arith) (omega arith))
 
+few : (c : tie.After-users-of) → c .before .args .plan .threshold ≤ most-users
+few c = let g = good-plan c in omega (arith, g .threshold-high, g .users-high)
+
+-- ---- the needs
 users-of-requires : tie.Need-users-of-requires
 users-of-requires c κs = c .pre .0 .users-high
 
-the-columns-requires : tie.Need-the-columns-requires
-the-columns-requires c κs = search needs
-
-cast-n : tie.Need-cast-n
-cast-n c = search needs
-
 weights-requires : tie.Need-weights-requires
-weights-requires c κs =
-    let g = c .before .before .before .before .before .before .pre .0 in
-    (omega (arith, g .threshold-high, g .users-high), rows-in (c .before .before .before .before .before), columns-in (c .before .before .before))
+weights-requires c κs = let k = c .before .before .before in (few (listed k), rows-in (listed k), columns-in k)
 
 weights-requires-2 : tie.Need-weights-requires-2
-weights-requires-2 c κs =
-    let g = c .before .before .before .before .before .before .before .before .before .pre .0 in
-    (omega (arith, g .threshold-high, g .users-high), columns-in (c .before .before .before .before .before .before), rows-in (c .before .before .before .before .before .before .before .before))
+weights-requires-2 c κs = let k = pointed (c .before .before) in (few (listed k), columns-in k, rows-in (listed k))
 
 returns : tie.Need-returns
 returns c =
-    let s = c .before .before .before .before .before .before .before .before .before .before in
-    let u = c .before .before .before .before .before .before .before .before .before .users-of in
-    let k = c .before .before .before .before .before .before .before .the-columns in
+    let w = c .before .before .before in
+    let k = pointed w in
+    let u = listed k in
+    let n = u .before .args .plan .threshold in
     record {
-      plan-kept = refl;
-      good = s .pre .0;
-      enough = s .pre .1;
-      listed = u .ensures;
-      alpha-right = c .before .before .before .weights .ensures ∙ ap₂ (λ (a b : List ℕ). weights-of a b (s .args .plan .threshold)) (u .ensures .list-right) (k .ensures);
-      beta-right = c .weights2 .ensures ∙ ap₂ (λ (a b : List ℕ). weights-of a b (s .args .plan .threshold)) (k .ensures) (u .ensures .list-right);
+      good = u .before .pre .0;
+      enough = u .before .pre .1;
+      listed = u .users-of .ensures;
+      alpha-right = w .weights .ensures ∙ ap₂ (λ (a b : List ℕ). weights-of a b n) (u .users-of .ensures .list-right) (k .the-columns .ensures);
+      beta-right = c .weights2 .ensures ∙ ap₂ (λ (a b : List ℕ). weights-of a b n) (k .the-columns .ensures) (u .users-of .ensures .list-right);
     }
 
 pub system-of-spec : {M : Type 1} → statement M
 system-of-spec =
     tie.close
-    (tie.spec
-    users-of-requires
-    the-columns-requires
-    cast-n
-    weights-requires
-    weights-requires-2
-    returns)
+    (tie.spec users-of-requires (λ c κs. search needs) (λ c. search needs) weights-requires weights-requires-2 returns)

@@ -1,0 +1,94 @@
+-- `finish::put_explained_totals` meets its contract: what explains the replies is taken off the survivors' first elements.
+-- Assumes nothing.
+use mathlib.Core.Path.{refl, sym, ap, _∙_, subst}
+use Prim.Native.Nat.{ℕ}
+use native.Mathlib.Omega.{arith}
+use borrow.Author.Needs.{needs}
+use borrow.Author.Tests.{not-true, not-false}
+use Rattle.scheme.specs.Limits.{most-places}
+use Rattle.scheme.specs.Lists.{padded}
+use Rattle.scheme.specs.Scheme.{q, items, places}
+use Rattle.scheme.specs.Good.{Good}
+use Rattle.scheme.proofs.Refusals.{unless-held, unless-failed, after-taken, after-refused}
+use Rattle.plan.specs.Plan.{plan-of}
+use Rattle.plan.proofs.Laws.{places-le}
+use Rattle.finish.specs.Parts.{First-sums}
+use Rattle.finish.proofs.Blocks.{listed-few, listed-points}
+use Rattle.finish.proofs.Padded.{sets-zeros}
+use Rattle.finish.proofs.Totalling.{totals-same}
+use Rattle.finish.proofs.put_explained_totals.Statement.{statement}
+use Rattle.finish.proofs.put_explained_totals.Tie as tie
+
+-- ---- the places, and what is known there
+abbrev explained : tie.After-users-of → tie.After-explain
+explained c = c .before .before .before .before
+
+abbrev listed : tie.After-places-of → tie.After-users-of
+listed c = c .before .before .before
+
+abbrev summed : tie.After-put-all-totals-arg → tie.After-first-sums
+summed c = let lent = c .before .before in lent .before .before .before
+
+a-plan : (c : tie.After-users-of) → Good (plan-of (explained c .before .args .plan))
+a-plan c = explained c .before .pre .0
+
+sums-right : (c : tie.After-first-sums) → let u = listed (c .before) in let a = explained u .before .args in
+    First-sums q (a .first .now) (u .users-of .result .list) (u .users-of .result .count) (places (plan-of (a .plan))) (c .first-sums .result)
+sums-right c =
+    let u = listed (c .before) in
+    subst (λ (n : ℕ). First-sums q (explained u .before .args .first .now) (u .users-of .result .list) (u .users-of .result .count) n (c .first-sums .result))
+    (c .before .places-of .ensures .0) (c .first-sums .ensures)
+
+-- ---- the needs
+explain-requires : tie.Need-explain-requires
+explain-requires c κs = (c .pre .0, c .pre .1)
+
+returns : tie.Need-returns
+returns c =
+    let e = c .before .before in
+    record {
+      number-right = sym (unless-failed (sym (e .explain .ensures .fits-right) ∙ not-true _ (c .if1 .taken)) 16);
+      totals-right = e .before .pre .2 ∙ sym (after-refused (λ z. omega arith) _ _);
+    }
+
+users-of-requires : tie.Need-users-of-requires
+users-of-requires c κs = c .before .before .before .before .pre .0 .users-high
+
+places-of-requires : tie.Need-places-of-requires
+places-of-requires c κs = a-plan (c .before .before)
+
+first-sums-requires : tie.Need-first-sums-requires
+first-sums-requires c κs =
+    let u = listed c .users-of .ensures in
+    let few = a-plan (listed c) .users-high in
+    (listed-few _ _ few _ _ (u .list-right) (u .count-right), c .places-of .ensures .1, listed-points _ _ few _ _ (u .list-right) (u .count-right))
+
+sub-items : tie.Need-sub-items
+sub-items c = let g = a-plan (listed (c .before .before)) in omega (arith, g .collusion-high)
+
+put-all-totals-requires : tie.Need-put-all-totals-requires
+unfolding places items
+put-all-totals-requires c κs =
+    let g = a-plan (listed (summed c .before)) in
+    (omega (arith, g .threshold-high, g .users-high), g .blocks-high, places-le _ g, sums-right (summed c) .small)
+
+returns-2 : tie.Need-returns-2
+unfolding places items
+returns-2 c =
+    let t = summed (c .before) in
+    let u = listed (t .before) in
+    let l = u .users-of .ensures in
+    let e = explained u .explain .ensures in
+    let same = totals-same q _ _ _ _ _ _ _ _ (omega arith) (l .list-right) (l .count-right) (sums-right t) (e .unknowns-right) in
+    record {
+      number-right = sym (unless-held (sym (e .fits-right) ∙ not-false _ (u .before .before .if1 .left)) 16);
+      totals-right =
+          c .put-all-totals .ensures ∙ sets-zeros most-places _ _ (places-le _ (a-plan u)) (explained u .before .pre .2)
+          ∙ ap (padded most-places) same ∙ sym (after-taken refl _ _);
+    }
+
+pub put-explained-totals-spec : {M : Type 1} → statement M
+put-explained-totals-spec =
+    tie.close
+    (tie.spec explain-requires returns users-of-requires places-of-requires first-sums-requires sub-items
+    (λ c. search needs) (λ c. search needs) put-all-totals-requires returns-2)

@@ -1,0 +1,103 @@
+-- `finish::put_state_totals` meets its contract: the tests that led to each return decide the definition's.
+-- The complete set has no member above K, so the machine counts the ones that the definition counts. Assumes nothing.
+use mathlib.Core.Path.{_≡_, sym, ap, _∙_, subst}
+use mathlib.Core.Bool.{true}
+use Prim.Native.Nat.{ℕ, _^_, _<_}
+use native.Mathlib.Omega.{arith}
+use lib.ListN.{length}
+use lib.Count as machine
+use borrow.Author.Needs.{needs}
+use borrow.Author.Tests.{lt-leb, not-true, not-false}
+use Rattle.scheme.specs.Limits.{cells}
+use Rattle.scheme.specs.Scheme.{plan-good, ones, unless, _then_}
+use Rattle.scheme.specs.Service.{has-plan, is-replying, replied}
+use Rattle.scheme.proofs.Good.{good}
+use Rattle.scheme.proofs.Held.{complete-below}
+use Rattle.plan.specs.Plan.{plan-of}
+use Rattle.plan.proofs.Laws.{ones-same}
+use Rattle.service.specs.declared.Service.{Service}
+use Rattle.service.specs.Calls.{lent}
+use Rattle.service.specs.View.{phase-of, view}
+use Rattle.service.proofs.Refused.{past-phase, stopped}
+use Rattle.finish.specs.Finish.{finish-refusal}
+use Rattle.finish.proofs.Answers.{refused-right, Passed, totalled-right}
+use Rattle.finish.proofs.put_state_totals.Statement.{statement}
+use Rattle.finish.proofs.put_state_totals.Tie as tie
+
+-- ---- the places, and what the tests that were passed tell
+abbrev start : tie.Else1 → tie.Start
+start c = c .before .before
+
+abbrev past-phase-test : tie.Else2 → tie.Else1
+past-phase-test c = c .before .before .before
+
+abbrev past-plan-test : tie.After-complete-set → tie.Else2
+past-plan-test c = c .before .before .before
+
+abbrev state : tie.After-complete-set → Service
+state c = let a = start (past-phase-test (past-plan-test c)) .args in lent (a .head) (a .first .now) (a .reply .now)
+
+phase-right : (c : tie.Else1) → let p = phase-of (start c .args .head .phase) in (has-plan p ≡ true) × (is-replying p ≡ true)
+phase-right c = past-phase _ _ (sym (c .before .not-replying .ensures) ∙ c .if1 .left)
+
+a-plan : (c : tie.Else2) → plan-good (plan-of (start (past-phase-test c) .args .head .plan)) ≡ true
+a-plan c = sym (c .before .is-good .ensures) ∙ not-false _ (c .if2 .left)
+
+whole : (c : tie.After-complete-set) → c .complete-set .result ≡ replied (view (state c))
+unfolding replied view
+whole c = c .complete-set .ensures
+
+counted : (c : tie.After-complete-set) → machine.ones (c .complete-set .result) ≡ ones (state c .head .plan .users) (replied (view (state c)))
+counted c =
+    let users = state c .head .plan .users in
+    ones-same _ _ (subst (λ (v : ℕ). v < 2 ^ users) (sym (c .complete-set .ensures)) (complete-below _ _ _)) ∙ ap (ones users) (whole c)
+
+passed : (c : tie.Else3) → Passed (state (c .before .before))
+passed c =
+    let t = past-plan-test (c .before .before) in
+    let p = phase-right (past-phase-test t) in
+    record { planned = p .0; replying = p .1; good = a-plan t; many = omega (arith, c .if3 .left, counted (c .before .before)) }
+
+-- ---- the needs
+returns : tie.Need-returns
+unfolding finish-refusal
+returns c = refused-right _ (c .if1 .taken) (stopped _ _ _ _ (c .before .not-replying .ensures) (c .if1 .taken)) (c .before .before .pre)
+
+returns-2 : tie.Need-returns-2
+unfolding finish-refusal unless _then_
+returns-2 c =
+    let e = c .before .before .before in
+    let p = phase-right e in
+    let h = sym (c .before .is-good .ensures) ∙ not-true _ (c .if2 .taken) in
+    refused-right _ (λ z. omega arith) (simp (p .0, p .1, h)) (start e .pre)
+
+complete-set-requires : tie.Need-complete-set-requires
+complete-set-requires c κs =
+    let t = c .before .before in
+    let g = good _ (a-plan t) in
+    let n : length (start (past-phase-test t) .args .reply .now) ≡ cells = search needs in
+    (g .users-high, omega (arith, g .users-high), g .blocks-high, omega arith)
+
+returns-3 : tie.Need-returns-3
+unfolding finish-refusal unless _then_
+returns-3 c =
+    let d = c .before .before in
+    let t = past-plan-test d in
+    let p = phase-right (past-phase-test t) in
+    let h : ones (state d .head .plan .users) (replied (view (state d))) < state d .head .plan .threshold = omega (arith, c .if3 .taken, counted d) in
+    refused-right _ (λ z. omega arith) (simp (p .0, p .1, a-plan t, lt-leb _ _ h)) (start (past-phase-test t) .pre)
+
+put-explained-totals-requires : tie.Need-put-explained-totals-requires
+put-explained-totals-requires c κs =
+    let d = c .before .before .before in
+    let r = passed (c .before) in
+    (good _ (r .good), omega (arith, r .many, ap (ones (state d .head .plan .users)) (whole d)), start (past-phase-test (past-plan-test d)) .pre)
+
+returns-4 : tie.Need-returns-4
+returns-4 c = let e = c .before .before in totalled-right _ (passed e) _ _ _ (whole (e .before .before)) (c .put-explained-totals .ensures)
+
+pub put-state-totals-spec : {M : Type 1} → statement M
+put-state-totals-spec =
+    tie.close
+    (tie.spec (λ c κs. search needs) returns (λ c κs. search needs) returns-2 (λ c. search needs) complete-set-requires returns-3
+    put-explained-totals-requires returns-4)
