@@ -1,10 +1,9 @@
 -- Decimal digits.
---   length-spell, spell-parts            a given number of digits; those of a high part, then those of the low part
+--   spell-parts                          a given number of digits: those of a high part, then those of the low part
 --   decimal-one, decimal-whole           a number's digits, where their number is known
 --   decimal-parts                        those of a high part, then those of the low part
 --   decimal-twenty                       at most 20
---   decimal-most, decimal-least          below a power of ten, and from one on
---   decimal-five                         of 16 bits
+--   decimal-most                         below a power of ten
 -- Assumes nothing.
 use mathlib.Core.Path.{_≡_, refl, sym, ap, ap₂, _∙_}
 use mathlib.Core.List.{List, [], _∷_, _++_, append-assoc, append-nil}
@@ -19,10 +18,8 @@ use lib.ListN.{length, length-append}
 use borrow.Author.Tests.{lt-ltb, le-ltb}
 use Rattle.lines.specs.Text.{digits, decimal, spell}
 
-pub length-spell : (k n : ℕ) → length (spell k n) ≡ k
-unfolding spell
-length-spell zero n = refl
-length-spell (suc k) n = simp (length-append, length-spell k (n / 10), add-one)
+abbrev last-digit : ℕ → List ℕ
+last-digit n = (48 + n % 10) ∷ []
 
 -- the low digits of the tenth part, and the last one
 module _ (k n : ℕ) where
@@ -48,8 +45,9 @@ spell-split : (j k n : ℕ) → spell (j + k) n ≡ spell j (n / 10 ^ k) ++ spel
 unfolding spell
 spell-split j zero n = simp (add-zero, div-one, append-nil)
 spell-split j (suc k) n =
-    ap (λ (i : ℕ). spell i n) (add-suc j k) ∙ ap (λ (l : List ℕ). l ++ ((48 + n % 10) ∷ [])) (spell-split j k (n / 10))
-    ∙ append-assoc (spell j (n / 10 / 10 ^ k)) (spell k (n / 10)) ((48 + n % 10) ∷ []) ∙ ap (λ (m : ℕ). spell j m ++ (spell k (n / 10) ++ ((48 + n % 10) ∷ []))) (high-tenth k n)
+    ap (λ (i : ℕ). spell i n) (add-suc j k) ∙ ap (λ (l : List ℕ). l ++ last-digit n) (spell-split j k (n / 10))
+    ∙ append-assoc (spell j (n / 10 / 10 ^ k)) (spell k (n / 10)) (last-digit n)
+    ∙ ap (λ (m : ℕ). spell j m ++ (spell k (n / 10) ++ last-digit n)) (high-tenth k n)
 
 pub spell-parts : (j k n : ℕ) → spell j (n / 10 ^ k) ++ spell k (n % 10 ^ k) ≡ spell (j + k) n
 spell-parts j k n = ap (λ (l : List ℕ). spell j (n / 10 ^ k) ++ l) (spell-low k n) ∙ sym (spell-split j k n)
@@ -59,7 +57,7 @@ module _
     (P : (most n : ℕ) → List ℕ → Type 0)
     (none : (n : ℕ) → P 0 n [])
     (one : (m n : ℕ) → n < 10 → P (suc m) n ((48 + n) ∷ []))
-    (more : (m n : ℕ) (l : List ℕ) → 10 ≤ n → P m (n / 10) l → P (suc m) n (l ++ ((48 + n % 10) ∷ []))) where
+    (more : (m n : ℕ) (l : List ℕ) → 10 ≤ n → P m (n / 10) l → P (suc m) n (l ++ last-digit n)) where
   by-digits : (m n : ℕ) → P m n (digits m n)
   unfolding digits
   by-digits zero n = none n
@@ -76,7 +74,7 @@ spell-decimal : (n : ℕ) → spell (length (decimal n)) n ≡ decimal n
 unfolding spell decimal
 spell-decimal =
     by-digits (λ m n l. spell (length l) n ≡ l) (λ n. refl) (λ m n h. let e : n % 10 ≡ n = omega arith in simp e)
-    (λ m n l h p. rw length-last (ap (λ (k : List ℕ). k ++ ((48 + n % 10) ∷ [])) p))
+    (λ m n l h p. rw length-last (ap (λ (k : List ℕ). k ++ last-digit n) p))
     20
 
 pub decimal-twenty : (n : ℕ) → length (decimal n) ≤ 20
@@ -84,31 +82,34 @@ unfolding decimal
 decimal-twenty n =
     by-digits (λ m n l. length l ≤ m) (λ n. omega arith) (λ m n h. omega arith) (λ m n l h p. omega (arith, length-last l (48 + n % 10))) 20 n
 
+-- a number below a power of ten, and one from a power on
+abbrev Most : (m n : ℕ) → List ℕ → Type 0
+Most m n l = (k : ℕ) → n < 10 ^ suc k → length l ≤ suc k
+
+abbrev Least : (m n : ℕ) → List ℕ → Type 0
+Least m n l = (k : ℕ) → k < m → 10 ^ k ≤ n → k < length l
+
 pub decimal-most : (k n : ℕ) → 1 ≤ k → n < 10 ^ k → length (decimal n) ≤ k
 unfolding decimal
 decimal-most zero n lo = absurd (omega arith)
 decimal-most (suc k) n lo =
-    by-digits (λ m n l. (k : ℕ) → n < 10 ^ suc k → length l ≤ suc k) (λ n k h. omega arith) (λ m n h k i. omega arith) last 20 n k
+    by-digits Most (λ n k h. omega arith) (λ m n h k i. omega arith) last 20 n k
   where
-    last : (m n : ℕ) (l : List ℕ) → 10 ≤ n → ((k : ℕ) → n / 10 < 10 ^ suc k → length l ≤ suc k) → (k : ℕ) → n < 10 ^ suc k → length (l ++ ((48 + n % 10) ∷ [])) ≤ suc k
+    last : (m n : ℕ) (l : List ℕ) → 10 ≤ n → Most m (n / 10) l → Most (suc m) n (l ++ last-digit n)
     last m n l h p zero i = absurd (omega arith)
     last m n l h p (suc k) i = omega (arith, length-last l (48 + n % 10), p k (omega (arith, pow-suc 10 (suc k))))
 
-pub decimal-least : (k n : ℕ) → k < 20 → 10 ^ k ≤ n → k < length (decimal n)
+decimal-least : (k n : ℕ) → k < 20 → 10 ^ k ≤ n → k < length (decimal n)
 unfolding decimal
-decimal-least k n =
-    by-digits (λ m n l. (k : ℕ) → k < m → 10 ^ k ≤ n → k < length l) (λ n k i. absurd (omega arith)) one last 20 n k
+decimal-least k n = by-digits Least (λ n k i. absurd (omega arith)) one last 20 n k
   where
-    one : (m n : ℕ) → n < 10 → (k : ℕ) → k < suc m → 10 ^ k ≤ n → k < 1
+    one : (m n : ℕ) → n < 10 → Least (suc m) n ((48 + n) ∷ [])
     one m n h zero i j = omega arith
     one m n h (suc k) i j = absurd (omega (arith, pow-suc 10 k, one-le-pow k 10 (lit< tt)))
 
-    last : (m n : ℕ) (l : List ℕ) → 10 ≤ n → ((k : ℕ) → k < m → 10 ^ k ≤ n / 10 → k < length l) → (k : ℕ) → k < suc m → 10 ^ k ≤ n → k < length (l ++ ((48 + n % 10) ∷ []))
+    last : (m n : ℕ) (l : List ℕ) → 10 ≤ n → Least m (n / 10) l → Least (suc m) n (l ++ last-digit n)
     last m n l h p zero i j = omega (arith, length-last l (48 + n % 10))
     last m n l h p (suc k) i j = omega (arith, length-last l (48 + n % 10), p k (omega arith) (omega (arith, pow-suc 10 k)))
-
-pub decimal-five : (n : ℕ) → n < 2 ^ 16 → length (decimal n) ≤ 5
-decimal-five n h = decimal-most 5 n (omega arith) (omega arith)
 
 -- ---- digits whose number is known, and a high part's
 pub decimal-one : (n : ℕ) → n < 10 → spell 1 n ≡ decimal n
@@ -120,7 +121,7 @@ decimal-whole k n few lo hi =
     let e : suc k ≡ length (decimal n) = omega (arith, decimal-most (suc k) n (omega arith) hi, decimal-least k n (omega arith) lo) in
     ap (λ (i : ℕ). spell i n) e ∙ spell-decimal n
 
-digits-last : (m n : ℕ) → 10 ≤ n → digits (suc m) n ≡ digits m (n / 10) ++ ((48 + n % 10) ∷ [])
+digits-last : (m n : ℕ) → 10 ≤ n → digits (suc m) n ≡ digits m (n / 10) ++ last-digit n
 unfolding digits
 digits-last m n h = rw (le-ltb n 10 h)
 
@@ -131,11 +132,11 @@ digits-more (suc m) n h = pick (decLt n 10) (digits-more m (n / 10) (omega (arit
   where
     pick : Dec (n < 10) → digits (suc m) (n / 10) ≡ digits (suc (suc m)) (n / 10) → digits (suc (suc m)) n ≡ digits (suc (suc (suc m))) n
     pick (yes l) e = rw (lt-ltb n 10 l)
-    pick (no l) e = rw (le-ltb n 10 (omega arith)) (ap (λ (l : List ℕ). l ++ ((48 + n % 10) ∷ [])) e)
+    pick (no l) e = rw (le-ltb n 10 (omega arith)) (ap (λ (l : List ℕ). l ++ last-digit n) e)
 
-decimal-last : (n : ℕ) → 10 ≤ n → n < 10 ^ 20 → decimal n ≡ decimal (n / 10) ++ ((48 + n % 10) ∷ [])
+decimal-last : (n : ℕ) → 10 ≤ n → n < 10 ^ 20 → decimal n ≡ decimal (n / 10) ++ last-digit n
 unfolding decimal
-decimal-last n lo hi = digits-last 19 n lo ∙ ap (λ (l : List ℕ). l ++ ((48 + n % 10) ∷ [])) (digits-more 18 (n / 10) (omega arith))
+decimal-last n lo hi = digits-last 19 n lo ∙ ap (λ (l : List ℕ). l ++ last-digit n) (digits-more 18 (n / 10) (omega arith))
 
 decimal-split : (k n : ℕ) → 10 ^ k ≤ n → n < 10 ^ 20 → decimal n ≡ decimal (n / 10 ^ k) ++ spell k n
 unfolding spell
@@ -143,8 +144,9 @@ decimal-split zero n lo hi = simp (div-one, append-nil)
 decimal-split (suc k) n lo hi =
     let p = one-le-pow k 10 (lit< tt) in
     decimal-last n (omega (arith, pow-suc 10 k)) hi
-    ∙ ap (λ (l : List ℕ). l ++ ((48 + n % 10) ∷ [])) (decimal-split k (n / 10) (omega (arith, pow-suc 10 k)) (omega arith))
-    ∙ append-assoc (decimal (n / 10 / 10 ^ k)) (spell k (n / 10)) ((48 + n % 10) ∷ []) ∙ ap (λ (m : ℕ). decimal m ++ (spell k (n / 10) ++ ((48 + n % 10) ∷ []))) (high-tenth k n)
+    ∙ ap (λ (l : List ℕ). l ++ last-digit n) (decimal-split k (n / 10) (omega (arith, pow-suc 10 k)) (omega arith))
+    ∙ append-assoc (decimal (n / 10 / 10 ^ k)) (spell k (n / 10)) (last-digit n)
+    ∙ ap (λ (m : ℕ). decimal m ++ (spell k (n / 10) ++ last-digit n)) (high-tenth k n)
 
 pub decimal-parts : (k n : ℕ) → 10 ^ k ≤ n → n < 10 ^ 20 → decimal (n / 10 ^ k) ++ spell k (n % 10 ^ k) ≡ decimal n
 decimal-parts k n lo hi = ap (λ (l : List ℕ). decimal (n / 10 ^ k) ++ l) (spell-low k n) ∙ sym (decimal-split k n lo hi)

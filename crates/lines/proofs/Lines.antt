@@ -3,12 +3,13 @@
 --   put-none, put-append, put-as     of Put: no text, two texts, an equal text
 --   put-more, put-all                one byte more of a text, and the whole of it
 --   put-length                       the buffer keeps its length
---   numbers-append, numbers-more     numbers behind numbers; one more of a list
+--   put-spell, put-decimal           a number's digits: those of a high part, then those of the low part
+--   numbers-more                     numbers, one more of a list
 --   planned-text, .., refused-text   each line from its pieces
 -- Assumes nothing.
 use mathlib.Core.Path.{_≡_, refl, sym, ap, ap₂, _∙_}
 use mathlib.Core.List.{List, [], _∷_, _++_, append-assoc, append-nil}
-use Prim.Native.Nat.{ℕ, _+_, _≤_, _<_}
+use Prim.Native.Nat.{ℕ, _+_, _/_, _%_, _^_, _≤_, _<_}
 use native.Mathlib.Numerals.{add-one}
 use native.Mathlib.Omega.{arith}
 use lib.ListN.{length, getD, take, set, length-append}
@@ -16,8 +17,9 @@ use lib.Seq.{sets, sets-eq, length-sets, take-at, take-suc, take-length, length-
 use Rattle.scheme.specs.Scheme.{Plan}
 use Rattle.scheme.specs.Service.{planned, opened, closed, totalled, refused}
 use Rattle.scheme.proofs.Lists.{sets-append}
-use Rattle.lines.specs.Text.{decimal, numbers, line, plan-word, open-word, survivors-word, total-word, refused-word, at-word, line-end}
+use Rattle.lines.specs.Text.{decimal, spell, numbers, line, plan-word, open-word, survivors-word, total-word, refused-word, at-word, line-end}
 use Rattle.lines.specs.Put.{Put}
+use Rattle.lines.proofs.Decimals.{spell-parts, decimal-parts}
 
 -- ---- sets
 module _ (o : List ℕ) (at : ℕ) (t : List ℕ) (h : at + length t ≤ length o) where
@@ -41,7 +43,8 @@ put-append {o} {p} {q} {at} {a} {b} {xs} {ys} x y =
 pub put-as : {o p : List ℕ} {at a : ℕ} {xs ys : List ℕ} → Put o p at a xs → xs ≡ ys → Put o p at a ys
 put-as x e = rw e at x
 
-pub put-more : {o p : List ℕ} {at : ℕ} (t : List ℕ) (i : ℕ) → i < length t → Put o p at (at + i) (take i t) → Put o (set p (at + i) (getD t i 0)) at (at + (i + 1)) (take (i + 1) t)
+pub put-more : {o p : List ℕ} {at : ℕ} (t : List ℕ) (i : ℕ) → i < length t → Put o p at (at + i) (take i t)
+    → Put o (set p (at + i) (getD t i 0)) at (at + (i + 1)) (take (i + 1) t)
 put-more {o} {p} {at} t i h x =
     let e : take (i + 1) t ≡ take i t ++ (getD t i 0 ∷ []) = ap (λ (n : ℕ). take n t) (add-one i) ∙ take-suc t i 0 h in
     put-as (put-append x (record { place = omega arith; bytes = refl })) (sym e)
@@ -52,12 +55,20 @@ put-all t i e x = put-as (rw e at x) (take-length t)
 pub put-length : {o p : List ℕ} {at a : ℕ} {xs : List ℕ} → Put o p at a xs → length p ≡ length o
 put-length {o} {p} {at} {a} {xs} x = ap length (x .bytes) ∙ length-sets o at xs
 
+module _ {o p q : List ℕ} {at a b : ℕ} where
+  pub put-spell : (j k n : ℕ) → Put o p at a (spell j (n / 10 ^ k)) → Put p q a b (spell k (n % 10 ^ k)) → Put o q at b (spell (j + k) n)
+  put-spell j k n x y = put-as (put-append x y) (spell-parts j k n)
+
+  pub put-decimal : (k n : ℕ) → 10 ^ k ≤ n → n < 10 ^ 20
+      → Put o p at a (decimal (n / 10 ^ k)) → Put p q a b (spell k (n % 10 ^ k)) → Put o q at b (decimal n)
+  put-decimal k n lo hi x y = put-as (put-append x y) (decimal-parts k n lo hi)
+
 -- ---- numbers
 numbers-one : (n : ℕ) → numbers (n ∷ []) ≡ 32 ∷ decimal n
 unfolding numbers
 numbers-one n = ap (λ (t : List ℕ). 32 ∷ t) (append-nil (decimal n))
 
-pub numbers-append : (l k : List ℕ) → numbers (l ++ k) ≡ numbers l ++ numbers k
+numbers-append : (l k : List ℕ) → numbers (l ++ k) ≡ numbers l ++ numbers k
 unfolding numbers
 numbers-append [] k = refl
 numbers-append (n ∷ l) k = ap (λ (t : List ℕ). 32 ∷ (decimal n ++ t)) (numbers-append l k) ∙ simp append-assoc
@@ -72,7 +83,9 @@ abbrev number : ℕ → List ℕ
 number n = 32 ∷ decimal n
 
 module _ (o : ℕ) where
-  pub planned-text : (p : Plan) → ((((plan-word ++ number (p .users)) ++ number (p .threshold)) ++ number (p .collusion)) ++ number (p .blocks)) ++ line-end ≡ line o (planned p)
+  pub planned-text : (p : Plan)
+      → ((((plan-word ++ number (p .users)) ++ number (p .threshold)) ++ number (p .collusion)) ++ number (p .blocks)) ++ line-end
+      ≡ line o (planned p)
   unfolding numbers line
   planned-text p = simp (append-assoc, append-nil)
 

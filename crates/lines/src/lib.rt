@@ -8,16 +8,16 @@
 //   put_bytes               any text
 ghost use mathlib.Core.Path.{_≡_};
 ghost use mathlib.Core.List.{_∷_};
-ghost use Prim.Native.Nat.{ℕ, _+_, _*_, _≤_, _<_};
+ghost use Prim.Native.Nat.{_+_, _*_, _≤_, _<_};
 ghost use lib.ListN.{length, take};
+ghost use Rattle.scheme.specs.Limits.{most-places};
 ghost use Rattle.scheme.specs.Service.{planned, opened, closed, totalled, refused};
 ghost use Rattle.lines.specs.Text.{spell, decimal, numbers, line};
-ghost use Rattle.lines.specs.Put.{room, Put};
+ghost use Rattle.lines.specs.Put.{number-room, short-room, room, Put, Says};
+use plan::MOST_PLACES;
 
-// The bytes that any line fits into, and the most numbers of a total.
-pub const LINE: usize = 640;
-
-const MOST_TOTALS: usize = 96;
+// The bytes that any line fits into: `room`. A caller that tests for another number does not meet a contract that says `room`.
+pub const LINE: usize = 64 + 6 * MOST_PLACES;
 
 // 10 ^ 8.
 const EIGHT_DIGITS: u64 = 100000000;
@@ -33,7 +33,8 @@ pub fn put_plan(
 ) -> usize
     requires { ⌜ at + room ≤ length (now out) ⌝ }
     ensures short { λ r. ⌜ r ≤ at + room ⌝ }
-    ensures put { λ r. ⌜ ((offset : ℕ) → Put (now (out .entry)) (now (out .exit)) at r (line offset (planned (record { users = users; threshold = threshold; collusion = collusion; blocks = blocks })))) ⌝ }
+    ensures put { λ r. ⌜ Says (now (out .entry)) (now (out .exit)) at r
+        (planned (record { users = users; threshold = threshold; collusion = collusion; blocks = blocks })) ⌝ }
 {
     let a = put_bytes(out, at, b"plan");
     let b = put_number(out, a, users as u64);
@@ -47,7 +48,7 @@ pub fn put_plan(
 pub fn put_open(out: &mut [u8], at: usize, round: u32) -> usize
     requires { ⌜ at + room ≤ length (now out) ⌝ }
     ensures short { λ r. ⌜ r ≤ at + room ⌝ }
-    ensures put { λ r. ⌜ ((offset : ℕ) → Put (now (out .entry)) (now (out .exit)) at r (line offset (opened round))) ⌝ }
+    ensures put { λ r. ⌜ Says (now (out .entry)) (now (out .exit)) at r (opened round) ⌝ }
 {
     let a = put_bytes(out, at, b"open");
     let b = put_number(out, a, round as u64);
@@ -58,7 +59,7 @@ pub fn put_open(out: &mut [u8], at: usize, round: u32) -> usize
 pub fn put_survivors(out: &mut [u8], at: usize, round: u32, set: u32) -> usize
     requires { ⌜ at + room ≤ length (now out) ⌝ }
     ensures short { λ r. ⌜ r ≤ at + room ⌝ }
-    ensures put { λ r. ⌜ ((offset : ℕ) → Put (now (out .entry)) (now (out .exit)) at r (line offset (closed round set))) ⌝ }
+    ensures put { λ r. ⌜ Says (now (out .entry)) (now (out .exit)) at r (closed round set) ⌝ }
 {
     let a = put_bytes(out, at, b"survivors");
     let b = put_number(out, a, round as u64);
@@ -71,12 +72,12 @@ pub fn put_total(
     out: &mut [u8],
     at: usize,
     round: u32,
-    totals: &[u16; MOST_TOTALS],
+    totals: &[u16; MOST_PLACES],
     n: usize,
 ) -> usize
-    requires { ⌜ (at + room ≤ length (now out)) × (n ≤ 96) ⌝ }
+    requires { ⌜ (at + room ≤ length (now out)) × (n ≤ most-places) ⌝ }
     ensures short { λ r. ⌜ r ≤ at + room ⌝ }
-    ensures put { λ r. ⌜ ((offset : ℕ) → Put (now (out .entry)) (now (out .exit)) at r (line offset (totalled round (take n (now (totals .entry)))))) ⌝ }
+    ensures put { λ r. ⌜ Says (now (out .entry)) (now (out .exit)) at r (totalled round (take n (now (totals .entry)))) ⌝ }
 {
     let a = put_bytes(out, at, b"total");
     let b = put_number(out, a, round as u64);
@@ -97,10 +98,10 @@ pub fn put_refusal(out: &mut [u8], at: usize, number: u32, offset: u64) -> usize
     put_bytes(out, d, b"\n")
 }
 
-// Each number takes 6 bytes at most; put_short asks for the room of any number behind them.
-fn put_totals(out: &mut [u8], at: usize, totals: [u16; MOST_TOTALS], n: usize) -> usize
-    requires { ⌜ (at + 600 ≤ length (now out)) × (n ≤ 96) ⌝ }
-    ensures short { λ r. ⌜ r ≤ at + 6 * n ⌝ }
+// Behind the numbers there is room for one of 64 bits, which put_short asks for.
+fn put_totals(out: &mut [u8], at: usize, totals: [u16; MOST_PLACES], n: usize) -> usize
+    requires { ⌜ (at + short-room * n + number-room ≤ length (now out)) × (n ≤ most-places) ⌝ }
+    ensures short { λ r. ⌜ r ≤ at + short-room * n ⌝ }
     ensures put { λ r. ⌜ Put (now (out .entry)) (now (out .exit)) at r (numbers (take n totals)) ⌝ }
 {
     let mut next = at;
@@ -114,8 +115,8 @@ fn put_totals(out: &mut [u8], at: usize, totals: [u16; MOST_TOTALS], n: usize) -
 
 // 16 bits are 5 digits at most.
 fn put_short(out: &mut [u8], at: usize, n: u16) -> usize
-    requires { ⌜ at + 21 ≤ length (now out) ⌝ }
-    ensures short { λ r. ⌜ r ≤ at + 6 ⌝ }
+    requires { ⌜ at + number-room ≤ length (now out) ⌝ }
+    ensures short { λ r. ⌜ r ≤ at + short-room ⌝ }
     ensures put { λ r. ⌜ Put (now (out .entry)) (now (out .exit)) at r (32 ∷ decimal n) ⌝ }
 {
     put_number(out, at, n as u64)
@@ -123,8 +124,8 @@ fn put_short(out: &mut [u8], at: usize, n: u16) -> usize
 
 // One space and the decimal digits.
 fn put_number(out: &mut [u8], at: usize, n: u64) -> usize
-    requires { ⌜ at + 21 ≤ length (now out) ⌝ }
-    ensures short { λ r. ⌜ r ≤ at + 21 ⌝ }
+    requires { ⌜ at + number-room ≤ length (now out) ⌝ }
+    ensures short { λ r. ⌜ r ≤ at + number-room ⌝ }
     ensures put { λ r. ⌜ Put (now (out .entry)) (now (out .exit)) at r (32 ∷ decimal n) ⌝ }
 {
     out[at] = b' ';

@@ -2,17 +2,16 @@
 --   step-right, answers-run, lines-right, cut-free, fed-right, opens-as-new, seven-ends     the statements of specs/Promise.antt
 -- Assumes nothing.
 use mathlib.Core.Path.{_≡_, refl, sym, ap, ap₂, _∙_, subst}
-use mathlib.Core.Logic.{_≢_}
-use mathlib.Core.Bool.{true}
+use mathlib.Core.Bool.{Bool, true, false}
 use mathlib.Core.List.{List, [], _∷_, _++_, append-assoc}
-use Prim.Native.Nat.{ℕ, zero, suc, _+_, _-_, _^_, _≤_}
+use Prim.Native.Nat.{ℕ, zero, suc, _+_, _-_, _^_, _≤_, _<_}
 use native.Mathlib.Decide.{decLe, ℕ-discrete}
 use native.Mathlib.Omega.{arith}
-use lib.ListN.{length, getD, take, drop, take-append-drop}
+use lib.ListN.{length, take, drop, take-append-drop}
 use lib.Seq.{length-take-le}
-use borrow.Author.Tests.{ne-eqb, ltb-true}
+use borrow.Author.Tests.{eq-eqb, ne-eqb, ltb-true, lt-ltb, le-leb, lt-leb, leb-false}
 use Rattle.scheme.specs.Service.{plan-record, open-record, first-record, close-record, reply-record, finish-record, refused, done, more}
-use Rattle.scheme.proofs.Tests.{holds}
+use Rattle.scheme.proofs.Tests.{holds, is-false}
 use Rattle.service.specs.declared.Service.{Service}
 use Rattle.service.specs.View.{view, Formed}
 use Rattle.service.specs.Promise.{Plan-steps, Open-steps, First-steps, Reply-steps, Close-steps}
@@ -24,12 +23,12 @@ use Rattle.finish.proofs.Steps.{finish-steps}
 use Rattle.lines.specs.Text.{line}
 use Rattle.lines.specs.Put.{room}
 use Rattle.stream.specs.declared.Stop.{Stop}
-use Rattle.stream.specs.declared.Stop.the-variants.{Used, Unknown, Partial, Full, Far}
-use Rattle.stream.specs.Stream.{record-length, record-at, Item, taken, broken, items, plan-from, step, answers, text, lines, halt, fed-from, fed}
+use Rattle.stream.specs.declared.Stop.the-variants.{Far}
+use Rattle.stream.specs.Stream.{record-length, length-at, record-at, Item, taken, broken, items, plan-from, step, answers, text, lines, ready-at, stop-at, halt, fed-from, fed}
 use Rattle.stream.specs.Promise.{Step-right, records-of, answers-of, all-taken, last-state, Answers-run, whole-of, ending, Lines-right, Cut-free, Stops, Fed-says, Fed-right, Opens-as-new, breaks-off, Seven-ends}
 use Rattle.stream.proofs.Records.{items-append, text-append, lines-broken}
 use Rattle.stream.proofs.Turns.{line-short}
-use Rattle.stream.proofs.Feeding.{Along, along-start, along-next, fed-used, fed-unknown, fed-partial, fed-full, fed-more, fed-far, fed-near}
+use Rattle.stream.proofs.Feeding.{Ready, ready, said, behind, Along, along-start, along-more, fed-far, fed-near, fed-more, fed-end}
 
 pub step-right : Step-right
 unfolding Step-right step Plan-steps Open-steps First-steps Reply-steps Close-steps Finish-steps
@@ -67,7 +66,9 @@ whole-then s (broken o ∷ l) = refl
 
 pub lines-right : Lines-right
 unfolding Lines-right Answers-run lines
-lines-right s o b w = record { steps = answers-run s (whole-of (items o b)) w (whole-taken (items o b)); said = whole-then s (items o b) }
+lines-right s o b w =
+    let l = items o b in
+    record { steps = answers-run s (whole-of l) w (whole-taken l); said = whole-then s l }
 
 -- ---- the input cut in two after whole records
 pub cut-free : Cut-free
@@ -76,6 +77,21 @@ cut-free s o a c e =
     ap (λ (l : List Item). text (answers s l)) (items-append o a c e) ∙ text-append s (items o a) (items (o + length a) c) e
 
 -- ---- a chunk at a time
+stops : (b : List ℕ) (o n at w : ℕ) → at ≤ length b → ready-at b at (n - w) ≡ false → Stops (stop-at b at) b o n at w
+unfolding ready-at stop-at Stops
+stops b o n at w h e = by (decLe (length b) at) (ℕ-discrete (length-at b at) 0) (decLe (length-at b at) (length b - at))
+  where
+    by : Dec (length b ≤ at) → Dec (length-at b at ≡ 0) → Dec (length-at b at ≤ length b - at) → Stops (stop-at b at) b o n at w
+    by (yes l) z p = rw (le-leb (length b) at l) (omega arith)
+    by (no l) (yes z) p = rw (lt-leb (length b) at (omega arith), eq-eqb (length-at b at) 0 z) (omega arith, z)
+    by (no l) (no z) (no p) =
+        rw (lt-leb (length b) at (omega arith), ne-eqb (length-at b at) 0 z, lt-leb (length-at b at) (length b - at) (omega arith))
+        (omega arith, omega arith)
+    by (no l) (no z) (yes p) =
+        let i : at < length b = omega arith in
+        rw (lt-leb (length b) at i, ne-eqb (length-at b at) 0 z, le-leb (length-at b at) (length b - at) p)
+        (i, leb-false room (n - w) (rw (lt-ltb at (length b) i, ne-eqb (length-at b at) 0 z, le-leb (length-at b at) (length b - at) p) at e))
+
 module _ (s : Service) (b : List ℕ) (o n : ℕ) where
   halted : (t : Service) (at w : ℕ) (e : Stop) → Along s b o t at w → w ≤ n → Stops e b o n at w → Fed-says s b o n (halt t at w e)
   unfolding Cut-free Answers-run
@@ -94,22 +110,20 @@ module _ (s : Service) (b : List ℕ) (o n : ℕ) where
         why = y;
       }
 
+  says-end : (m : ℕ) (t : Service) (at w : ℕ) → Along s b o t at w → w ≤ n → ready-at b at (n - w) ≡ false → Fed-says s b o n (fed-from m t b o n at w)
+  says-end m t at w g h e = rw (fed-end m t b o n at w e) (halted t at w (stop-at b at) g h (stops b o n at w (g .inside) e))
+
   says-from : (m : ℕ) (t : Service) (at w : ℕ) → Along s b o t at w → w ≤ n → length b ≤ at + m → Fed-says s b o n (fed-from m t b o n at w)
-  unfolding Stops
-  says-from zero t at w g h l = rw (fed-used zero t b o n at w (omega arith)) (halted t at w Used g h (omega (arith, g .inside)))
+  says-from zero t at w g h l = says-end zero t at w g h (is-false _ (λ e. omega (arith, ready b at (n - w) e .whole .inside)))
   says-from (suc m) t at w g h l =
-      one (decLe (length b) at) (ℕ-discrete (record-length (getD b at 0)) 0) (decLe (record-length (getD b at 0)) (length b - at)) (decLe room (n - w))
-      (λ ne i f. says-from m _ _ _ (along-next g ne i) f (omega arith))
+      by (ready-at b at (n - w)) refl
+      (λ r. says-from m _ _ _ (along-more g r) (omega (arith, r .fits, line-short (o + at) t (record-at b at))) (omega (arith, r .known)))
     where
-      one : Dec (length b ≤ at) → Dec (record-length (getD b at 0) ≡ 0) → Dec (record-length (getD b at 0) ≤ length b - at) → Dec (room ≤ n - w)
-          → (record-length (getD b at 0) ≢ 0 → at + record-length (getD b at 0) ≤ length b → w + length (line (o + at) (step t (record-at b at) .answer)) ≤ n
-          → Fed-says s b o n (fed-from m (step t (record-at b at) .service) b o n (at + record-length (getD b at 0)) (w + length (line (o + at) (step t (record-at b at) .answer)))))
+      by : (x : Bool) → ready-at b at (n - w) ≡ x
+          → (Ready b at (n - w) → Fed-says s b o n (fed-from m (behind t b at) b o n (at + length-at b at) (w + length (said t b o at))))
           → Fed-says s b o n (fed-from (suc m) t b o n at w)
-      one (yes a) d p f ih = rw (fed-used (suc m) t b o n at w a) (halted t at w Used g h (omega (arith, g .inside)))
-      one (no a) (yes z) p f ih = rw (fed-unknown m t b o n at w (omega arith) z) (halted t at w Unknown g h (omega arith, z))
-      one (no a) (no z) (no p) f ih = rw (fed-partial m t b o n at w (omega arith) z (omega arith)) (halted t at w Partial g h (omega arith, omega arith))
-      one (no a) (no z) (yes p) (no f) ih = rw (fed-full m t b o n at w (omega arith) z p (omega arith)) (halted t at w Full g h (omega arith, omega arith))
-      one (no a) (no z) (yes p) (yes f) ih = rw (fed-more m t b o n at w (omega arith) z p f) (ih z (omega arith) (omega (arith, line-short (o + at) t (record-at b at))))
+      by false e ih = says-end (suc m) t at w g h e
+      by true e ih = rw (fed-more m t b o n at w e) (ih (ready b at (n - w) e))
 
 pub fed-right : Fed-right
 unfolding Fed-right Stops
@@ -127,8 +141,11 @@ opens-as-new s r o b w e = ap (λ t. lines (t .service) o b) (calls.opens-as-new
 broken-line : (s : Service) (o : ℕ) (c : List ℕ) → breaks-off c ≡ true → lines s o c ≡ line o (refused 7)
 unfolding breaks-off
 broken-line s o [] h = absurd (holds h)
-broken-line s o (k ∷ c) h = lines-broken s o (k ∷ c) (omega arith) (λ ne. ltb-true (length (k ∷ c)) (record-length k) (rw (ne-eqb (record-length k) 0 ne) at h))
+broken-line s o (k ∷ c) h =
+    lines-broken s o (k ∷ c) (omega arith)
+    (λ ne. ltb-true (length (k ∷ c)) (record-length k) (rw (ne-eqb (record-length k) 0 ne) at h))
 
 pub seven-ends : Seven-ends
 unfolding Seven-ends Cut-free
-seven-ends s o a c e h = cut-free s o a c e ∙ ap (λ (l : List ℕ). lines s o a ++ l) (broken-line (last-state s (items o a)) (o + length a) c h)
+seven-ends s o a c e h =
+    cut-free s o a c e ∙ ap (λ (l : List ℕ). lines s o a ++ l) (broken-line (last-state s (items o a)) (o + length a) c h)

@@ -1,5 +1,4 @@
 -- The records of an input, and its lines record by record.
---   record-same                   a record's bytes alone say which record it is
 --   items-append                  of an input cut in two after whole records
 --   items-next                    one record further in a chunk
 --   taken-append, state-append, text-append     of two lists of records, the first all whole
@@ -7,12 +6,13 @@
 -- Assumes nothing.
 use mathlib.Core.Path.{_≡_, refl, sym, ap, ap₂, _∙_}
 use mathlib.Core.Logic.{_≢_}
-use mathlib.Core.Bool.{true}
+use mathlib.Core.Bool.{true, false}
 use mathlib.Core.List.{List, [], _∷_, _++_, append-nil, append-assoc}
-use Prim.Native.Nat.{ℕ, zero, suc, _+_, _≤_, _<_}
+use Prim.Native.Nat.{ℕ, zero, suc, _+_, _*_, _≤_, _<_}
 use native.Mathlib.Nat.{add-zero, zero-add}
 use native.Mathlib.Decide.{decLe, ℕ-discrete}
 use native.Mathlib.Omega.{arith}
+use lib.Dec.{eqb, lit<}
 use lib.ListN.{length, getD, take, drop, length-append, length-drop, List·getD-append}
 use lib.Seq.{getD-take, getD-drop, drop-append-le, drop-length, take-add, length-take-le}
 use borrow.Author.Tests.{eq-eqb, ne-eqb, lt-ltb, le-ltb}
@@ -20,7 +20,7 @@ use Rattle.scheme.specs.Service.{Record, refused}
 use Rattle.scheme.proofs.Tests.{holds}
 use Rattle.service.specs.declared.Service.{Service}
 use Rattle.lines.specs.Text.{line}
-use Rattle.stream.specs.Stream.{record-length, record-at, Item, taken, broken, items-from, items, step, answers, text, lines}
+use Rattle.stream.specs.Stream.{record-length, length-at, two-bytes, four-bytes, record-at, Item, taken, broken, items-from, items, step, answers, text, lines}
 use Rattle.stream.specs.Promise.{all-taken, last-state}
 
 -- ---- a record by its bytes
@@ -35,8 +35,10 @@ data Kind : ℕ → Type 0 where
 
 past : (k : ℕ) → 6 < k → record-length k ≡ 0
 unfolding record-length
-past k h =
-    rw (ne-eqb k 1 (λ e. omega arith), ne-eqb k 2 (λ e. omega arith), ne-eqb k 3 (λ e. omega arith), ne-eqb k 4 (λ e. omega arith), ne-eqb k 5 (λ e. omega arith), ne-eqb k 6 (λ e. omega arith))
+past k h = rw (other 1 (lit< tt), other 2 (lit< tt), other 3 (lit< tt), other 4 (lit< tt), other 5 (lit< tt), other 6 (lit< tt))
+  where
+    other : (n : ℕ) → n < 7 → eqb k n ≡ false
+    other n l = ne-eqb k n (λ e. omega arith)
 
 kind : (k : ℕ) → record-length k ≢ 0 → Kind k
 unfolding record-length
@@ -49,31 +51,46 @@ kind (suc (suc (suc (suc (suc zero))))) h = reply
 kind (suc (suc (suc (suc (suc (suc zero)))))) h = finish
 kind (suc (suc (suc (suc (suc (suc (suc k))))))) h = absurd (h (past (suc (suc (suc (suc (suc (suc (suc k))))))) (omega arith)))
 
-module _ (a b : List ℕ) (i j : ℕ) (same : (k : ℕ) → k < record-length (getD a i 0) → getD a (i + k) 0 ≡ getD b (j + k) 0) where
-  byte : (k p q : ℕ) → k < record-length (getD a i 0) → i + k ≡ p → j + k ≡ q → getD a p 0 ≡ getD b q 0
-  byte k p q h e f = ap (λ (n : ℕ). getD a n 0) (sym e) ∙ same k h ∙ ap (λ (n : ℕ). getD b n 0) f
+module _ (a b : List ℕ) (i j : ℕ) (same : (k : ℕ) → k < length-at a i → getD a (i + k) 0 ≡ getD b (j + k) 0) where
+  byte : (k : ℕ) {p q : ℕ} → i + k ≡ p → j + k ≡ q → k < length-at a i → getD a p 0 ≡ getD b q 0
+  byte k e f h = ap (λ (n : ℕ). getD a n 0) (sym e) ∙ same k h ∙ ap (λ (n : ℕ). getD b n 0) f
+
+  two : (k : ℕ) {p q : ℕ} → i + k ≡ p → j + k ≡ q → k + 1 < length-at a i → two-bytes a p ≡ two-bytes b q
+  two k {p} {q} e f h =
+      ap₂ (λ (x y : ℕ). x + y * 256) (byte k e f (omega arith)) (byte (k + 1) {p = p + 1} {q = q + 1} (omega arith) (omega arith) h)
+
+  four : (k : ℕ) {p q : ℕ} → i + k ≡ p → j + k ≡ q → k + 3 < length-at a i → four-bytes a p ≡ four-bytes b q
+  four k {p} {q} e f h =
+      ap₂ (λ (x y : ℕ). x + y * 65536) (two k e f (omega arith)) (two (k + 2) {p = p + 2} {q = q + 2} (omega arith) (omega arith) (omega arith))
 
   record-kind : (k : ℕ) → getD a i 0 ≡ k → getD b j 0 ≡ k → Kind k → record-at a i ≡ record-at b j
   unfolding record-at record-length
   record-kind k d e plan =
-      let n : record-length (getD a i 0) ≡ 5 = ap record-length d in
-      rw (d, e, byte 1 (i + 1) (j + 1) (omega arith) refl refl, byte 2 (i + 2) (j + 2) (omega arith) refl refl, byte 3 (i + 3) (j + 3) (omega arith) refl refl, byte 4 (i + 4) (j + 4) (omega arith) refl refl)
+      let n : length-at a i ≡ 5 = ap record-length d in
+      rw (d, e, byte 1 refl refl (omega arith), byte 2 refl refl (omega arith), byte 3 refl refl (omega arith), byte 4 refl refl (omega arith))
   record-kind k d e opening =
-      let n : record-length (getD a i 0) ≡ 5 = ap record-length d in
-      rw (d, e, byte 1 (i + 1) (j + 1) (omega arith) refl refl, byte 2 (i + 1 + 1) (j + 1 + 1) (omega arith) (omega arith) (omega arith), byte 3 (i + 1 + 2) (j + 1 + 2) (omega arith) (omega arith) (omega arith), byte 4 (i + 1 + 2 + 1) (j + 1 + 2 + 1) (omega arith) (omega arith) (omega arith))
+      let n : length-at a i ≡ 5 = ap record-length d in
+      rw (d, e, four 1 refl refl (omega arith))
   record-kind k d e first =
-      let n : record-length (getD a i 0) ≡ 6 = ap record-length d in
-      rw (d, e, byte 1 (i + 1) (j + 1) (omega arith) refl refl, byte 2 (i + 2) (j + 2) (omega arith) refl refl, byte 3 (i + 2 + 1) (j + 2 + 1) (omega arith) (omega arith) (omega arith), byte 4 (i + 4) (j + 4) (omega arith) refl refl, byte 5 (i + 4 + 1) (j + 4 + 1) (omega arith) (omega arith) (omega arith))
+      let n : length-at a i ≡ 6 = ap record-length d in
+      rw (d, e, byte 1 refl refl (omega arith), two 2 refl refl (omega arith), two 4 refl refl (omega arith))
   record-kind k d e close = rw (d, e)
   record-kind k d e reply =
-      let n : record-length (getD a i 0) ≡ 5 = ap record-length d in
-      rw (d, e, byte 1 (i + 1) (j + 1) (omega arith) refl refl, byte 2 (i + 2) (j + 2) (omega arith) refl refl, byte 3 (i + 3) (j + 3) (omega arith) refl refl, byte 4 (i + 3 + 1) (j + 3 + 1) (omega arith) (omega arith) (omega arith))
+      let n : length-at a i ≡ 5 = ap record-length d in
+      rw (d, e, byte 1 refl refl (omega arith), byte 2 refl refl (omega arith), two 3 refl refl (omega arith))
   record-kind k d e finish = rw (d, e)
 
-  record-same : record-length (getD a i 0) ≢ 0 → record-at a i ≡ record-at b j
-  record-same ne = record-kind (getD a i 0) refl (sym (byte 0 i j (omega arith) (add-zero i) (add-zero j))) (kind (getD a i 0) ne)
+  record-same : length-at a i ≢ 0 → record-at a i ≡ record-at b j
+  record-same ne = record-kind (getD a i 0) refl (sym (byte 0 (add-zero i) (add-zero j) (omega arith))) (kind (getD a i 0) ne)
 
 -- ---- an input cut in two
+-- what follows a record of the kind k
+abbrev after : (k : ℕ) → List ℕ → List ℕ
+after k b = drop (record-length k) (k ∷ b)
+
+after-short : (k : ℕ) (b : List ℕ) → 1 ≤ record-length k → length (after k b) ≤ length b
+after-short k b h = omega (arith, length-drop (record-length k) (k ∷ b))
+
 -- more fuel than bytes changes nothing
 fuel : (n m o : ℕ) (b : List ℕ) → length b ≤ n → length b ≤ m → items-from n o b ≡ items-from m o b
 unfolding items-from
@@ -83,9 +100,12 @@ fuel zero (suc m) o (k ∷ b) h l = absurd (omega arith)
 fuel (suc n) zero o [] h l = refl
 fuel (suc n) zero o (k ∷ b) h l = absurd (omega arith)
 fuel (suc n) (suc m) o [] h l = refl
-fuel (suc n) (suc m) o (k ∷ b) h l = go (ℕ-discrete (record-length k) 0) (λ p. fuel n m (o + record-length k) (drop (record-length k) (k ∷ b)) (omega (arith, length-drop (record-length k) (k ∷ b))) (omega (arith, length-drop (record-length k) (k ∷ b))))
+fuel (suc n) (suc m) o (k ∷ b) h l =
+    go (ℕ-discrete (record-length k) 0)
+    (λ p. fuel n m (o + record-length k) (after k b) (omega (arith, after-short k b p)) (omega (arith, after-short k b p)))
   where
-    go : Dec (record-length k ≡ 0) → (1 ≤ record-length k → items-from n (o + record-length k) (drop (record-length k) (k ∷ b)) ≡ items-from m (o + record-length k) (drop (record-length k) (k ∷ b)))
+    go : Dec (record-length k ≡ 0)
+        → (1 ≤ record-length k → items-from n (o + record-length k) (after k b) ≡ items-from m (o + record-length k) (after k b))
         → items-from (suc n) o (k ∷ b) ≡ items-from (suc m) o (k ∷ b)
     go (yes e) ih = rw (eq-eqb (record-length k) 0 e)
     go (no e) ih = rw (ih (omega arith))
@@ -107,27 +127,29 @@ module _ (c : List ℕ) where
   joins (suc n) zero o (k ∷ b) h l = absurd (omega arith)
   joins (suc n) (suc m) o (k ∷ b) h l =
       one (ℕ-discrete (record-length k) 0) (decLe (record-length k) (length (k ∷ b)))
-      (λ p. joins n m (o + record-length k) (drop (record-length k) (k ∷ b)) (omega (arith, length-drop (record-length k) (k ∷ b)))
-      (omega (arith, length-drop (record-length k) (k ∷ b), length-append b c, length-append (drop (record-length k) (k ∷ b)) c)))
+      (λ p. joins n m (o + record-length k) (after k b) (omega (arith, after-short k b p))
+      (omega (arith, after-short k b p, length-append b c, length-append (after k b) c)))
     where
-      one : Dec (record-length k ≡ 0) → Dec (record-length k ≤ length (k ∷ b)) → (1 ≤ record-length k → Joins n m (o + record-length k) (drop (record-length k) (k ∷ b)))
-          → Joins (suc n) (suc m) o (k ∷ b)
+      one : Dec (record-length k ≡ 0) → Dec (record-length k ≤ length (k ∷ b))
+          → (1 ≤ record-length k → Joins n m (o + record-length k) (after k b)) → Joins (suc n) (suc m) o (k ∷ b)
       one (yes z) d ih = rw (eq-eqb (record-length k) 0 z) (λ e. absurd (holds e))
-      one (no ne) (no h) ih = rw (ne-eqb (record-length k) 0 ne, lt-ltb (length (k ∷ b)) (record-length k) (omega arith)) (λ e. absurd (holds e))
+      one (no ne) (no h) ih =
+          rw (ne-eqb (record-length k) 0 ne, lt-ltb (length (k ∷ b)) (record-length k) (omega arith)) (λ e. absurd (holds e))
       one (no ne) (yes h) ih =
-          let far : o + record-length k + length (drop (record-length k) (k ∷ b)) ≡ o + length (k ∷ b) = omega (arith, length-drop (record-length k) (k ∷ b)) in
-          rw (ne-eqb (record-length k) 0 ne, le-ltb (length (k ∷ b)) (record-length k) h, le-ltb (length (k ∷ (b ++ c))) (record-length k) (omega (arith, length-append b c)))
+          let far : o + record-length k + length (after k b) ≡ o + length (k ∷ b) = omega (arith, length-drop (record-length k) (k ∷ b)) in
+          let long : record-length k ≤ length (k ∷ (b ++ c)) = omega (arith, length-append b c) in
+          rw (ne-eqb (record-length k) 0 ne, le-ltb (length (k ∷ b)) (record-length k) h, le-ltb (length (k ∷ (b ++ c))) (record-length k) long)
           (λ e. ap₂ (λ (r : Record) (l : List Item). taken o r ∷ l)
           (sym (record-same (k ∷ b) (k ∷ (b ++ c)) 0 0 (λ i l. sym (List·getD-append (k ∷ b) c 0 (0 + i) (omega arith))) ne))
           (ap (items-from m (o + record-length k)) (drop-append-le (record-length k) (k ∷ b) c h) ∙ ih (omega arith) e
-          ∙ ap (λ (i : ℕ). items-from n (o + record-length k) (drop (record-length k) (k ∷ b)) ++ items i c) far))
+          ∙ ap (λ (i : ℕ). items-from n (o + record-length k) (after k b) ++ items i c) far))
 
 pub items-append : (o : ℕ) (a c : List ℕ) → all-taken (items o a) ≡ true → items o (a ++ c) ≡ items o a ++ items (o + length a) c
 unfolding items
 items-append o a c e = joins c (length a) (length (a ++ c)) o a (omega arith) (omega arith) e
 
 -- ---- one record
-items-one : (o : ℕ) (c : List ℕ) → record-length (getD c 0 0) ≢ 0 → record-length (getD c 0 0) ≡ length c → items o c ≡ taken o (record-at c 0) ∷ []
+items-one : (o : ℕ) (c : List ℕ) → length-at c 0 ≢ 0 → length-at c 0 ≡ length c → items o c ≡ taken o (record-at c 0) ∷ []
 unfolding items items-from
 items-one o [] h l = absurd (h l)
 items-one o (k ∷ b) h l =
@@ -136,19 +158,26 @@ items-one o (k ∷ b) h l =
     (ap (λ (x : List ℕ). items-from (length b) (o + record-length k) x) (ap (λ (i : ℕ). drop i (k ∷ b)) l ∙ drop-length (k ∷ b))
     ∙ fuel (length b) 0 (o + record-length k) [] (omega arith) (omega arith)))
 
-pub items-next : (o : ℕ) (b : List ℕ) (at : ℕ) → record-length (getD b at 0) ≢ 0 → at + record-length (getD b at 0) ≤ length b
-    → all-taken (items o (take at b)) ≡ true → items o (take (at + record-length (getD b at 0)) b) ≡ items o (take at b) ++ (taken (o + at) (record-at b at) ∷ [])
-items-next o b at ne l e =
-    let n = record-length (getD b at 0) in
-    let c = take (record-length (getD b at 0)) (drop at b) in
-    let here : (k : ℕ) → k < record-length (getD b at 0) → getD b (at + k) 0 ≡ getD (take (record-length (getD b at 0)) (drop at b)) (0 + k) 0
-    = λ k h. sym (ap (λ (i : ℕ). getD c i 0) (zero-add k) ∙ getD-take n (drop at b) k 0 h ∙ getD-drop at b k 0) in
-    let long : length (take (record-length (getD b at 0)) (drop at b)) ≡ record-length (getD b at 0) = length-take-le n (drop at b) (omega (arith, length-drop at b)) in
-    let first : getD b at 0 ≡ getD c 0 0 = ap (λ (i : ℕ). getD b i 0) (sym (add-zero at)) ∙ here 0 (omega arith) in
-    ap (items o) (take-add at n b) ∙ items-append o (take at b) c e
-    ∙ ap (λ (i : ℕ). items o (take at b) ++ items (o + i) c) (length-take-le at b (omega arith))
-    ∙ ap (λ (l : List Item). items o (take at b) ++ l)
-    (items-one (o + at) c (λ z. ne (ap record-length first ∙ z)) (sym (ap record-length first) ∙ sym long) ∙ ap (λ (r : Record). taken (o + at) r ∷ []) (sym (record-same b c at 0 here ne)))
+module _ (o : ℕ) (b : List ℕ) (at : ℕ) (ne : length-at b at ≢ 0) (l : at + length-at b at ≤ length b) where
+  abbrev bytes : List ℕ
+  bytes = take (length-at b at) (drop at b)
+
+  here : (k : ℕ) → k < length-at b at → getD b (at + k) 0 ≡ getD bytes (0 + k) 0
+  here k h = sym (ap (λ (i : ℕ). getD bytes i 0) (zero-add k) ∙ getD-take (length-at b at) (drop at b) k 0 h ∙ getD-drop at b k 0)
+
+  items-here : items (o + at) bytes ≡ taken (o + at) (record-at b at) ∷ []
+  items-here =
+      let long : length bytes ≡ length-at b at = length-take-le (length-at b at) (drop at b) (omega (arith, length-drop at b)) in
+      let same : length-at b at ≡ length-at bytes 0 = ap record-length (ap (λ (i : ℕ). getD b i 0) (sym (add-zero at)) ∙ here 0 (omega arith)) in
+      items-one (o + at) bytes (λ z. ne (same ∙ z)) (sym same ∙ sym long)
+      ∙ ap (λ (r : Record). taken (o + at) r ∷ []) (sym (record-same b bytes at 0 here ne))
+
+  pub items-next : all-taken (items o (take at b)) ≡ true
+      → items o (take (at + length-at b at) b) ≡ items o (take at b) ++ (taken (o + at) (record-at b at) ∷ [])
+  items-next e =
+      ap (items o) (take-add at (length-at b at) b) ∙ items-append o (take at b) bytes e
+      ∙ ap (λ (i : ℕ). items o (take at b) ++ items (o + i) bytes) (length-take-le at b (omega arith))
+      ∙ ap (λ (x : List Item). items o (take at b) ++ x) items-here
 
 -- ---- two lists of records
 pub taken-append : (l m : List Item) → all-taken l ≡ true → all-taken (l ++ m) ≡ all-taken m
@@ -163,7 +192,8 @@ state-append s [] m e = refl
 state-append s (taken o r ∷ l) m e = state-append (step s r .service) l m e
 state-append s (broken o ∷ l) m e = absurd (holds e)
 
-pub text-append : (s : Service) (l m : List Item) → all-taken l ≡ true → text (answers s (l ++ m)) ≡ text (answers s l) ++ text (answers (last-state s l) m)
+pub text-append : (s : Service) (l m : List Item) → all-taken l ≡ true
+    → text (answers s (l ++ m)) ≡ text (answers s l) ++ text (answers (last-state s l) m)
 unfolding all-taken last-state answers text
 text-append s [] m e = refl
 text-append s (taken o r ∷ l) m e =
@@ -173,7 +203,8 @@ text-append s (taken o r ∷ l) m e =
 text-append s (broken o ∷ l) m e = absurd (holds e)
 
 -- ---- an unknown kind, or a record that is not whole
-pub lines-broken : (s : Service) (o : ℕ) (b : List ℕ) → 0 < length b → (record-length (getD b 0 0) ≢ 0 → length b < record-length (getD b 0 0)) → lines s o b ≡ line o (refused 7)
+pub lines-broken : (s : Service) (o : ℕ) (b : List ℕ) → 0 < length b → (length-at b 0 ≢ 0 → length b < length-at b 0)
+    → lines s o b ≡ line o (refused 7)
 unfolding lines items items-from answers text
 lines-broken s o [] h l = absurd (omega arith)
 lines-broken s o (k ∷ b) h l = pick (ℕ-discrete (record-length k) 0)

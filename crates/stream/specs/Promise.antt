@@ -15,7 +15,7 @@ use mathlib.Core.Bool.{Bool, true, false, _||_}
 use mathlib.Core.List.{List, [], _∷_, _++_, map}
 use Prim.Native.Nat.{ℕ, _+_, _-_, _^_, _≤_, _<_}
 use lib.Dec.{ltb, eqb}
-use lib.ListN.{length, getD, take, drop}
+use lib.ListN.{length, take, drop}
 use Rattle.scheme.specs.Scheme.{sixteen}
 use Rattle.scheme.specs.Service.{Record, Answer, refused, Runs}
 use Rattle.service.specs.declared.Service.{Service}
@@ -27,7 +27,7 @@ use Rattle.lines.specs.Put.{room}
 use Rattle.stream.specs.declared.Stop.{Stop}
 use Rattle.stream.specs.declared.Stop.the-variants.{Used, Unknown, Partial, Full, Far}
 use Rattle.stream.specs.declared.Fed.{Fed}
-use Rattle.stream.specs.Stream.{record-length, Item, taken, broken, items, step, Told, answers, text, lines, fed}
+use Rattle.stream.specs.Stream.{record-length, length-at, Item, taken, broken, items, step, Told, answers, text, lines, fed}
 
 unfoldable pub Step-right : Type 0
 Step-right = (s : Service) (r : Record) → Formed s → Is-step r s (step s r .answer) (step s r .service)
@@ -86,8 +86,8 @@ Cut-free =
 -- why feed stops: all bytes used; an unknown kind, or a record that is not whole, at the place; no room for a line; an offset past 64 bits
 unfoldable pub Stops : Stop → (b : List ℕ) → (offset n at wrote : ℕ) → Type 0
 Stops Used b o n i w = i ≡ length b
-Stops Unknown b o n i w = (i < length b) × (record-length (getD b i 0) ≡ 0)
-Stops Partial b o n i w = (i < length b) × (length b - i < record-length (getD b i 0))
+Stops Unknown b o n i w = (i < length b) × (length-at b i ≡ 0)
+Stops Partial b o n i w = (i < length b) × (length b - i < length-at b i)
 Stops Full b o n i w = (i < length b) × (n - w < room)
 Stops Far b o n i w = (2 ^ 64 ≤ o + length b) × (i ≡ 0)
 

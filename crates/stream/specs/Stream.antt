@@ -1,19 +1,23 @@
 -- The record stream of document 01: bytes, records with their offsets, answers, lines.
---   record-length                how long a record of a kind is
+--   record-length, length-at     how long a record of a kind is, and the one at a place
 --   two-bytes, four-bytes        numbers of two and of four bytes, the low byte first
---   record-at                    the record that stands at a place
+--   plan-at, record-at           the plan and the record that stand at a place
+--   Whole, Other                 a whole record stands at a place, and it is no element
 --   Item, items                  the records of an input, each with its offset, and where it breaks off
---   Outcome, step                one record on the service's state: the answer and the next state
+--   Outcome, outcome, step       one record on the service's state: the answer and the next state
 --   Told, answers                the answers to a list of records, each with its record's offset; 7 ends the run
 --   text, lines                  what is printed for a list of answers, and for an input
+--   ready-at, stop-at            whether a record is taken at a place, and why none is
 --   fed-from, fed                what feed hands back: the state, the bytes used and written, and why it stops
 --   early-refusal                the refusal that the head alone decides
---   Turns, cut-length, cut-left  one record; the line of refusal 7
+--   Turns                        one record: the state before and after it, and its line written
+--   cut-length, cut-left         the line of refusal 7
 -- Assumes nothing: these are definitions.
 use mathlib.Core.Path.{_≡_}
-use mathlib.Core.Bool.{cond, not}
+use mathlib.Core.Logic.{_≢_}
+use mathlib.Core.Bool.{Bool, cond, not, _&&_}
 use mathlib.Core.List.{List, [], _∷_, _++_}
-use Prim.Native.Nat.{ℕ, zero, suc, _+_, _*_, _-_, _^_}
+use Prim.Native.Nat.{ℕ, zero, suc, _+_, _*_, _-_, _^_, _≤_, _<_}
 use lib.Dec.{ltb, leb, eqb}
 use lib.ListN.{length, getD, take, drop}
 use lib.Seq.{sets}
@@ -25,13 +29,12 @@ use Rattle.plan.specs.Plan.{plan-of}
 use Rattle.service.specs.declared.Head.{Head}
 use Rattle.service.specs.declared.Service.{Service}
 use Rattle.service.specs.View.{phase-of}
-use Rattle.service.specs.Calls.{lent, open-refusal, plan-step, open-step, first-step, close-step, reply-step}
+use Rattle.service.specs.Calls.{open-refusal, plan-step, open-step, first-step, close-step, reply-step}
 use Rattle.service.specs.Promise.{told}
 use Rattle.finish.specs.Finish.{finish-step}
 use Rattle.stream.specs.declared.Stop.{Stop}
 use Rattle.stream.specs.declared.Stop.the-variants.{Used, Unknown, Partial, Full, Far}
 use Rattle.stream.specs.declared.Fed.{Fed}
-use Rattle.stream.specs.declared.Turned.{Turned}
 use Rattle.lines.specs.Text.{line}
 use Rattle.lines.specs.Put.{room, Put}
 
@@ -41,6 +44,9 @@ unfoldable pub record-length : (kind : ℕ) → ℕ
 record-length k =
     cond (eqb k 1) 5 (cond (eqb k 2) 5 (cond (eqb k 3) 6 (cond (eqb k 4) 1 (cond (eqb k 5) 5 (cond (eqb k 6) 1 0)))))
 
+abbrev pub length-at : List ℕ → (at : ℕ) → ℕ
+length-at b i = record-length (getD b i 0)
+
 -- numbers have their low byte first
 abbrev pub two-bytes : List ℕ → (at : ℕ) → ℕ
 two-bytes b i = getD b i 0 + getD b (i + 1) 0 * 256
@@ -48,15 +54,27 @@ two-bytes b i = getD b i 0 + getD b (i + 1) 0 * 256
 abbrev pub four-bytes : List ℕ → (at : ℕ) → ℕ
 four-bytes b i = two-bytes b i + two-bytes b (i + 2) * 65536
 
+abbrev pub plan-at : List ℕ → (at : ℕ) → scheme.Plan
+plan-at b i = record { users = getD b (i + 1) 0; threshold = getD b (i + 2) 0; collusion = getD b (i + 3) 0; blocks = getD b (i + 4) 0 }
+
 -- the whole record that starts at a place
 unfoldable pub record-at : List ℕ → (at : ℕ) → Record
 record-at b i =
-    cond (eqb (getD b i 0) 1)
-    (plan-record (record { users = getD b (i + 1) 0; threshold = getD b (i + 2) 0; collusion = getD b (i + 3) 0; blocks = getD b (i + 4) 0 }))
+    cond (eqb (getD b i 0) 1) (plan-record (plan-at b i))
     (cond (eqb (getD b i 0) 2) (open-record (four-bytes b (i + 1)))
     (cond (eqb (getD b i 0) 3) (first-record (getD b (i + 1) 0) (two-bytes b (i + 2)) (two-bytes b (i + 4)))
     (cond (eqb (getD b i 0) 4) close-record
     (cond (eqb (getD b i 0) 5) (reply-record (getD b (i + 1) 0) (getD b (i + 2) 0) (two-bytes b (i + 3))) finish-record))))
+
+pub record Whole (b : List ℕ) (at : ℕ) : Type 0 where
+  pub inside : at < length b
+  pub whole : at + length-at b at ≤ length b
+
+-- neither 03, a first element, nor 05, a reply element
+pub record Other (b : List ℕ) (at : ℕ) : Type 0 where
+  pub whole : Whole b at
+  pub not-first : getD b at 0 ≢ 3
+  pub not-reply : getD b at 0 ≢ 5
 
 -- a record at its offset, or an unknown kind or a cut record there
 pub data Item : Type 0 where
@@ -80,21 +98,22 @@ pub record Outcome : Type 0 where
   pub answer : Answer
   pub service : Service
 
+-- the answer where a call's number is 0, and the state that it leaves
+abbrev pub outcome : (number : ℕ) → Answer → Service → Outcome
+outcome n a s = record { answer = told n a; service = s }
+
 abbrev pub plan-from : scheme.Plan → Plan
 plan-from p = record { users = p .users; threshold = p .threshold; collusion = p .collusion; blocks = p .blocks }
 
 unfoldable pub step : Service → Record → Outcome
-step s (plan-record p) = record { answer = told (plan-step s (plan-from p) .number) (planned p); service = plan-step s (plan-from p) .service }
-step s (open-record r) = record { answer = told (open-step s r .number) (opened r); service = open-step s r .service }
-step s (first-record k i x) = record { answer = told (first-step s k i x .number) silent; service = first-step s k i x .service }
-step s close-record =
-    record { answer = told (close-step s .number) (closed (s .head .round) (close-step s .set)); service = close-step s .service }
-step s (reply-record k b x) = record { answer = told (reply-step s k b x .number) silent; service = reply-step s k b x .service }
+step s (plan-record p) = outcome (plan-step s (plan-from p) .number) (planned p) (plan-step s (plan-from p) .service)
+step s (open-record r) = outcome (open-step s r .number) (opened r) (open-step s r .service)
+step s (first-record k i x) = outcome (first-step s k i x .number) silent (first-step s k i x .service)
+step s close-record = outcome (close-step s .number) (closed (s .head .round) (close-step s .set)) (close-step s .service)
+step s (reply-record k b x) = outcome (reply-step s k b x .number) silent (reply-step s k b x .service)
 step s finish-record =
-    record {
-      answer = told (finish-step s .number) (totalled (s .head .round) (take (places (plan-of (s .head .plan))) (finish-step s .totals)));
-      service = finish-step s .service;
-    }
+    outcome (finish-step s .number) (totalled (s .head .round) (take (places (plan-of (s .head .plan))) (finish-step s .totals)))
+    (finish-step s .service)
 
 pub record Told : Type 0 where
   pub offset : ℕ
@@ -117,16 +136,22 @@ lines s o b = text (answers s (items o b))
 abbrev pub halt : Service → (at wrote : ℕ) → Stop → Fed
 halt s i w e = record { service = s; at = i; wrote = w; stop = e }
 
--- from the place i of a chunk on, where w bytes of n are written: it stops where the chunk ends, at an unknown kind, at a record that is
--- not whole, or where less than a line fits; else it takes a record and goes on behind it, and behind its line
+-- a record is taken at the place i of a chunk: it is of a known kind and whole, and a line fits into what is left of the buffer
+unfoldable pub ready-at : List ℕ → (at left : ℕ) → Bool
+ready-at b i left = ltb i (length b) && not (eqb (length-at b i) 0) && leb (length-at b i) (length b - i) && leb room left
+
+-- why none is: there the chunk ends, or there is an unknown kind, or a record that is not whole, or else no room for a line
+unfoldable pub stop-at : List ℕ → (at : ℕ) → Stop
+stop-at b i =
+    cond (leb (length b) i) Used (cond (eqb (length-at b i) 0) Unknown (cond (leb (length-at b i) (length b - i)) Full Partial))
+
+-- from the place i of a chunk on, where w bytes of n are written: it stops, or it takes a record and goes on behind it, and behind its line
 unfoldable pub fed-from : (most : ℕ) → Service → (b : List ℕ) → (offset n i w : ℕ) → Fed
-fed-from zero s b o n i w = halt s i w Used
+fed-from zero s b o n i w = halt s i w (stop-at b i)
 fed-from (suc m) s b o n i w =
-    cond (leb (length b) i) (halt s i w Used)
-    (cond (eqb (record-length (getD b i 0)) 0) (halt s i w Unknown)
-    (cond (ltb (length b - i) (record-length (getD b i 0))) (halt s i w Partial)
-    (cond (ltb (n - w) room) (halt s i w Full)
-    (fed-from m (step s (record-at b i) .service) b o n (i + record-length (getD b i 0)) (w + length (line (o + i) (step s (record-at b i) .answer)))))))
+    cond (ready-at b i (n - w))
+    (fed-from m (step s (record-at b i) .service) b o n (i + length-at b i) (w + length (line (o + i) (step s (record-at b i) .answer))))
+    (halt s i w (stop-at b i))
 
 -- of a chunk whose offsets would pass 64 bits no record is taken
 unfoldable pub fed : Service → (b : List ℕ) → (offset n : ℕ) → Fed
@@ -141,10 +166,10 @@ early-refusal h close-record = unless (has-plan (phase-of (h .phase))) 11 then u
 early-refusal h (reply-record k b x) = 0
 early-refusal h finish-record = unless (has-plan (phase-of (h .phase))) 11 then unless (is-replying (phase-of (h .phase))) 12
 
--- one record: the next head and arrays, and its line written behind what was written before
-pub record Turns (s : Service) (r : Record) (o : ℕ) (out out-now : List ℕ) (at : ℕ) (t : Turned) (first reply : List ℕ) : Type 0 where
-  pub state : lent (t .head) first reply ≡ step s r .service
-  pub put : Put out out-now at (t .wrote) (line o (step s r .answer))
+-- one record, at an offset: the state before and after it, and its line written behind what was written before
+pub record Turns (r : Record) (o : ℕ) (s t : Service) (out out-now : List ℕ) (wrote next : ℕ) : Type 0 where
+  pub state : t ≡ step s r .service
+  pub put : Put out out-now wrote next (line o (step s r .answer))
 
 -- the line of refusal 7, where there is room for a line
 unfoldable pub cut-length : (offset out : ℕ) → ℕ

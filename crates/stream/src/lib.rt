@@ -1,24 +1,29 @@
 // The record stream of document 01, a chunk at a time: bytes in, lines out.
-//   Fed, Stop      what feed hands back: the state, how many bytes it used and wrote, and why it stopped
-//   feed           takes the whole records of a chunk in order
-//   Turned, take_other, take_plan ..     one record other than an element: the head behind it, and how far out is written
-//   early_refusal  what the head alone refuses
-//   cut            the line of refusal 7, for an unknown kind or a record that the end of the input cuts short
+//   Fed, Stop                                  what feed hands back: the state, how many bytes it used and wrote, and why it stopped
+//   record_length, byte_at .. four_at, plan_at    a record's bytes
+//   Turned, take_plan .. take_other            one record other than an element: the head behind it, and how far out is written
+//   early_refusal                              what the head alone refuses
+//   take_first, take_reply, put_element        one element: how far out is written
+//   ready_at, stop_at                          whether a record is taken at a place, and why none is
+//   feed, feed_near                            takes the whole records of a chunk in order
+//   cut                                        the line of refusal 7, for an unknown kind or a record that the end of the input cuts short
 ghost use mathlib.Core.Path.{_≡_};
-ghost use Prim.Native.Nat.{_+_, _*_, _≤_, _<_};
+ghost use mathlib.Core.List.{List};
+ghost use Prim.Native.Nat.{ℕ, _+_, _*_, _^_, _≤_, _<_};
 ghost use lib.ListN.{length, getD, take};
 ghost use lib.Seq.{sets};
 ghost use Rattle.scheme.specs.Service.{plan-record, open-record, close-record, finish-record, silent};
+ghost use Rattle.plan.specs.Plan.{plan-of};
 ghost use Rattle.service.specs.Calls.{lent};
 ghost use Rattle.service.specs.Promise.{told};
 ghost use Rattle.lines.specs.Text.{line};
 ghost use Rattle.lines.specs.Put.{room, Put};
-ghost use Rattle.stream.specs.Stream.{record-length, two-bytes, four-bytes, record-at, early-refusal, lines, Turns, fed, cut-length, cut-left};
+ghost use Rattle.stream.specs.Stream.{record-length, two-bytes, four-bytes, plan-at, record-at, Whole, Other, lines, ready-at, stop-at, fed, early-refusal, Turns, cut-length, cut-left};
 use lines::LINE;
+use plan::CELLS;
+use plan::FIRSTS;
 use plan::Plan;
-use service::FIRSTS;
 use service::Head;
-use service::REPLIES;
 use service::Service;
 
 // All bytes are used; an unknown kind or a record that is not whole comes next; no room for a line; offsets would pass 64 bits.
@@ -42,9 +47,10 @@ pub struct Turned {
     pub wrote: usize,
 }
 
-// The bytes of a record of this kind, its kind included; 0 where there is none.
+// The bytes of a record of this kind, its kind included; 0 where there is none. The kinds are 01 plan, 02 open, 03 first element,
+// 04 close, 05 reply element and 06 finish.
 fn record_length(kind: u8) -> usize
-    ensures { λ r. ⌜ (r ≡ record-length kind) × (r ≤ 6) ⌝ }
+    ensures { λ r. ⌜ r ≡ record-length kind ⌝ }
 {
     match kind {
         1 => 5,
@@ -61,6 +67,13 @@ fn wide(x: u8) -> u32
     ensures { λ r. ⌜ r ≡ x ⌝ }
 {
     x as u32
+}
+
+fn byte_at(b: &[u8], i: usize) -> u32
+    requires { ⌜ i < length (now b) ⌝ }
+    ensures { λ r. ⌜ r ≡ getD (now (b .entry)) i 0 ⌝ }
+{
+    wide(b[i])
 }
 
 fn both(low: u8, high: u8) -> u16
@@ -98,12 +111,12 @@ fn put_element(out: &mut [u8], at: usize, number: u32, offset: u64) -> usize
 
 fn plan_at(b: &[u8], at: usize) -> Plan
     requires { ⌜ at + 5 ≤ length (now b) ⌝ }
-    ensures { λ r. ⌜ r ≡ record { users = getD (now (b .entry)) (at + 1) 0; threshold = getD (now (b .entry)) (at + 2) 0; collusion = getD (now (b .entry)) (at + 3) 0; blocks = getD (now (b .entry)) (at + 4) 0 } ⌝ }
+    ensures { λ r. ⌜ plan-of r ≡ plan-at (now (b .entry)) at ⌝ }
 {
-    let users = wide(b[at + 1]);
-    let threshold = wide(b[at + 2]);
-    let collusion = wide(b[at + 3]);
-    let blocks = wide(b[at + 4]);
+    let users = byte_at(b, at + 1);
+    let threshold = byte_at(b, at + 2);
+    let collusion = byte_at(b, at + 3);
+    let blocks = byte_at(b, at + 4);
     Plan {
         users,
         threshold,
@@ -115,14 +128,16 @@ fn plan_at(b: &[u8], at: usize) -> Plan
 fn take_plan(
     head: Head,
     first: &mut [u16; FIRSTS],
-    reply: &mut [u16; REPLIES],
+    reply: &mut [u16; CELLS],
     plan: Plan,
     offset: u64,
     out: &mut [u8],
     at: usize,
 ) -> Turned
     requires { ⌜ at + room ≤ length (now out) ⌝ }
-    ensures { λ r. ⌜ Turns (lent head (now (first .entry)) (now (reply .entry))) (plan-record (record { users = plan .users; threshold = plan .threshold; collusion = plan .collusion; blocks = plan .blocks })) offset (now (out .entry)) (now (out .exit)) at r (now (first .exit)) (now (reply .exit)) ⌝ }
+    ensures { λ r. ⌜ Turns (plan-record (plan-of plan)) offset
+        (lent head (now (first .entry)) (now (reply .entry))) (lent (r .head) (now (first .exit)) (now (reply .exit)))
+        (now (out .entry)) (now (out .exit)) at (r .wrote) ⌝ }
 {
     let step = service::plan_lent(head, first, reply, plan);
     let number = step.number;
@@ -145,14 +160,16 @@ fn take_plan(
 fn take_open(
     head: Head,
     first: &mut [u16; FIRSTS],
-    reply: &mut [u16; REPLIES],
+    reply: &mut [u16; CELLS],
     round: u32,
     offset: u64,
     out: &mut [u8],
     at: usize,
 ) -> Turned
     requires { ⌜ at + room ≤ length (now out) ⌝ }
-    ensures { λ r. ⌜ Turns (lent head (now (first .entry)) (now (reply .entry))) (open-record round) offset (now (out .entry)) (now (out .exit)) at r (now (first .exit)) (now (reply .exit)) ⌝ }
+    ensures { λ r. ⌜ Turns (open-record round) offset
+        (lent head (now (first .entry)) (now (reply .entry))) (lent (r .head) (now (first .exit)) (now (reply .exit)))
+        (now (out .entry)) (now (out .exit)) at (r .wrote) ⌝ }
 {
     let step = service::open_lent(head, first, reply, round);
     let number = step.number;
@@ -168,13 +185,15 @@ fn take_open(
 fn take_close(
     head: Head,
     first: &[u16; FIRSTS],
-    reply: &mut [u16; REPLIES],
+    reply: &mut [u16; CELLS],
     offset: u64,
     out: &mut [u8],
     at: usize,
 ) -> Turned
     requires { ⌜ at + room ≤ length (now out) ⌝ }
-    ensures { λ r. ⌜ Turns (lent head (now (first .entry)) (now (reply .entry))) close-record offset (now (out .entry)) (now (out .exit)) at r (now (first .entry)) (now (reply .exit)) ⌝ }
+    ensures { λ r. ⌜ Turns close-record offset
+        (lent head (now (first .entry)) (now (reply .entry))) (lent (r .head) (now (first .entry)) (now (reply .exit)))
+        (now (out .entry)) (now (out .exit)) at (r .wrote) ⌝ }
 {
     let round = head.round;
     let step = service::close_lent(head, first, reply);
@@ -192,13 +211,15 @@ fn take_close(
 fn take_finish(
     head: Head,
     first: &mut [u16; FIRSTS],
-    reply: &mut [u16; REPLIES],
+    reply: &mut [u16; CELLS],
     offset: u64,
     out: &mut [u8],
     at: usize,
 ) -> Turned
     requires { ⌜ at + room ≤ length (now out) ⌝ }
-    ensures { λ r. ⌜ Turns (lent head (now (first .entry)) (now (reply .entry))) finish-record offset (now (out .entry)) (now (out .exit)) at r (now (first .exit)) (now (reply .exit)) ⌝ }
+    ensures { λ r. ⌜ Turns finish-record offset
+        (lent head (now (first .entry)) (now (reply .entry))) (lent (r .head) (now (first .exit)) (now (reply .exit)))
+        (now (out .entry)) (now (out .exit)) at (r .wrote) ⌝ }
 {
     let round = head.round;
     let plan = head.plan;
@@ -215,34 +236,9 @@ fn take_finish(
     Turned { head: next, wrote }
 }
 
-// A record other than an element: plan, open, close or finish.
-fn take_other(
-    head: Head,
-    first: &mut [u16; FIRSTS],
-    reply: &mut [u16; REPLIES],
-    b: &[u8],
-    start: usize,
-    offset: u64,
-    out: &mut [u8],
-    at: usize,
-) -> Turned
-    requires { ⌜ (at + room ≤ length (now out)) × (start + record-length (getD (now b) start 0) ≤ length (now b)) × (start < length (now b)) ⌝ }
-    requires { ⌜ ((getD (now b) start 0 ≡ 3 → ⊥) × (getD (now b) start 0 ≡ 5 → ⊥)) ⌝ }
-    ensures { λ r. ⌜ Turns (lent head (now (first .entry)) (now (reply .entry))) (record-at (now (b .entry)) start) offset (now (out .entry)) (now (out .exit)) at r (now (first .exit)) (now (reply .exit)) ⌝ }
-{
-    let kind = b[start];
-    match kind {
-        1 => take_plan(head, first, reply, plan_at(b, start), offset, out, at),
-        2 => take_open(head, first, reply, four_at(b, start + 1), offset, out, at),
-        4 => take_close(head, first, reply, offset, out, at),
-        _ => take_finish(head, first, reply, offset, out, at),
-    }
-}
-
 // The refusal of a record other than an element, as far as the head alone decides it: then nothing of the state need be moved.
 fn early_refusal(head: Head, b: &[u8], start: usize) -> u32
-    requires { ⌜ (start + record-length (getD (now b) start 0) ≤ length (now b)) × (start < length (now b)) ⌝ }
-    requires { ⌜ ((getD (now b) start 0 ≡ 3 → ⊥) × (getD (now b) start 0 ≡ 5 → ⊥)) ⌝ }
+    requires { ⌜ Other (now b) start ⌝ }
     ensures { λ r. ⌜ r ≡ early-refusal head (record-at (now (b .entry)) start) ⌝ }
 {
     let phase = head.phase;
@@ -255,103 +251,167 @@ fn early_refusal(head: Head, b: &[u8], start: usize) -> u32
     }
 }
 
+// A record other than an element: 01 plan, 02 open, 04 close or 06 finish.
+fn take_other(
+    head: Head,
+    first: &mut [u16; FIRSTS],
+    reply: &mut [u16; CELLS],
+    b: &[u8],
+    start: usize,
+    offset: u64,
+    out: &mut [u8],
+    at: usize,
+) -> Turned
+    requires { ⌜ (at + room ≤ length (now out)) × Other (now b) start ⌝ }
+    ensures { λ r. ⌜ Turns (record-at (now (b .entry)) start) offset
+        (lent head (now (first .entry)) (now (reply .entry))) (lent (r .head) (now (first .exit)) (now (reply .exit)))
+        (now (out .entry)) (now (out .exit)) at (r .wrote) ⌝ }
+{
+    let number = early_refusal(head, b, start);
+    if number != 0 {
+        let wrote = lines::put_refusal(out, at, number, offset);
+        return Turned { head, wrote };
+    }
+    let kind = b[start];
+    match kind {
+        1 => take_plan(head, first, reply, plan_at(b, start), offset, out, at),
+        2 => take_open(head, first, reply, four_at(b, start + 1), offset, out, at),
+        4 => take_close(head, first, reply, offset, out, at),
+        _ => take_finish(head, first, reply, offset, out, at),
+    }
+}
+
+// 03, a first element. It leaves the replies as they are, whatever they are.
+fn take_first(
+    head: Head,
+    first: &mut [u16; FIRSTS],
+    b: &[u8],
+    start: usize,
+    offset: u64,
+    out: &mut [u8],
+    at: usize,
+) -> usize
+    requires { ⌜ (at + room ≤ length (now out)) × Whole (now b) start × (getD (now b) start 0 ≡ 3) ⌝ }
+    ensures { λ r. ⌜ ((reply : List ℕ) → Turns (record-at (now (b .entry)) start) offset
+        (lent head (now (first .entry)) reply) (lent head (now (first .exit)) reply) (now (out .entry)) (now (out .exit)) at r) ⌝ }
+{
+    let user = byte_at(b, start + 1);
+    let place = two_at(b, start + 2);
+    let element = two_at(b, start + 4);
+    let number = service::put_first(head, first, user, place, element);
+    put_element(out, at, number, offset)
+}
+
+// 05, a reply element. It leaves the first elements as they are.
+fn take_reply(
+    head: Head,
+    reply: &mut [u16; CELLS],
+    b: &[u8],
+    start: usize,
+    offset: u64,
+    out: &mut [u8],
+    at: usize,
+) -> usize
+    requires { ⌜ (at + room ≤ length (now out)) × Whole (now b) start × (getD (now b) start 0 ≡ 5) ⌝ }
+    ensures { λ r. ⌜ ((first : List ℕ) → Turns (record-at (now (b .entry)) start) offset
+        (lent head first (now (reply .entry))) (lent head first (now (reply .exit))) (now (out .entry)) (now (out .exit)) at r) ⌝ }
+{
+    let user = byte_at(b, start + 1);
+    let block = byte_at(b, start + 2);
+    let element = two_at(b, start + 3);
+    let number = service::put_reply(head, reply, user, block, element);
+    put_element(out, at, number, offset)
+}
+
+// Whether a record is taken at a place: it is of a known kind and whole, and its line fits into the bytes that are left of the buffer.
+fn ready_at(b: &[u8], at: usize, left: usize) -> bool
+    ensures { λ r. ⌜ r ≡ ready-at (now (b .entry)) at left ⌝ }
+{
+    if b.len() <= at {
+        return false;
+    }
+    let n = record_length(b[at]);
+    if n == 0 {
+        return false;
+    }
+    if b.len() - at < n {
+        return false;
+    }
+    LINE <= left
+}
+
+// Why none is: the room for a line is the last test.
+fn stop_at(b: &[u8], at: usize) -> Stop
+    ensures { λ r. ⌜ r ≡ stop-at (now (b .entry)) at ⌝ }
+{
+    if b.len() <= at {
+        return Stop::Used;
+    }
+    let n = record_length(b[at]);
+    if n == 0 {
+        return Stop::Unknown;
+    }
+    if n <= b.len() - at {
+        return Stop::Full;
+    }
+    Stop::Partial
+}
+
+fn feed_near(start: Service, b: &[u8], offset: u64, out: &mut [u8]) -> Fed
+    requires { ⌜ offset + length (now b) < 2 ^ 64 ⌝ }
+    ensures result { λ r. ⌜ r ≡ fed start (now (b .entry)) offset (length (now (out .entry))) ⌝ }
+    ensures left { λ r. ⌜ now (out .exit) ≡ sets (now (out .entry)) 0 (lines start offset (take (r .at) (now (b .entry)))) ⌝ }
+{
+    let mut state = start;
+    let mut reply = start.reply;
+    let mut at: usize = 0;
+    let mut wrote: usize = 0;
+    while ready_at(b, at, out.len() - wrote) {
+        let kind = b[at];
+        let here = offset + at as u64;
+        // an element's 6 or 5 bytes are written out, so that the next record need not wait for a length that is looked up
+        if kind == 3 {
+            let head = state.head;
+            wrote = take_first(head, &mut state.first, b, at, here, out, wrote);
+            at += 6;
+        } else if kind == 5 {
+            let head = state.head;
+            wrote = take_reply(head, &mut reply, b, at, here, out, wrote);
+            at += 5;
+        } else {
+            let head = state.head;
+            let turned = take_other(head, &mut state.first, &mut reply, b, at, here, out, wrote);
+            let next = turned.head;
+            state.head = next;
+            wrote = turned.wrote;
+            at += record_length(kind);
+        }
+    }
+    state.reply = reply;
+    let stop = stop_at(b, at);
+    Fed {
+        service: state,
+        at,
+        wrote,
+        stop,
+    }
+}
+
 // Takes the whole records of b in order; the first byte of b stands at the offset. It stops where b ends, at an unknown kind, at a
 // record that is not whole, or where less than LINE bytes of out are left. Of a chunk whose offsets would pass 64 bits it takes none.
 pub fn feed(start: Service, b: &[u8], offset: u64, out: &mut [u8]) -> Fed
     ensures result { λ r. ⌜ r ≡ fed start (now (b .entry)) offset (length (now (out .entry))) ⌝ }
     ensures left { λ r. ⌜ now (out .exit) ≡ sets (now (out .entry)) 0 (lines start offset (take (r .at) (now (b .entry)))) ⌝ }
 {
-    let mut service = start;
-    let mut reply = start.reply;
-    let mut at: usize = 0;
-    let mut wrote: usize = 0;
     if u64::MAX - offset < b.len() as u64 {
         return Fed {
-            service,
-            at,
-            wrote,
+            service: start,
+            at: 0,
+            wrote: 0,
             stop: Stop::Far,
         };
     }
-    while at < b.len() {
-        let kind = b[at];
-        let n = record_length(kind);
-        if n == 0 {
-            service.reply = reply;
-            return Fed {
-                service,
-                at,
-                wrote,
-                stop: Stop::Unknown,
-            };
-        }
-        if b.len() - at < n {
-            service.reply = reply;
-            return Fed {
-                service,
-                at,
-                wrote,
-                stop: Stop::Partial,
-            };
-        }
-        if out.len() - wrote < LINE {
-            service.reply = reply;
-            return Fed {
-                service,
-                at,
-                wrote,
-                stop: Stop::Full,
-            };
-        }
-        let here = offset + at as u64;
-        // an element's length is written out, so that the next record need not wait for one that is looked up
-        if kind == 3 {
-            let head = service.head;
-            let user = wide(b[at + 1]);
-            let place = two_at(b, at + 2);
-            let element = two_at(b, at + 4);
-            let number = service::put_first(head, &mut service.first, user, place, element);
-            wrote = put_element(out, wrote, number, here);
-            at += 6;
-        } else if kind == 5 {
-            let head = service.head;
-            let user = wide(b[at + 1]);
-            let block = wide(b[at + 2]);
-            let element = two_at(b, at + 3);
-            let number = service::put_reply(head, &mut reply, user, block, element);
-            wrote = put_element(out, wrote, number, here);
-            at += 5;
-        } else {
-            let head = service.head;
-            let number = early_refusal(head, b, at);
-            if number != 0 {
-                wrote = lines::put_refusal(out, wrote, number, here);
-                at += n;
-            } else {
-                let turned = take_other(
-                    head,
-                    &mut service.first,
-                    &mut reply,
-                    b,
-                    at,
-                    here,
-                    out,
-                    wrote,
-                );
-                let next = turned.head;
-                service.head = next;
-                wrote = turned.wrote;
-                at += n;
-            }
-        }
-    }
-    service.reply = reply;
-    Fed {
-        service,
-        at,
-        wrote,
-        stop: Stop::Used,
-    }
+    feed_near(start, b, offset, out)
 }
 
 // Writes the line of refusal 7 and answers its length, or 0 where out has no room for a line.

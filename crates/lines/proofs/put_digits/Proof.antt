@@ -1,12 +1,8 @@
 -- `lines::put_digits` meets its contract: the high part, and then eight digits once or twice.
-use mathlib.Core.Path.{ap, _∙_}
-use mathlib.Core.List.{List, _++_}
-use Prim.Native.Nat.{ℕ, _/_, _%_}
+use Prim.Native.Nat.{_/_}
 use native.Mathlib.Omega.{arith}
 use borrow.Author.Needs.{needs}
-use Rattle.lines.specs.Text.{spell}
-use Rattle.lines.proofs.Decimals.{decimal-parts}
-use Rattle.lines.proofs.Lines.{put-append, put-as}
+use Rattle.lines.proofs.Lines.{put-decimal}
 use Rattle.lines.proofs.put_digits.Statement.{statement}
 use Rattle.lines.proofs.put_digits.Tie as tie
 
@@ -39,10 +35,11 @@ same-length-2 c = search needs
 
 returns-2 : tie.Need-returns-2
 returns-2 c =
-    let n = c .before .before .before .before .before .before .before .before .before .before .before .args .n in
-    let low = c .before .before .put-eight .ensures in
-    let high = c .before .before .before .before .before .before .put-low2 .ensures in
-    put-as (put-append (high .1) (low .1)) (decimal-parts 8 n (omega arith) (omega arith))
+    let low = c .before .before in
+    let high = low .before .before .before .before in
+    let parts = high .before .before .before in
+    let n = parts .before .before .args .n in
+    put-decimal 8 n (omega arith) (omega arith) (high .put-low2 .ensures .1) (low .put-eight .ensures .1)
 
 cast-put-few : tie.Need-cast-put-few
 cast-put-few c = search needs
@@ -64,12 +61,13 @@ same-length-3 c = search needs
 
 returns-3 : tie.Need-returns-3
 returns-3 c =
-    let n = c .before .before .before .before .before .before .before .before .before .before .before .before .before .before .before .args .n in
-    let low = c .before .before .put-eight3 .ensures in
-    let mid = c .before .before .before .before .before .before .put-eight2 .ensures in
-    let high = c .before .before .before .before .before .before .before .before .before .before .put-few .ensures in
-    put-as (put-append (put-append (high .1) (mid .1)) (low .1))
-    (ap (λ (l : List ℕ). l ++ spell 8 (n % 100000000)) (decimal-parts 8 (n / 100000000) (omega arith) (omega arith)) ∙ decimal-parts 8 n (omega arith) (omega arith))
+    let low = c .before .before in
+    let mid = low .before .before .before .before in
+    let high = mid .before .before .before .before in
+    let parts = high .before .before .before in
+    let n = parts .before .before .args .n in
+    let front = put-decimal 8 (n / 100000000) (omega arith) (omega arith) (high .put-few .ensures .1) (mid .put-eight2 .ensures .1) in
+    put-decimal 8 n (omega arith) (omega arith) front (low .put-eight3 .ensures .1)
 
 pub put-digits-spec : {M : Type 1} → statement M
 put-digits-spec =

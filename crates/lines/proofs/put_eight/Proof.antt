@@ -1,8 +1,7 @@
 -- `lines::put_eight` meets its contract: four digits and the last four.
 use native.Mathlib.Omega.{arith}
 use borrow.Author.Needs.{needs}
-use Rattle.lines.proofs.Decimals.{spell-parts}
-use Rattle.lines.proofs.Lines.{put-append, put-as}
+use Rattle.lines.proofs.Lines.{put-spell}
 use Rattle.lines.proofs.put_eight.Statement.{statement}
 use Rattle.lines.proofs.put_eight.Tie as tie
 
@@ -19,7 +18,9 @@ returns : tie.Need-returns
 returns c =
     let low = c .before .before in
     let high = low .before .before .before .before in
-    (omega (arith, low .put-four2 .ensures .0, high .put-four .ensures .0), put-as (put-append (high .put-four .ensures .1) (low .put-four2 .ensures .1)) (spell-parts 4 4 _))
+    let a = high .put-four .ensures in
+    let b = low .put-four2 .ensures in
+    (omega (arith, a .0, b .0), put-spell 4 4 _ (a .1) (b .1))
 
 pub put-eight-spec : {M : Type 1} → statement M
 put-eight-spec = tie.close (tie.spec put-four-requires put-four-requires-2 same-length returns)

@@ -1,9 +1,8 @@
 -- `lines::put_few` meets its contract: how large the number is says how many digits it has.
-use mathlib.Core.Path.{_∙_}
 use native.Mathlib.Omega.{arith}
 use borrow.Author.Needs.{needs}
-use Rattle.lines.proofs.Decimals.{spell-parts, decimal-one, decimal-whole}
-use Rattle.lines.proofs.Lines.{put-append, put-as}
+use Rattle.lines.proofs.Decimals.{decimal-one, decimal-whole}
+use Rattle.lines.proofs.Lines.{put-as, put-spell}
 use Rattle.lines.proofs.put_few.Statement.{statement}
 use Rattle.lines.proofs.put_few.Tie as tie
 
@@ -15,8 +14,9 @@ same-length c = search needs
 
 returns : tie.Need-returns
 returns c =
-    let n = c .before .before .before .before .before .before .args .n in
-    let p = c .before .before .put-one .ensures in
+    let put = c .before .before in
+    let n = put .before .before .before .before .args .n in
+    let p = put .put-one .ensures in
     (omega (arith, p .0), put-as (p .1) (decimal-one n (omega arith)))
 
 put-two-requires : tie.Need-put-two-requires
@@ -27,8 +27,10 @@ same-length-2 c = search needs
 
 returns-2 : tie.Need-returns-2
 returns-2 c =
-    let n = c .before .before .before .before .before .before .before .args .n in
-    let p = c .before .before .put-two .ensures in
+    let put = c .before .before in
+    let hundred = put .before .before in
+    let n = hundred .before .before .before .args .n in
+    let p = put .put-two .ensures in
     (omega (arith, p .0), put-as (p .1) (decimal-whole 1 n (omega arith) (omega arith) (omega arith)))
 
 put-one-requires-2 : tie.Need-put-one-requires-2
@@ -42,10 +44,13 @@ same-length-3 c = search needs
 
 returns-3 : tie.Need-returns-3
 returns-3 c =
-    let n = c .before .before .before .before .before .before .before .before .before .before .before .before .args .n in
-    let p = c .before .before .put-two2 .ensures in
-    let q = c .before .before .before .before .before .before .put-one2 .ensures in
-    (omega (arith, p .0, q .0), put-as (put-append (q .1) (p .1)) (spell-parts 1 2 n ∙ decimal-whole 2 n (omega arith) (omega arith) (omega arith)))
+    let low = c .before .before in
+    let high = low .before .before .before .before in
+    let hundred = high .before .before .before in
+    let n = hundred .before .before .before .args .n in
+    let p = low .put-two2 .ensures in
+    let q = high .put-one2 .ensures in
+    (omega (arith, p .0, q .0), put-as (put-spell 1 2 n (q .1) (p .1)) (decimal-whole 2 n (omega arith) (omega arith) (omega arith)))
 
 put-four-requires : tie.Need-put-four-requires
 put-four-requires c κs = search needs
@@ -55,8 +60,10 @@ same-length-4 c = search needs
 
 returns-4 : tie.Need-returns-4
 returns-4 c =
-    let n = c .before .before .before .before .before .before .before .before .args .n in
-    let p = c .before .before .put-four .ensures in
+    let put = c .before .before in
+    let hundred = put .before .before .before in
+    let n = hundred .before .before .before .args .n in
+    let p = put .put-four .ensures in
     (omega (arith, p .0), put-as (p .1) (decimal-whole 3 n (omega arith) (omega arith) (omega arith)))
 
 pub put-few-spec : {M : Type 1} → statement M

@@ -1,8 +1,7 @@
 -- `lines::put_four` meets its contract: the hundredth part and the last two digits.
 use native.Mathlib.Omega.{arith}
 use borrow.Author.Needs.{needs}
-use Rattle.lines.proofs.Decimals.{spell-parts}
-use Rattle.lines.proofs.Lines.{put-append, put-as}
+use Rattle.lines.proofs.Lines.{put-spell}
 use Rattle.lines.proofs.put_four.Statement.{statement}
 use Rattle.lines.proofs.put_four.Tie as tie
 
@@ -19,7 +18,9 @@ returns : tie.Need-returns
 returns c =
     let low = c .before .before in
     let high = low .before .before .before .before in
-    (omega (arith, low .put-two2 .ensures .0, high .put-two .ensures .0), put-as (put-append (high .put-two .ensures .1) (low .put-two2 .ensures .1)) (spell-parts 2 2 _))
+    let a = high .put-two .ensures in
+    let b = low .put-two2 .ensures in
+    (omega (arith, a .0, b .0), put-spell 2 2 _ (a .1) (b .1))
 
 pub put-four-spec : {M : Type 1} → statement M
 put-four-spec = tie.close (tie.spec put-two-requires put-two-requires-2 same-length returns)

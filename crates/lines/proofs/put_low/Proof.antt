@@ -1,8 +1,7 @@
 -- `lines::put_low` meets its contract: the high part and the last four digits.
 use native.Mathlib.Omega.{arith}
 use borrow.Author.Needs.{needs}
-use Rattle.lines.proofs.Decimals.{decimal-parts}
-use Rattle.lines.proofs.Lines.{put-append, put-as}
+use Rattle.lines.proofs.Lines.{put-decimal}
 use Rattle.lines.proofs.put_low.Statement.{statement}
 use Rattle.lines.proofs.put_low.Tie as tie
 
@@ -26,10 +25,12 @@ same-length-2 c = search needs
 
 returns-2 : tie.Need-returns-2
 returns-2 c =
-    let n = c .before .before .before .before .before .before .before .before .before .before .args .n in
-    let low = c .before .before .put-four .ensures in
-    let high = c .before .before .before .before .before .before .put-few2 .ensures in
-    (omega (arith, low .0, high .0), put-as (put-append (high .1) (low .1)) (decimal-parts 4 n (omega arith) (omega arith)))
+    let low = c .before .before in
+    let high = low .before .before .before .before in
+    let n = high .before .before .before .before .args .n in
+    let a = high .put-few2 .ensures in
+    let b = low .put-four .ensures in
+    (omega (arith, a .0, b .0), put-decimal 4 n (omega arith) (omega arith) (a .1) (b .1))
 
 pub put-low-spec : {M : Type 1} → statement M
 put-low-spec =

@@ -23,8 +23,10 @@ same-length c = put-length (c .before .before .put-digits .ensures) ∙ simp len
 
 returns : tie.Need-returns
 returns c =
-    let p = c .before .before .put-digits .ensures in
-    (omega (arith, p .place, decimal-twenty (c .before .before .before .before .before .args .n)), put-append {xs = 32 ∷ []} (record { place = refl; bytes = refl }) p)
+    let digits = c .before .before in
+    let n = digits .before .before .before .args .n in
+    let p = digits .put-digits .ensures in
+    (omega (arith, p .place, decimal-twenty n), put-append {xs = 32 ∷ []} (record { place = refl; bytes = refl }) p)
 
 pub put-number-spec : {M : Type 1} → statement M
 put-number-spec =

@@ -26,7 +26,8 @@ same-length c = search needs
 returns : tie.Need-returns
 returns c =
     let end = c .before .before in
-    let round = end .before .before .before .before .before in
+    let text = end .before in
+    let round = text .before .before .before .before in
     let word = round .before .before .before .before in
     let x = put-append (word .put-bytes .ensures) (round .put-number .ensures .1) in
     (omega arith, λ o. put-as (put-append x (end .put-bytes2 .ensures)) (opened-text o (word .before .before .before .before .args .round)))

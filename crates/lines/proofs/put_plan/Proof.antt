@@ -35,12 +35,12 @@ same-length c = search needs
 returns : tie.Need-returns
 returns c =
     let end = c .before .before in
-    let blocks = end .before .before .before .before .before in
+    let text = end .before in
+    let blocks = text .before .before .before .before in
     let collusion = blocks .before .before .before .before in
     let threshold = collusion .before .before .before .before in
     let users = threshold .before .before .before .before in
     let word = users .before .before .before .before in
-    let a = word .before .before .before .before .args in
     let x = put-append (word .put-bytes .ensures) (users .put-number .ensures .1) in
     let y = put-append x (threshold .put-number2 .ensures .1) in
     let z = put-append y (collusion .put-number3 .ensures .1) in

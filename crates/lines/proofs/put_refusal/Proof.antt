@@ -35,9 +35,11 @@ same-length c = search needs
 returns : tie.Need-returns
 returns c =
     let end = c .before .before in
-    let offset = end .before .before .before .before .before in
+    let text = end .before in
+    let offset = text .before .before .before .before in
     let mark = offset .before .before .before .before in
-    let number = mark .before .before .before .before .before in
+    let at = mark .before in
+    let number = at .before .before .before .before in
     let word = number .before .before .before .before in
     let a = word .before .before .before .before .args in
     let x = put-append (word .put-bytes .ensures) (number .put-number .ensures .1) in

@@ -29,7 +29,8 @@ same-length c = search needs
 returns : tie.Need-returns
 returns c =
     let end = c .before .before in
-    let set = end .before .before .before .before .before in
+    let text = end .before in
+    let set = text .before .before .before .before in
     let round = set .before .before .before .before in
     let word = round .before .before .before .before in
     let a = word .before .before .before .before .args in

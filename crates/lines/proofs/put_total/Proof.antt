@@ -30,8 +30,10 @@ same-length c = search needs
 returns : tie.Need-returns
 returns c =
     let end = c .before .before in
-    let totals = end .before .before .before .before .before in
-    let round = totals .before .before .before .before .before in
+    let text = end .before in
+    let totals = text .before .before .before .before in
+    let row = totals .before in
+    let round = row .before .before .before .before in
     let word = round .before .before .before .before in
     let a = word .before .before .before .before .args in
     let x = put-append (word .put-bytes .ensures) (round .put-number .ensures .1) in

@@ -1,17 +1,17 @@
--- `lines::put_totals` meets its contract: what is written so far is the numbers so far, 6 bytes each at most.
+-- `lines::put_totals` meets its contract: what is written so far is the numbers so far, each within its room.
 use mathlib.Core.Path.{_≡_, sym}
 use Prim.Native.Nat.{_+_, _*_, _-_, _≤_, _<_}
 use native.Mathlib.Omega.{arith}
 use lib.ListN.{length, take}
 use borrow.Author.Needs.{needs}
 use Rattle.lines.specs.Text.{numbers}
-use Rattle.lines.specs.Put.{Put}
+use Rattle.lines.specs.Put.{short-room, Put}
 use Rattle.lines.proofs.Lines.{put-none, put-append, put-as, put-length, numbers-more}
 use Rattle.lines.proofs.put_totals.Statement.{statement}
 use Rattle.lines.proofs.put_totals.Tie as tie
 
 abbrev Inv-loop : tie.InvT-loop
-Inv-loop out₀ at n totals next₀ i₀ out next i = (i ≤ n) × (next ≤ at + 6 * i) × Put out₀ out at next (numbers (take i totals))
+Inv-loop out₀ at n totals next₀ i₀ out next i = (i ≤ n) × (next ≤ at + short-room * i) × Put out₀ out at next (numbers (take i totals))
 
 abbrev μ-loop : tie.MeasureT-loop
 μ-loop out₀ at n totals next₀ i₀ out next i = n - i

@@ -1,8 +1,7 @@
 -- `lines::put_two` meets its contract: the tenth part and the last digit.
 use native.Mathlib.Omega.{arith}
 use borrow.Author.Needs.{needs}
-use Rattle.lines.proofs.Decimals.{spell-parts}
-use Rattle.lines.proofs.Lines.{put-append, put-as}
+use Rattle.lines.proofs.Lines.{put-spell}
 use Rattle.lines.proofs.put_two.Statement.{statement}
 use Rattle.lines.proofs.put_two.Tie as tie
 
@@ -19,7 +18,9 @@ returns : tie.Need-returns
 returns c =
     let low = c .before .before in
     let high = low .before .before .before .before in
-    (omega (arith, low .put-one2 .ensures .0, high .put-one .ensures .0), put-as (put-append (high .put-one .ensures .1) (low .put-one2 .ensures .1)) (spell-parts 1 1 _))
+    let a = high .put-one .ensures in
+    let b = low .put-one2 .ensures in
+    (omega (arith, a .0, b .0), put-spell 1 1 _ (a .1) (b .1))
 
 pub put-two-spec : {M : Type 1} → statement M
 put-two-spec = tie.close (tie.spec put-one-requires put-one-requires-2 same-length returns)

@@ -19,7 +19,7 @@ add-four-at c = search needs
 
 four-at-requires : tie.Need-four-at-requires
 unfolding record-length
-four-at-requires c κs = omega (arith, c .before .before .before .pre .0 .0, ap record-length (c .match .keys2))
+four-at-requires c κs = omega (arith, c .before .before .before .pre .whole .whole, ap record-length (c .match .keys2))
 
 open-refusal-requires : tie.Need-open-refusal-requires
 open-refusal-requires c κs = search needs
@@ -46,8 +46,7 @@ returns-4 : tie.Need-returns-4
 unfolding early-refusal
 returns-4 c =
     let r = c .before .match .rest in
-    let p = c .before .before .before .before .pre .1 in
-    rw (record-finish _ _ (r .0 .0 .1) (r .0 .1) (p .0) (r .1) (p .1)) (c .not-replying .ensures)
+    rw (record-finish _ _ (c .before .before .before .before .pre) (r .0 .0 .1) (r .0 .1) (r .1)) (c .not-replying .ensures)
 
 pub early-refusal-spec : {M : Type 1} → statement M
 early-refusal-spec =

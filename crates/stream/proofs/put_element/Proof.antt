@@ -23,9 +23,10 @@ same-length c = search needs
 
 returns-2 : tie.Need-returns-2
 returns-2 c =
-    let p = c .before .before .put-refusal .ensures in
-    let a = c .before .before .before .before .before .before .args in
-    put-as (p .1) (sym (ap (line (a .offset)) (told-refused (c .before .before .before .before .if1 .left) silent)))
+    let put = c .before .before in
+    let test = put .before .before in
+    let a = test .before .before .args in
+    put-as (put .put-refusal .ensures .1) (sym (ap (line (a .offset)) (told-refused (test .if1 .left) silent)))
 
 pub put-element-spec : {M : Type 1} → statement M
 put-element-spec = tie.close (tie.spec returns put-refusal-requires same-length returns-2)

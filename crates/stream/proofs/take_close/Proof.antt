@@ -4,8 +4,7 @@ use mathlib.Core.Path.{ap}
 use borrow.Author.Needs.{needs}
 use Rattle.scheme.specs.Service.{closed}
 use Rattle.service.specs.declared.Closed.{Closed}
-use Rattle.service.specs.Promise.{told}
-use Rattle.stream.specs.Stream.{step}
+use Rattle.stream.specs.Stream.{outcome, step}
 use Rattle.stream.proofs.Turns.{turn-taken, turn-refused}
 use Rattle.stream.proofs.take_close.Statement.{statement}
 use Rattle.stream.proofs.take_close.Tie as tie
@@ -22,11 +21,13 @@ same-length c = search needs
 returns : tie.Need-returns
 unfolding step
 returns c =
-    let x = c .before .before .before .before .before .before in
+    let put = c .before .before in
+    let test = put .before .before in
+    let x = test .before .before in
     let a = x .before .before .before .args in
-    let e = x .close-lent .ensures in
-    turn-refused _ _ _ _ _ _ _ _ _ (closed (a .head .round) (x .close-lent .result .set))
-    (ap (λ (r : Closed). r .service) e) (ap (λ (r : Closed). told (r .number) (closed (a .head .round) (r .set))) e) (c .before .before .before .before .if1 .taken) (c .before .before .put-refusal .ensures .1)
+    let said = ap (λ (r : Closed). outcome (r .number) (closed (a .head .round) (r .set)) (r .service)) (x .close-lent .ensures) in
+    turn-refused (closed (a .head .round) (x .close-lent .result .set)) said
+    (test .if1 .taken) (put .put-refusal .ensures .1)
 
 put-survivors-requires : tie.Need-put-survivors-requires
 put-survivors-requires c κs = search needs
@@ -37,11 +38,13 @@ same-length-2 c = search needs
 returns-2 : tie.Need-returns-2
 unfolding step
 returns-2 c =
-    let x = c .before .before .before .before .before .before in
+    let put = c .before .before in
+    let test = put .before .before in
+    let x = test .before .before in
     let a = x .before .before .before .args in
-    let e = x .close-lent .ensures in
-    turn-taken _ _ _ _ _ _ _ _ _ (closed (a .head .round) (x .close-lent .result .set))
-    (ap (λ (r : Closed). r .service) e) (ap (λ (r : Closed). told (r .number) (closed (a .head .round) (r .set))) e) (c .before .before .before .before .if1 .left) (c .before .before .put-survivors .ensures .1 _)
+    let said = ap (λ (r : Closed). outcome (r .number) (closed (a .head .round) (r .set)) (r .service)) (x .close-lent .ensures) in
+    turn-taken (closed (a .head .round) (x .close-lent .result .set)) said
+    (test .if1 .left) (put .put-survivors .ensures .1 _)
 
 pub take-close-spec : {M : Type 1} → statement M
 take-close-spec =

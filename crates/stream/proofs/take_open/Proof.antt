@@ -4,8 +4,7 @@ use mathlib.Core.Path.{ap}
 use borrow.Author.Needs.{needs}
 use Rattle.scheme.specs.Service.{opened}
 use Rattle.service.specs.declared.Stepped.{Stepped}
-use Rattle.service.specs.Promise.{told}
-use Rattle.stream.specs.Stream.{step}
+use Rattle.stream.specs.Stream.{outcome, step}
 use Rattle.stream.proofs.Turns.{turn-taken, turn-refused}
 use Rattle.stream.proofs.take_open.Statement.{statement}
 use Rattle.stream.proofs.take_open.Tie as tie
@@ -22,11 +21,12 @@ same-length c = search needs
 returns : tie.Need-returns
 unfolding step
 returns c =
-    let x = c .before .before .before .before .before .before in
+    let put = c .before .before in
+    let test = put .before .before in
+    let x = test .before .before in
     let a = x .before .before .before .before .args in
-    let e = x .open-lent .ensures in
-    turn-refused _ _ _ _ _ _ _ _ _ (opened (a .round))
-    (ap (λ (r : Stepped). r .service) e) (ap (λ (r : Stepped). told (r .number) (opened (a .round))) e) (c .before .before .before .before .if1 .taken) (c .before .before .put-refusal .ensures .1)
+    turn-refused (opened (a .round)) (ap (λ (r : Stepped). outcome (r .number) (opened (a .round)) (r .service)) (x .open-lent .ensures))
+    (test .if1 .taken) (put .put-refusal .ensures .1)
 
 put-open-requires : tie.Need-put-open-requires
 put-open-requires c κs = search needs
@@ -37,11 +37,12 @@ same-length-2 c = search needs
 returns-2 : tie.Need-returns-2
 unfolding step
 returns-2 c =
-    let x = c .before .before .before .before .before .before in
+    let put = c .before .before in
+    let test = put .before .before in
+    let x = test .before .before in
     let a = x .before .before .before .before .args in
-    let e = x .open-lent .ensures in
-    turn-taken _ _ _ _ _ _ _ _ _ (opened (a .round))
-    (ap (λ (r : Stepped). r .service) e) (ap (λ (r : Stepped). told (r .number) (opened (a .round))) e) (c .before .before .before .before .if1 .left) (c .before .before .put-open .ensures .1 _)
+    turn-taken (opened (a .round)) (ap (λ (r : Stepped). outcome (r .number) (opened (a .round)) (r .service)) (x .open-lent .ensures))
+    (test .if1 .left) (put .put-open .ensures .1 _)
 
 pub take-open-spec : {M : Type 1} → statement M
 take-open-spec =

@@ -5,8 +5,7 @@ use borrow.Author.Needs.{needs}
 use Rattle.scheme.specs.Service.{planned}
 use Rattle.plan.specs.Plan.{plan-of}
 use Rattle.service.specs.declared.Stepped.{Stepped}
-use Rattle.service.specs.Promise.{told}
-use Rattle.stream.specs.Stream.{step}
+use Rattle.stream.specs.Stream.{outcome, step}
 use Rattle.stream.proofs.Turns.{turn-taken, turn-refused}
 use Rattle.stream.proofs.take_plan.Statement.{statement}
 use Rattle.stream.proofs.take_plan.Tie as tie
@@ -23,11 +22,12 @@ same-length c = search needs
 returns : tie.Need-returns
 unfolding step
 returns c =
-    let x = c .before .before .before .before .before .before in
+    let put = c .before .before in
+    let test = put .before .before in
+    let x = test .before .before in
     let a = x .before .before .before .before .args in
-    let e = x .plan-lent .ensures in
-    turn-refused _ _ _ _ _ _ _ _ _ (planned (plan-of (a .plan)))
-    (ap (λ (r : Stepped). r .service) e) (ap (λ (r : Stepped). told (r .number) (planned (plan-of (a .plan)))) e) (c .before .before .before .before .if1 .taken) (c .before .before .put-refusal .ensures .1)
+    turn-refused (planned (plan-of (a .plan))) (ap (λ (r : Stepped). outcome (r .number) (planned (plan-of (a .plan))) (r .service)) (x .plan-lent .ensures))
+    (test .if1 .taken) (put .put-refusal .ensures .1)
 
 put-plan-requires : tie.Need-put-plan-requires
 put-plan-requires c κs = search needs
@@ -38,11 +38,12 @@ same-length-2 c = search needs
 returns-2 : tie.Need-returns-2
 unfolding step
 returns-2 c =
-    let x = c .before .before .before .before .before .before in
+    let put = c .before .before in
+    let test = put .before .before in
+    let x = test .before .before in
     let a = x .before .before .before .before .args in
-    let e = x .plan-lent .ensures in
-    turn-taken _ _ _ _ _ _ _ _ _ (planned (plan-of (a .plan)))
-    (ap (λ (r : Stepped). r .service) e) (ap (λ (r : Stepped). told (r .number) (planned (plan-of (a .plan)))) e) (c .before .before .before .before .if1 .left) (c .before .before .put-plan .ensures .1 _)
+    turn-taken (planned (plan-of (a .plan))) (ap (λ (r : Stepped). outcome (r .number) (planned (plan-of (a .plan))) (r .service)) (x .plan-lent .ensures))
+    (test .if1 .left) (put .put-plan .ensures .1 _)
 
 pub take-plan-spec : {M : Type 1} → statement M
 take-plan-spec =

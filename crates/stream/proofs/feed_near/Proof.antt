@@ -1,0 +1,168 @@
+-- `stream::feed_near` meets its contract: at each turn what fed answers from here on is its answer, and the lines of the bytes used are written.
+-- Assumes nothing.
+use mathlib.Core.Path.{_≡_, sym, ap, _∙_}
+use mathlib.Core.Bool.{true}
+use mathlib.Core.List.{List}
+use Prim.Native.Nat.{ℕ, _-_}
+use native.Mathlib.Omega.{arith}
+use lib.ListN.{length}
+use borrow.Author.Needs.{needs}
+use Rattle.service.specs.Calls.{lent}
+use Rattle.stream.specs.Stream.{record-length, ready-at}
+use Rattle.stream.proofs.Feeding.{Ready, ready, Going, going-start, going-more, going-end}
+use Rattle.stream.proofs.feed_near.Statement.{statement}
+use Rattle.stream.proofs.feed_near.Tie as tie
+
+abbrev Inv-loop : tie.InvT-loop
+Inv-loop b offset out₀ state₀ reply₀ at₀ wrote₀ out state reply at wrote =
+    Going state₀ b offset out₀ (lent (state .head) (state .first) reply) at wrote out
+
+abbrev μ-loop : tie.MeasureT-loop
+μ-loop b offset out₀ state₀ reply₀ at₀ wrote₀ out state reply at wrote = length b - at
+
+-- ---- places
+abbrev Turn : Type 0
+Turn = tie.Then1 Inv-loop μ-loop
+
+abbrev from-first : tie.After-slice-known2 Inv-loop μ-loop → Turn
+from-first c = let turn = c .before .before in let test = turn .before .before .before .before in test .before .before
+
+abbrev from-reply : tie.After-slice-known3 Inv-loop μ-loop → Turn
+from-reply c = let turn = c .before .before in let test = turn .before .before .before .before in test .before .before .before
+
+abbrev from-other : tie.After-record-length Inv-loop μ-loop → Turn
+from-other c =
+    let turn = c .before .before .before .before in
+    let head = turn .before .before .before .before in
+    head .before .before .before .before
+
+-- ---- a turn takes a record
+module _ (c : Turn) where
+  abbrev at-loop : tie.At-loop Inv-loop μ-loop
+  at-loop = c .before .before
+
+  abbrev start : tie.Start Inv-loop μ-loop
+  start = at-loop .before .before .before .before
+
+  abbrev bytes : List ℕ
+  bytes = start .args .b .now
+
+  taken : ready-at bytes (at-loop .loop .at) (length (at-loop .loop .out) - at-loop .loop .wrote) ≡ true
+  taken = sym (c .before .ready-at .ensures) ∙ c .if1 .taken
+
+  here : Ready bytes (at-loop .loop .at) (length (at-loop .loop .out) - at-loop .loop .wrote)
+  here = ready _ _ _ taken
+
+loop-holds : tie.Need-loop-holds Inv-loop μ-loop
+loop-holds c = going-start _ _ _ _ (omega arith)
+
+sub-ready-at : tie.Need-sub-ready-at Inv-loop μ-loop
+sub-ready-at c = search needs
+
+ready-at-requires : tie.Need-ready-at-requires Inv-loop μ-loop
+ready-at-requires c κs = search needs
+
+shared-slice-read-kind : tie.Need-shared-slice-read-kind Inv-loop μ-loop
+shared-slice-read-kind c = here (c .before) .whole .inside
+
+add-here : tie.Need-add-here Inv-loop μ-loop
+add-here c = omega (arith, here (c .before) .whole .inside)
+
+take-first-requires : tie.Need-take-first-requires Inv-loop μ-loop
+take-first-requires c κs =
+    let test = c .before .before .before in
+    let r = here (test .before .before) in
+    (omega (arith, r .fits), r .whole, test .if2 .taken)
+
+add-at : tie.Need-add-at Inv-loop μ-loop
+add-at c = search needs
+
+loop-less : tie.Need-loop-less Inv-loop μ-loop
+loop-less c = omega (arith, here (from-first c) .whole .inside)
+
+loop-again : tie.Need-loop-again Inv-loop μ-loop
+unfolding record-length
+loop-again c =
+    let turn = c .before .before in
+    let test = turn .before .before .before .before in
+    going-more (from-first c .before .before .loop .inv) (taken (from-first c)) (sym (ap record-length (test .if2 .taken))) (turn .take-first .ensures _)
+
+take-reply-requires : tie.Need-take-reply-requires Inv-loop μ-loop
+take-reply-requires c κs =
+    let test = c .before .before .before in
+    let r = here (test .before .before .before) in
+    (omega (arith, r .fits), r .whole, test .if3 .taken)
+
+add-at-2 : tie.Need-add-at-2 Inv-loop μ-loop
+add-at-2 c = search needs
+
+loop-less-2 : tie.Need-loop-less-2 Inv-loop μ-loop
+loop-less-2 c = omega (arith, here (from-reply c) .whole .inside)
+
+loop-again-2 : tie.Need-loop-again-2 Inv-loop μ-loop
+unfolding record-length
+loop-again-2 c =
+    let turn = c .before .before in
+    let test = turn .before .before .before .before in
+    going-more (from-reply c .before .before .loop .inv) (taken (from-reply c)) (sym (ap record-length (test .if3 .taken))) (turn .take-reply .ensures _)
+
+take-other-requires : tie.Need-take-other-requires Inv-loop μ-loop
+take-other-requires c κs =
+    let test = c .before .before .before .before in
+    let first = test .before in
+    let r = here (first .before .before) in
+    (omega (arith, r .fits), record { whole = r .whole; not-first = first .if2 .left; not-reply = test .if3 .left })
+
+record-length-requires : tie.Need-record-length-requires Inv-loop μ-loop
+record-length-requires c κs = search needs
+
+add-at-3 : tie.Need-add-at-3 Inv-loop μ-loop
+add-at-3 c = let turn = from-other c in record { fits = omega (arith, here turn .whole .whole, c .record-length .ensures, start turn .pre) }
+
+loop-less-3 : tie.Need-loop-less-3 Inv-loop μ-loop
+loop-less-3 c = omega (arith, here (from-other c) .known, here (from-other c) .whole .inside, c .record-length .ensures)
+
+loop-again-3 : tie.Need-loop-again-3 Inv-loop μ-loop
+loop-again-3 c =
+    let next = c .before .before .before .before in
+    going-more (from-other c .before .before .loop .inv) (taken (from-other c)) (c .record-length .ensures) (next .take-other .ensures)
+
+stop-at-requires : tie.Need-stop-at-requires Inv-loop μ-loop
+stop-at-requires c κs = search needs
+
+same-length : tie.Need-same-length Inv-loop μ-loop
+same-length c = search needs
+
+returns : tie.Need-returns Inv-loop μ-loop
+returns c =
+    let end = c .before in
+    let g = end .before .before .loop .inv in
+    (rw (c .stop-at .ensures) (going-end g (sym (end .before .ready-at .ensures) ∙ end .if1 .left)), g .put .bytes)
+
+pub feed-near-spec : {M : Type 1} → statement M
+feed-near-spec =
+    tie.close
+    (tie.spec
+    Inv-loop
+    μ-loop
+    loop-holds
+    sub-ready-at
+    ready-at-requires
+    shared-slice-read-kind
+    add-here
+    take-first-requires
+    add-at
+    loop-less
+    loop-again
+    take-reply-requires
+    add-at-2
+    loop-less-2
+    loop-again-2
+    take-other-requires
+    record-length-requires
+    add-at-3
+    loop-less-3
+    loop-again-3
+    stop-at-requires
+    same-length
+    returns)

@@ -1,0 +1,53 @@
+-- `stream::ready_at` meets its contract: the tests that led to each return decide the definition's.
+-- Assumes nothing.
+use mathlib.Core.Path.{sym, _∙_}
+use borrow.Author.Needs.{needs}
+use borrow.Author.Tests.{eq-eqb, ne-eqb, lt-ltb, le-ltb, le-leb, lt-leb}
+use Rattle.stream.specs.Stream.{ready-at}
+use Rattle.stream.proofs.ready_at.Statement.{statement}
+use Rattle.stream.proofs.ready_at.Tie as tie
+
+returns : tie.Need-returns
+unfolding ready-at
+returns c = simp (le-ltb _ _ (c .if1 .taken))
+
+shared-slice-read-record-length : tie.Need-shared-slice-read-record-length
+shared-slice-read-record-length c = search needs
+
+record-length-requires : tie.Need-record-length-requires
+record-length-requires c κs = search needs
+
+returns-2 : tie.Need-returns-2
+unfolding ready-at
+returns-2 c =
+    let n = c .before .record-length .ensures in
+    simp (lt-ltb _ _ (c .before .before .before .if1 .left), eq-eqb _ _ (sym n ∙ c .if2 .taken))
+
+sub-if3 : tie.Need-sub-if3
+sub-if3 c = search needs
+
+returns-3 : tie.Need-returns-3
+unfolding ready-at
+returns-3 c =
+    let known = c .before in
+    let n = known .before .record-length .ensures in
+    simp (lt-ltb _ _ (known .before .before .before .if1 .left), ne-eqb _ _ (λ z. known .if2 .left (n ∙ z)), ← n, lt-leb _ _ (c .if3 .taken))
+
+returns-4 : tie.Need-returns-4
+unfolding ready-at
+returns-4 c =
+    let known = c .before in
+    let n = known .before .record-length .ensures in
+    simp (lt-ltb _ _ (known .before .before .before .if1 .left), ne-eqb _ _ (λ z. known .if2 .left (n ∙ z)), ← n, le-leb _ _ (c .if3 .left))
+
+pub ready-at-spec : {M : Type 1} → statement M
+ready-at-spec =
+    tie.close
+    (tie.spec
+    returns
+    shared-slice-read-record-length
+    record-length-requires
+    returns-2
+    sub-if3
+    returns-3
+    returns-4)
