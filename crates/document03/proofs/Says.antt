@@ -1,18 +1,22 @@
 -- What the calls say: answers in our words are those of document 03's contracts.
+--   by-numbers                          what is said of an end, by document 03's numbers
 --   key-says, first-says, reply-says    Key-says, First-says and Reply-says
 -- Assumes nothing.
-use mathlib.Core.Path.{_≡_, sym, _∙_}
+use mathlib.Core.Path.{_≡_, sym, ap, _∙_}
 use mathlib.Core.Logic.{_≢_}
 use mathlib.Core.List.{List}
 use Prim.Native.Nat.{ℕ, zero, suc, _+_}
 use native.Mathlib.Omega.{arith}
 use borrow.Author.Tests.{eqb-true}
 use lib.ListN.{length}
-use Rattle.scheme.specs.Scheme.{sixteen, key, key-length, first-message, reply-start, key-refusal, message-refusal, reply-refusal, after}
+use Rattle.scheme.specs.Scheme.{Plan, Stage, sixteen, key, key-length, first-message, reply-start, key-refusal, message-refusal, reply-refusal, after}
 use Rattle.scheme.proofs.Tests.{both}
 use Rattle.scheme.proofs.Refusals.{then-zero, start-taken, unless-zero, after-taken, after-refused}
-use Rattle.client.specs.Client.{stage-of-number}
-use Rattle.document03.specs.Ours.{our-plan, plan-of-numbers}
+use Rattle.plan.specs.declared.Plan as code
+use Rattle.plan.specs.Plan.{plan-of}
+use Rattle.client.specs.declared.Client.{Client}
+use Rattle.client.specs.Client.{stage-of, stage-of-number}
+use Rattle.document03.specs.Ours.{our-plan, plan-of-numbers, Client-of}
 use Rattle.document03.specs.Scheme as D
 use Rattle.document03.specs.Entry as E
 use Rattle.document03.specs.declared.Part.{Part}
@@ -20,6 +24,13 @@ use Rattle.document03.specs.declared.Sent.{Sent}
 use Rattle.document03.proofs.Sets.{reply-start-same}
 use Rattle.document03.proofs.Keys.{key-same, first-message-same}
 use Rattle.document03.proofs.Refusals.{key-refusal-same, message-refusal-same, part-refusal-same}
+
+-- ---- an end
+pub by-numbers : {k u t m a g : ℕ} {x : Client} → Client-of k u t m a g x → {A : Type 0} (f : Plan → ℕ → Stage → A)
+    → f (plan-of (x .plan)) (x .user) (stage-of (x .stage)) ≡ f (plan-of-numbers k u t m) a (stage-of-number g)
+by-numbers {k} {u} {t} {m} {a} {g} {x} h f =
+    ap (λ (p : code.Plan). f (plan-of p) (x .user) (stage-of (x .stage))) (h .plan)
+    ∙ ap (λ (n : ℕ). f (plan-of-numbers k u t m) n (stage-of (x .stage))) (h .user) ∙ ap (f (plan-of-numbers k u t m) a) (h .stage)
 
 -- ---- the key maker
 put-says : (n : ℕ) {m : ℕ} (ws : List ℕ) {us : List ℕ} (r : ℕ) (o z : List ℕ) → n ≡ m → (m ≡ 0 → ws ≡ us) → r ≡ m → z ≡ after m us o → E.Put-says n ws r o z

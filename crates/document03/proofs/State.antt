@@ -47,13 +47,16 @@ element-cond false x o = refl
 pub held-same : (k i : ℕ) (hs : List S.Held) → S.held k i hs ≡ is-held (our-held hs k i)
 unfolding S.held our-held is-held with-element
 held-same k i [] = refl
-held-same k i (h ∷ hs) = ap₂ (λ (a b : Bool). a || b) (here-same h k i) (held-same k i hs) ∙ sym (is-held-cond (eqb k (h .k) && eqb i (h .at)) (h .value) (our-held hs k i))
+held-same k i (h ∷ hs) =
+    ap₂ (λ (a b : Bool). a || b) (here-same h k i) (held-same k i hs)
+    ∙ sym (is-held-cond (eqb k (h .k) && eqb i (h .at)) (h .value) (our-held hs k i))
 
 pub held-value-same : (k i : ℕ) (hs : List S.Held) → S.held-value k i hs ≡ element-of (our-held hs k i)
 unfolding S.held-value our-held element-of with-element
 held-value-same k i [] = refl
 held-value-same k i (h ∷ hs) =
-    ap₂ (λ (a : Bool) (x : ℕ). cond a (h .value) x) (here-same h k i) (held-value-same k i hs) ∙ sym (element-cond (eqb k (h .k) && eqb i (h .at)) (h .value) (our-held hs k i))
+    ap₂ (λ (a : Bool) (x : ℕ). cond a (h .value) x) (here-same h k i) (held-value-same k i hs)
+    ∙ sym (element-cond (eqb k (h .k) && eqb i (h .at)) (h .value) (our-held hs k i))
 
 -- ---- the airfields with all their elements held
 all-held-same : (n i k : ℕ) (hs : List S.Held) → S.all-held n i k hs ≡ all-of (λ j. is-held (our-held hs k j)) (span n i)
@@ -74,7 +77,8 @@ complete-same p e hs = complete-from-same (p .k) 1 e hs
 pub gathered-same : (s : S.State) → S.complete-from (s .plan-of .k) 1 (D.places (s .plan-of)) (s .firsts) ≡ gathered (our-state s)
 unfolding gathered
 gathered-same s =
-    ap (λ (n : ℕ). S.complete-from (s .plan-of .k) 1 n (s .firsts)) (places-same (s .plan-of)) ∙ complete-same (s .plan-of) (places (our-plan (s .plan-of))) (s .firsts)
+    ap (λ (n : ℕ). S.complete-from (s .plan-of .k) 1 n (s .firsts)) (places-same (s .plan-of))
+    ∙ complete-same (s .plan-of) (places (our-plan (s .plan-of))) (s .firsts)
 
 pub replied-same : (s : S.State) → S.replied s ≡ replied (our-state s)
 unfolding S.replied replied
