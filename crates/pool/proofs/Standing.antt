@@ -97,7 +97,7 @@ module _ (u : List ℕ) (whole : all-taken (items 0 u) ≡ true) where
 
     stopped : (x : Stop) → Stops x b (length u) n at (fed (behind u) b (length u) n .wrote) → (w : List ℕ) → w ≡ said (u ++ take at b)
         → Stands (comes x) (u ++ take at b) (drop at b) w
-    unfolding Stops comes Stands Broken Unfinished Ends
+    unfolding Stops Stands Broken Unfinished Ends
     stopped Used y w e = (λ h. absurd (omega (arith, left-long)), e)
     stopped Unknown y w e = ((omega (arith, left-long), ap record-length left-first ∙ y .1), e)
     stopped Partial y w e = (λ h. rw left-first (omega (arith, left-long)), e)
@@ -183,7 +183,8 @@ module _ (n : ℕ) (t : Turn) (read w : List ℕ) (g : So-far t read w) where
       (w ++ step-by n (t .next) c s (t .waiting) (length (g .used)) .text)) (sym (g .state))
       (step-stands (g .used) (g .taken) n (t .waiting) (t .next) c w (g .stands) d)))
 
-pub sent-so-far : (t : Turn) (read w : List ℕ) (i : ℕ) → So-far t read (w ++ t .text) → i ≤ length (t .text) → So-far (sent i t) read (w ++ take i (t .text))
+pub sent-so-far : (t : Turn) (read w : List ℕ) (i : ℕ) → So-far t read (w ++ t .text) → i ≤ length (t .text)
+    → So-far (sent i t) read (w ++ take i (t .text))
 unfolding sent Stands Ends
 sent-so-far t read w i g h = pick (ℕ-discrete i (length (t .text)))
   where
