@@ -39,7 +39,7 @@ use Rattle.pool.specs.declared.Next.{Next}
 use Rattle.pool.specs.declared.Next.the-variants.{Await, Refuse, Over}
 use Rattle.pool.specs.declared.Live.{Live}
 use Rattle.pool.specs.Turns.{again, Turn, comes, fed-turn, at-end, silent, step-by}
-use Rattle.pool.specs.Pool.{silent-live, Leaves, brought, Untouched, interrupted, read-as, Fills, step-of}
+use Rattle.pool.specs.Pool.{silent-live, Leaves, brought, Untouched, eintr, interrupted, read-as, Fills, step-of}
 use Rattle.pool.proofs.Answers.{clamped-inside}
 
 -- ---- one read
@@ -70,7 +70,7 @@ pub asked : (x y : Next) {b : List ℕ} {have : ℕ} → have ≤ length b → x
     → Fills b b have Again × Untouched x Again b b
 unfolding read-as interrupted
 asked x y {b} h e u =
-    (record { got = negsuc 0; error = pos 4; front = refl; inside = h; moved = refl; result = refl }, subst (λ (z : Next). Untouched z Again b b) (sym e) u)
+    (record { got = negsuc 0; error = pos eintr; front = refl; inside = h; moved = refl; result = refl }, subst (λ (z : Next). Untouched z Again b b) (sym e) u)
 
 pub asked-due : (x : Next) (r : Read) (b b′ : List ℕ) → x ≡ Await → Untouched x r b b′
 unfolding Untouched
@@ -142,15 +142,20 @@ module _ (l : Live) (b : List ℕ) (h : l .have ≤ length b) where
   long : length (take (l .have) b) ≡ l .have
   long = length-take-le (l .have) b h
 
-  pub silent-leaves : {out : List ℕ} {r : Live} (x : Next) → r ≡ silent-live l x → Leaves (silent-of x l b) b b out out r
-  silent-leaves x e =
+  text-leaves : {out out′ : List ℕ} {r : Live} (x : Next) (t : List ℕ)
+      → r ≡ record { service = l .service; have = l .have; offset = l .offset; next = x; wrote = length t } → out′ ≡ sets out 0 t → length t ≤ length out
+      → Leaves (record { service = l .service; waiting = take (l .have) b; offset = l .offset; next = x; text = t }) b b out out′ r
+  text-leaves x t e d f =
       record {
-        result = e ∙ ap (λ (i : ℕ). record { service = l .service; have = i; offset = l .offset; next = x; wrote = 0 }) (sym long);
+        result = e ∙ ap (λ (i : ℕ). record { service = l .service; have = i; offset = l .offset; next = x; wrote = length t }) (sym long);
         input = same-sets b (l .have) h;
-        output = refl;
+        output = d;
         inside = omega (arith, long);
-        fits = omega arith;
+        fits = f;
       }
+
+  pub silent-leaves : {out : List ℕ} {r : Live} (x : Next) → r ≡ silent-live l x → Leaves (silent-of x l b) b b out out r
+  silent-leaves x e = text-leaves x [] e refl (omega arith)
 
   -- where the input ends
   pub none-left : {out : List ℕ} {r : Live} → l .have ≡ 0 → r ≡ silent-live l (Over EndOfInput)
@@ -172,15 +177,10 @@ module _ (l : Live) (b : List ℕ) (h : l .have ≤ length b) where
       → Leaves (step-of (length out) (Refuse y) again l b) b b out out′
       (record { service = l .service; have = l .have; offset = l .offset; next = Over y; wrote = wrote })
   unfolding step-by cut-length cut-left
-  seven-leaves {out} {out′} y {wrote} fit e d =
-      let w : wrote ≡ length (line (l .offset) (refused 7)) = rw (le-leb room (length out) fit) at e in
-      record {
-        result = λ i. record { service = l .service; have = sym long i; offset = l .offset; next = Over y; wrote = w i };
-        input = same-sets b (l .have) h;
-        output = rw (le-leb room (length out) fit) at d;
-        inside = omega (arith, long);
-        fits = omega (arith, seven-short (l .offset));
-      }
+  seven-leaves {out} y fit e d =
+      text-leaves (Over y) (line (l .offset) (refused 7))
+      (ap (λ (i : ℕ). record { service = l .service; have = l .have; offset = l .offset; next = Over y; wrote = i })
+      (rw (le-leb room (length out) fit) at e)) (rw (le-leb room (length out) fit) at d) (omega (arith, seven-short (l .offset)))
 
 -- ---- one step, by what comes next and what a read brought
 module _ (n : ℕ) (l : Live) (b : List ℕ) {b′ out out′ : List ℕ} {r : Live} where
