@@ -187,9 +187,9 @@ sent-so-far t read w i g h = pick (ℕ-discrete i (length (t .text)))
           place = g .place;
           stands = (
             drop i (t .text) ++ a .0,
-            append-assoc w (take i (t .text)) (drop i (t .text) ++ a .0)
-                ∙ ap (λ (l : List ℕ). w ++ l)
-                (sym (append-assoc (take i (t .text)) (drop i (t .text)) (a .0)) ∙ ap (λ (l : List ℕ). l ++ a .0) (take-append-drop i (t .text)))
-                ∙ sym (append-assoc w (t .text) (a .0)) ∙ a .1,
+            sym (append-assoc (w ++ take i (t .text)) (drop i (t .text)) (a .0))
+                ∙ ap (λ (l : List ℕ). l ++ a .0)
+                (append-assoc w (take i (t .text)) (drop i (t .text)) ∙ ap (λ (l : List ℕ). w ++ l) (take-append-drop i (t .text)))
+                ∙ a .1,
           );
         })
