@@ -103,11 +103,8 @@ finished s h e =
     let g = finish-good s h e in
     ⊎-elim
     (λ c.
-    record {
-      line = S.told-total (s .round) (S.totals s (c .choice));
-      state = S.idle-again s;
-      step = S.summed s (c .choice) e (explained-same s g (c .choice) ∙ c .right);
-    })
+    let right = explained-same s g (c .choice) ∙ c .right in
+    record { line = S.told-total (s .round) (S.totals s (c .choice)); state = S.idle-again s; step = S.summed s (c .choice) e right })
     (λ none. record { line = S.refused 16; state = s; step = S.unexplained s e (λ f d. none f (sym (explained-same s g f) ∙ d)) })
     (decided p (sixteen-laws p (good-back p g)) (values (our-held (s .replies))) (replied (our-state s))
     (finishing sixteen (our-state s) (finish-same s e) .many))

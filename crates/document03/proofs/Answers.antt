@@ -94,7 +94,8 @@ within-at (suc n) k a b e i lo hi h =
     let s = both (not (D.in-set a k) || D.in-set b k) (P.within-from n (suc k) a b) e in
     pick (ℕ-discrete k i) (s .0) (within-at n (suc k) a b (s .1) i)
   where
-    pick : Dec (k ≡ i) → (not (D.in-set a k) || D.in-set b k) ≡ true → (suc k ≤ i → i < suc k + n → D.in-set a i ≡ true → D.in-set b i ≡ true) → D.in-set b i ≡ true
+    pick : Dec (k ≡ i) → (not (D.in-set a k) || D.in-set b k) ≡ true
+        → (suc k ≤ i → i < suc k + n → D.in-set a i ≡ true → D.in-set b i ≡ true) → D.in-set b i ≡ true
     pick (yes r) t rest = ap (D.in-set b) (sym r) ∙ either {a = D.in-set a k} t (ap (D.in-set a) r ∙ h)
     pick (no r) t rest = rest (omega arith) (omega arith) h
 
@@ -141,7 +142,8 @@ module _ (s : S.State) (xs : List ℕ) (x : Table) (pg : D.plan-good (s .plan-of
       answer k b lo hi e l =
           let i = survives k lo hi e in
           sym (held-value-same k b (s .replies))
-          ∙ true-state .replies k b (in-set-same (s .survivors) k ∙ i) (held-same k b (s .replies) ∙ complete-held (our-plan p) (our-held (s .replies)) (p .m) k lo hi e b l)
+          ∙ true-state .replies k b (in-set-same (s .survivors) k ∙ i)
+          (held-same k b (s .replies) ∙ complete-held (our-plan p) (our-held (s .replies)) (p .m) k lo hi e b l)
           ∙ ap (λ (m : List ℕ). getD m b 0)
           (ap (λ ks. D.reply p ks k (s .survivors)) (key-same p g xs k lo hi long)
           ∙ reply-same p (key sixteen (our-plan p) xs k) k (s .survivors) (sym (usable-same p (s .survivors)) ∙ true-state .set) i)

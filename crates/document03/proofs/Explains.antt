@@ -62,7 +62,8 @@ module _ (s : S.State) (g : Good (our-plan (s .plan-of))) (f : (block : ℕ) →
   all-explain-same zero b = refl
   all-explain-same (suc n) b =
       ap₂ (λ (x y : Bool). x && y)
-      (ap (λ (v : ℕ). S.explains (s .plan-of) v b (s .replies) (f b)) (replied-same s) ∙ explains-same (s .plan-of) g (replied (our-state s)) b (s .replies) (f b))
+      (ap (λ (v : ℕ). S.explains (s .plan-of) v b (s .replies) (f b)) (replied-same s)
+      ∙ explains-same (s .plan-of) g (replied (our-state s)) b (s .replies) (f b))
       (all-explain-same n (suc b))
 
   pub explained-same : S.all-explain (s .plan-of .m) 0 s f ≡ explained-by sixteen (our-state s) f
@@ -73,7 +74,8 @@ module _ (s : S.State) (g : Good (our-plan (s .plan-of))) (f : (block : ℕ) →
   pub unknown-small : explained-by sixteen (our-state s) f ≡ true → (b i : ℕ) → b < s .plan-of .m → getD (f b) i 0 < q
   unfolding explained-by
   unknown-small h b i l =
-      elements-at sixteen (omega arith) (f b) i (explained sixteen (our-plan (s .plan-of)) (replied (our-state s)) (values (our-held (s .replies))) f h b l .small)
+      elements-at sixteen (omega arith) (f b) i
+      (explained sixteen (our-plan (s .plan-of)) (replied (our-state s)) (values (our-held (s .replies))) f h b l .small)
 
   block-below : (i : ℕ) → i < places (our-plan (s .plan-of)) → i / items (our-plan (s .plan-of)) < s .plan-of .m
   unfolding places

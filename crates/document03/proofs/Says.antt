@@ -1,18 +1,22 @@
 -- What the calls say: answers in our words are those of document 03's contracts.
+--   by-numbers                          what is said of an end, by document 03's numbers
 --   key-says, first-says, reply-says    Key-says, First-says and Reply-says
 -- Assumes nothing.
-use mathlib.Core.Path.{_≡_, sym, _∙_}
+use mathlib.Core.Path.{_≡_, sym, ap, _∙_}
 use mathlib.Core.Logic.{_≢_}
 use mathlib.Core.List.{List}
 use Prim.Native.Nat.{ℕ, zero, suc, _+_}
 use native.Mathlib.Omega.{arith}
 use borrow.Author.Tests.{eqb-true}
 use lib.ListN.{length}
-use Rattle.scheme.specs.Scheme.{sixteen, key, key-length, first-message, reply-start, key-refusal, message-refusal, reply-refusal, after}
+use Rattle.scheme.specs.Scheme.{Plan, Stage, sixteen, key, key-length, first-message, reply-start, key-refusal, message-refusal, reply-refusal, after}
 use Rattle.scheme.proofs.Tests.{both}
 use Rattle.scheme.proofs.Refusals.{then-zero, start-taken, unless-zero, after-taken, after-refused}
-use Rattle.client.specs.Client.{stage-of-number}
-use Rattle.document03.specs.Ours.{our-plan, plan-of-numbers}
+use Rattle.plan.specs.declared.Plan as code
+use Rattle.plan.specs.Plan.{plan-of}
+use Rattle.client.specs.declared.Client.{Client}
+use Rattle.client.specs.Client.{stage-of, stage-of-number, first-refusal, message-left, answer-refusal}
+use Rattle.document03.specs.Ours.{our-plan, plan-of-numbers, Client-of}
 use Rattle.document03.specs.Scheme as D
 use Rattle.document03.specs.Entry as E
 use Rattle.document03.specs.declared.Part.{Part}
@@ -20,6 +24,13 @@ use Rattle.document03.specs.declared.Sent.{Sent}
 use Rattle.document03.proofs.Sets.{reply-start-same}
 use Rattle.document03.proofs.Keys.{key-same, first-message-same}
 use Rattle.document03.proofs.Refusals.{key-refusal-same, message-refusal-same, part-refusal-same}
+
+-- ---- an end
+by-numbers : {k u t m a g : ℕ} {x : Client} → Client-of k u t m a g x → {A : Type 0} (f : Plan → ℕ → Stage → A)
+    → f (plan-of (x .plan)) (x .user) (stage-of (x .stage)) ≡ f (plan-of-numbers k u t m) a (stage-of-number g)
+by-numbers {k} {u} {t} {m} {a} {g} {x} h f =
+    ap (λ (p : code.Plan). f (plan-of p) (x .user) (stage-of (x .stage))) (h .plan)
+    ∙ ap (λ (n : ℕ). f (plan-of-numbers k u t m) n (stage-of (x .stage))) (h .user) ∙ ap (f (plan-of-numbers k u t m) a) (h .stage)
 
 -- ---- the key maker
 put-says : (n : ℕ) {m : ℕ} (ws : List ℕ) {us : List ℕ} (r : ℕ) (o z : List ℕ) → n ≡ m → (m ≡ 0 → ws ≡ us) → r ≡ m → z ≡ after m us o → E.Put-says n ws r o z
@@ -47,18 +58,19 @@ sent-says (suc n) {m} ws {us} g r o z e h f taken refused d =
     let no : m ≢ 0 = λ t. omega arith in
     (f ∙ sym e, refused no, d ∙ after-refused no us o)
 
-pub first-says : (k u t m a g : ℕ) (ks fs : List ℕ) (r : Sent) (o z : List ℕ)
-    → let n = message-refusal sixteen (plan-of-numbers k u t m) a (stage-of-number g) ks fs (length o) in
-    r .number ≡ n → (n ≡ 0 → r .stage ≡ 1) → (n ≢ 0 → r .stage ≡ g)
-    → z ≡ after n (first-message sixteen (plan-of-numbers k u t m) ks fs) o → E.First-says k u t m a g ks fs r o z
+pub first-says : {k u t m a g : ℕ} {x : Client} → Client-of k u t m a g x → (ks fs : List ℕ) (r : Sent) (o z : List ℕ)
+    → let n = first-refusal x ks fs (length o) in
+    r .number ≡ n → (n ≡ 0 → r .stage ≡ 1) → (n ≢ 0 → r .stage ≡ g) → z ≡ message-left x ks fs o → E.First-says k u t m a g ks fs r o z
 unfolding E.First-says D.plan message-refusal key-length
-first-says k u t m a g ks fs r o z f taken refused d =
+first-says {k} {u} {t} {m} {a} {g} w ks fs r o z f taken refused d =
     let p = plan-of-numbers k u t m in
-    sent-says _ _ g r o z (message-refusal-same (D.plan k u t m) a g ks fs (length o)) (λ e.
-    let c = then-zero _ _ (then-zero _ _ (then-zero _ _ e .1) .1) in
+    let same = by-numbers w (λ (p : Plan) (k : ℕ) (g : Stage). message-refusal sixteen p k g ks fs (length o)) in
+    sent-says _ _ g r o z (message-refusal-same (D.plan k u t m) a g ks fs (length o) ∙ sym same) (λ e.
+    let c = then-zero _ _ (then-zero _ _ (then-zero _ _ (sym same ∙ e) .1) .1) in
     let l = both _ _ (unless-zero _ _ (c .0)) in
     let long : length ks ≡ key-length p a = eqb-true _ _ (l .0) in
-    first-message-same (D.plan k u t m) ks fs (eqb-true _ _ (both _ _ (l .1) .0)) (omega arith)) f taken refused d
+    first-message-same (D.plan k u t m) ks fs (eqb-true _ _ (both _ _ (l .1) .0)) (omega arith)
+    ∙ sym (by-numbers w (λ (p : Plan) (k : ℕ) (g : Stage). first-message sixteen p ks fs))) f taken refused d
 
 -- ---- the reply
 part-says : (n : ℕ) {m : ℕ} (s : ℕ) {a : ℕ} (c v g : ℕ) (r : Part) → n ≡ m → (m ≡ 0 → s ≡ a) → r .number ≡ m
@@ -72,13 +84,15 @@ part-says (suc n) {m} s c v g r e h f taken refused =
     let t = refused (λ z. omega arith) in
     (f ∙ sym e, t .0, t .1, t .2)
 
-pub reply-says : (k u t m a g : ℕ) (ks : List ℕ) (v : ℕ) (r : Part)
-    → let n = reply-refusal sixteen (plan-of-numbers k u t m) a (stage-of-number g) ks v in
-    r .number ≡ n → (n ≡ 0 → (r .start ≡ reply-start (plan-of-numbers k u t m) a v) × (r .count ≡ m) × (r .stage ≡ 2 + v))
+pub reply-says : {k u t m a g : ℕ} {x : Client} → Client-of k u t m a g x → (ks : List ℕ) (v : ℕ) (r : Part)
+    → let n = answer-refusal x ks v in
+    r .number ≡ n → (n ≡ 0 → (r .start ≡ reply-start (plan-of (x .plan)) (x .user) v) × (r .count ≡ m) × (r .stage ≡ 2 + v))
     → (n ≢ 0 → (r .start ≡ 0) × (r .count ≡ 0) × (r .stage ≡ g)) → E.Reply-says k u t m a g ks v r
 unfolding E.Reply-says D.plan reply-refusal
-reply-says k u t m a g ks v r f taken refused =
-    part-says _ _ m v g r (part-refusal-same (D.plan k u t m) a g ks v) (λ e.
-    let c = then-zero _ _ (then-zero _ _ (then-zero _ _ (then-zero _ _ (then-zero _ _ e .1) .1) .1) .1) in
+reply-says {k} {u} {t} {m} {a} {g} w ks v r f taken refused =
+    let same = by-numbers w (λ (p : Plan) (k : ℕ) (g : Stage). reply-refusal sixteen p k g ks v) in
+    part-says _ _ m v g r (part-refusal-same (D.plan k u t m) a g ks v ∙ sym same) (λ e.
+    let c = then-zero _ _ (then-zero _ _ (then-zero _ _ (then-zero _ _ (then-zero _ _ (sym same ∙ e) .1) .1) .1) .1) in
     let i = then-zero _ _ (c .1) in
-    reply-start-same (D.plan k u t m) v (unless-zero _ _ (c .0)) a (unless-zero _ _ (i .0))) f taken refused
+    reply-start-same (D.plan k u t m) v (unless-zero _ _ (c .0)) a (unless-zero _ _ (i .0))
+    ∙ sym (by-numbers w (λ (p : Plan) (k : ℕ) (g : Stage). reply-start p k v))) f taken refused

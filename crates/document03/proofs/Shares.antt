@@ -106,7 +106,8 @@ module _ (p : D.Plan) (xs : List ℕ) (v : ℕ) (h : usable (our-plan p) v ≡ t
         let f : ℕ → ℕ = λ j. inverse q (k + j) * c j in
         ap₂ (λ (a b : ℕ). (a + b) % q)
         (dotted-same n 1 k _ c (omega arith) (omega (arith, g .users-high, g .threshold-high)) (λ j a z. column-low b j (omega arith)))
-        (dotted-same (p .t) (suc n) k _ c (omega arith) (omega (arith, g .users-high, g .threshold-high, g .collusion-high)) (λ j a z. column-high b j (omega arith)))
+        (dotted-same (p .t) (suc n) k _ c (omega arith) (omega (arith, g .users-high, g .threshold-high, g .collusion-high))
+        (λ j a z. column-high b j (omega arith)))
         ∙ sum-span n (p .t) f ∙ ap (λ (m : ℕ). sum sixteen (span m 1) f) whole
 
     shares-from-same : (n b : ℕ) → D.shares-from n b p xs k v ≡ map (share sixteen (our-plan p) xs k v) (span n b)

@@ -49,7 +49,8 @@ pub held-same : (k i : ℕ) (hs : List S.Held) → S.held k i hs ≡ is-held (ou
 unfolding S.held our-held is-held with-element
 held-same k i [] = refl
 held-same k i (h ∷ hs) =
-    ap₂ (λ (a b : Bool). a || b) (here-same h k i) (held-same k i hs) ∙ sym (is-held-cond (eqb k (h .k) && eqb i (h .at)) (h .value) (our-held hs k i))
+    ap₂ (λ (a b : Bool). a || b) (here-same h k i) (held-same k i hs)
+    ∙ sym (is-held-cond (eqb k (h .k) && eqb i (h .at)) (h .value) (our-held hs k i))
 
 pub held-value-same : (k i : ℕ) (hs : List S.Held) → S.held-value k i hs ≡ element-of (our-held hs k i)
 unfolding S.held-value our-held element-of with-element

@@ -34,7 +34,8 @@ line-same (S.reply-element k b x) s = refl
 line-same S.finish-round s = refl
 
 pub changed-same : (r : S.Record) (s : S.State) → our-state (S.changed r s) ≡ next-state (our-record r) (our-state s)
-unfolding S.changed S.planned S.gathered S.with-first S.closed S.with-reply S.idle-again our-record our-phase our-held next-state planned-state opened-state idle-state
+unfolding S.changed S.planned S.gathered S.with-first S.closed S.with-reply S.idle-again our-record our-phase our-held next-state
+    planned-state opened-state idle-state
 changed-same (S.a-plan p) s = refl
 changed-same (S.open-round r) s = refl
 changed-same (S.first-element k i x) s = refl

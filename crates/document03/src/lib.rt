@@ -2,6 +2,8 @@
 // contracts, word for word, over our own calls. No crate depends on this one.
 //   Part, Sent                              what its contracts name
 //   make_key, first_message, reply_part     its functions: an end's plan, number and stage are arguments
+//   client_of                               the end that these arguments tell
+ghost use Rattle.document03.specs.Ours.{Client-of};
 ghost use Rattle.document03.specs.Entry.{Key-says, First-says, Reply-says};
 use client::Client;
 use plan::Plan;
@@ -38,6 +40,30 @@ pub fn make_key(
     keys::make_key(plan, airfield, random, output)
 }
 
+// The end that these numbers tell.
+fn client_of(
+    airfields: u32,
+    least: u32,
+    colluders: u32,
+    blocks: u32,
+    airfield: u32,
+    stage: u32,
+) -> Client
+    ensures { λ r. ⌜ Client-of airfields least colluders blocks airfield stage r ⌝ }
+{
+    let plan = Plan {
+        users: airfields,
+        threshold: least,
+        collusion: colluders,
+        blocks,
+    };
+    Client {
+        plan,
+        user: airfield,
+        stage: client::stage_of_number(stage),
+    }
+}
+
 pub fn first_message(
     airfields: u32,
     least: u32,
@@ -49,19 +75,10 @@ pub fn first_message(
     figures: &[u16],
     output: &mut [u16],
 ) -> Sent
-    ensures { λ r. ⌜ First-says airfields least colluders blocks airfield stage (now (key .entry)) (now (figures .entry)) r (now (output .entry)) (now (output .exit)) ⌝ }
+    ensures { λ r. ⌜ First-says airfields least colluders blocks airfield stage (now (key .entry)) (now (figures .entry)) r
+        (now (output .entry)) (now (output .exit)) ⌝ }
 {
-    let plan = Plan {
-        users: airfields,
-        threshold: least,
-        collusion: colluders,
-        blocks,
-    };
-    let client = Client {
-        plan,
-        user: airfield,
-        stage: client::stage_of_number(stage),
-    };
+    let client = client_of(airfields, least, colluders, blocks, airfield, stage);
     let answer = client.first_message(key, figures, output);
     let number = answer.number;
     if number != 0 {
@@ -82,17 +99,9 @@ pub fn reply_part(
 ) -> Part
     ensures { λ r. ⌜ Reply-says airfields least colluders blocks airfield stage (now (key .entry)) set r ⌝ }
 {
-    let plan = Plan {
-        users: airfields,
-        threshold: least,
-        collusion: colluders,
-        blocks,
-    };
-    let client = Client {
-        plan,
-        user: airfield,
-        stage: client::stage_of_number(stage),
-    };
+    let client = client_of(airfields, least, colluders, blocks, airfield, stage);
+    let plan = client.plan;
+    let user = client.user;
     let number = client.reply_refusal(key, set);
     if number != 0 {
         return Part {
@@ -104,7 +113,7 @@ pub fn reply_part(
     }
     Part {
         number,
-        start: plan::reply_start(plan, airfield, set) as u32,
+        start: plan::reply_start(plan, user, set) as u32,
         count: blocks,
         stage: 2 + set,
     }

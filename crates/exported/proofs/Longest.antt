@@ -19,7 +19,7 @@ use Rattle.scheme.proofs.Lists.{in-span}
 use Rattle.scheme.proofs.Totals.{all-of-in}
 use Rattle.plan.specs.Counts.{sets-of, holding}
 use Rattle.plan.specs.Lengths.{row-len, list-len, key-len}
-use Rattle.plan.proofs.Laws.{places-le}
+use Rattle.scheme.proofs.PlanBounds.{places-le}
 use Rattle.plan.proofs.Counts.{holding-same, sets-same, with-same}
 use Rattle.exported.specs.Longest.{Longest}
 

@@ -1,8 +1,10 @@
 -- What the code leaves in its values and buffers.
---   front-kept, fills-inside, asked, asked-due       one read, and none where none is due
---   front-sets, same-sets, fed-leaves, quiet-leaves, seven-leaves     what a feed, a silent step and the line of refusal 7 leave
---   wait-bytes .. wait-failed, step-as               one step, by what a read brought and by what comes next
---   ends-none, ends-some                             one step where the input ends
+--   fills-inside, asked, asked-due                   one read, and none where none is due
+--   front-sets, same-sets                            the front of a buffer
+--   here-fits, used-inside, fed-leaves               one feed, and what it leaves
+--   wrote-inside                                     the text that any step leaves lies in the buffer
+--   silent-leaves, none-left, some-left, seven-leaves     what a silent step leaves, the end of the input, and the line of refusal 7
+--   step-as, bytes-fed                               one step, by what comes next and what a read brought
 -- Assumes nothing.
 use mathlib.Core.Path.{_≡_, refl, sym, ap, _∙_, subst}
 use mathlib.Core.Bool.{Bool, true, false, cond}
@@ -17,7 +19,6 @@ use lib.Signed.{ltZ}
 use lib.ListN.{length, take, drop, take-append-drop, length-append, length-drop}
 use lib.Seq.{sets, sets-eq, take-take, length-take-le, length-sets}
 use borrow.Author.Tests.{eq-eqb, ne-eqb, le-leb}
-use borrow.Rule.Slice.PartMut.{putMid, take-put}
 use Rattle.io.specs.Counts.{clamped}
 use Rattle.scheme.specs.Service.{refused}
 use Rattle.service.specs.declared.Service.{Service}
@@ -33,18 +34,15 @@ use Rattle.stream.proofs.Feeding.{fed-far}
 use Rattle.pool.specs.declared.Read.{Read}
 use Rattle.pool.specs.declared.Read.the-variants.{Bytes, End, Again, Failed}
 use Rattle.pool.specs.declared.Why.{Why}
-use Rattle.pool.specs.declared.Why.the-variants.{EndOfInput, CutShort, ReadFailed}
+use Rattle.pool.specs.declared.Why.the-variants.{EndOfInput, CutShort}
 use Rattle.pool.specs.declared.Next.{Next}
 use Rattle.pool.specs.declared.Next.the-variants.{Await, Refuse, Over}
 use Rattle.pool.specs.declared.Live.{Live}
 use Rattle.pool.specs.Turns.{again, Turn, comes, fed-turn, at-end, silent, step-by}
-use Rattle.pool.specs.Pool.{quieted, Leaves, brought, Untouched, interrupted, read-as, Fills, step-of, stepped}
+use Rattle.pool.specs.Pool.{silent-live, Leaves, brought, Untouched, eintr, interrupted, read-as, Fills, step-of}
 use Rattle.pool.proofs.Answers.{clamped-inside}
 
 -- ---- one read
-pub front-kept : (a k : ℕ) (xs ys : List ℕ) → a < length xs → take a (putMid a k xs ys) ≡ take a xs
-front-kept a k xs ys h = take-put a k xs ys (omega arith)
-
 -- a read that brings bytes brings one at least, and no more than there is room for
 module _ (b b′ : List ℕ) (have : ℕ) (r : Read) (g : Fills b b′ have r) (n : ℕ) (e : r ≡ Bytes n) where
   pub fills-inside : (have < n) × (n ≤ length b)
@@ -68,10 +66,11 @@ module _ (b b′ : List ℕ) (have : ℕ) (r : Read) (g : Fills b b′ have r) (
           (omega (arith, d), omega (arith, g .inside, clamped-inside (g .got) (length b - have)))
 
 -- where none is due
-pub asked : (x y : Next) {b : List ℕ} {have : ℕ} → have ≤ length b → x ≡ y → Untouched y Again b b → Fills b b have Again × Untouched x Again b b
+pub asked : (x y : Next) {b : List ℕ} {have : ℕ} → have ≤ length b → x ≡ y → Untouched y Again b b
+    → Fills b b have Again × Untouched x Again b b
 unfolding read-as interrupted
 asked x y {b} h e u =
-    (record { got = negsuc 0; error = pos 4; front = refl; inside = h; moved = refl; result = refl }, subst (λ (z : Next). Untouched z Again b b) (sym e) u)
+    (record { got = negsuc 0; error = pos eintr; front = refl; inside = h; moved = refl; result = refl }, subst (λ (z : Next). Untouched z Again b b) (sym e) u)
 
 pub asked-due : (x : Next) (r : Read) (b b′ : List ℕ) → x ≡ Await → Untouched x r b b′
 unfolding Untouched
@@ -135,86 +134,65 @@ wrote-inside {t} {out = out} h =
 abbrev silent-of : Next → Live → (b : List ℕ) → Turn
 silent-of x l b = silent x (l .service) (take (l .have) b) (l .offset)
 
-module _ (l : Live) (b out : List ℕ) (h : l .have ≤ length b) where
-  pub quiet-leaves : (r : Live) (x : Next) → r ≡ quieted l x → Leaves (silent-of x l b) b b out out r
-  quiet-leaves r x e =
+seven-short : (o : ℕ) → length (line o (refused 7)) ≤ room
+unfolding line numbers
+seven-short o = simp length-append (omega (arith, decimal-twenty 7, decimal-twenty o))
+
+module _ (l : Live) (b : List ℕ) (h : l .have ≤ length b) where
+  long : length (take (l .have) b) ≡ l .have
+  long = length-take-le (l .have) b h
+
+  text-leaves : {out out′ : List ℕ} {r : Live} (x : Next) (t : List ℕ)
+      → r ≡ record { service = l .service; have = l .have; offset = l .offset; next = x; wrote = length t } → out′ ≡ sets out 0 t → length t ≤ length out
+      → Leaves (record { service = l .service; waiting = take (l .have) b; offset = l .offset; next = x; text = t }) b b out out′ r
+  text-leaves x t e d f =
       record {
-        result = e ∙ ap (λ (i : ℕ). record { service = l .service; have = i; offset = l .offset; next = x; wrote = 0 }) (sym (length-take-le (l .have) b h));
+        result = e ∙ ap (λ (i : ℕ). record { service = l .service; have = i; offset = l .offset; next = x; wrote = length t }) (sym long);
         input = same-sets b (l .have) h;
-        output = refl;
-        inside = omega (arith, length-take-le (l .have) b h);
-        fits = omega arith;
+        output = d;
+        inside = omega (arith, long);
+        fits = f;
       }
 
-  seven-short : (o : ℕ) → length (line o (refused 7)) ≤ room
-  unfolding line numbers
-  seven-short o = simp length-append (omega (arith, decimal-twenty 7, decimal-twenty o))
+  pub silent-leaves : {out : List ℕ} {r : Live} (x : Next) → r ≡ silent-live l x → Leaves (silent-of x l b) b b out out r
+  silent-leaves x e = text-leaves x [] e refl (omega arith)
 
-  pub seven-leaves : (out′ : List ℕ) (y : Why) (wrote : ℕ) → room ≤ length out → wrote ≡ cut-length (l .offset) (length out) → out′ ≡ cut-left (l .offset) out
+  -- where the input ends
+  pub none-left : {out : List ℕ} {r : Live} → l .have ≡ 0 → r ≡ silent-live l (Over EndOfInput)
+      → Leaves (silent-of (at-end (take (l .have) b)) l b) b b out out r
+  unfolding at-end
+  none-left z e = silent-leaves _ (e ∙ ap (λ (i : ℕ). silent-live l (at-end (take i b))) (sym z))
+
+  pub some-left : {out : List ℕ} {r : Live} → (l .have ≡ 0 → ⊥) → r ≡ silent-live l (Refuse CutShort)
+      → Leaves (silent-of (at-end (take (l .have) b)) l b) b b out out r
+  unfolding at-end
+  some-left z e = silent-leaves _ (e ∙ ap (silent-live l) (pick (take (l .have) b) long))
+    where
+      pick : (c : List ℕ) → length c ≡ l .have → Refuse CutShort ≡ at-end c
+      pick [] w = absurd (z (sym w))
+      pick (k ∷ c) w = refl
+
+  pub seven-leaves : {out out′ : List ℕ} (y : Why) {wrote : ℕ} → room ≤ length out → wrote ≡ cut-length (l .offset) (length out)
+      → out′ ≡ cut-left (l .offset) out
       → Leaves (step-of (length out) (Refuse y) again l b) b b out out′
       (record { service = l .service; have = l .have; offset = l .offset; next = Over y; wrote = wrote })
   unfolding step-by cut-length cut-left
-  seven-leaves out′ y wrote fit e d =
-      let w : wrote ≡ length (line (l .offset) (refused 7)) = rw (le-leb room (length out) fit) at e in
-      record {
-        result = λ i. record { service = l .service; have = sym (length-take-le (l .have) b h) i; offset = l .offset; next = Over y; wrote = w i };
-        input = same-sets b (l .have) h;
-        output = rw (le-leb room (length out) fit) at d;
-        inside = omega (arith, length-take-le (l .have) b h);
-        fits = omega (arith, seven-short (l .offset));
-      }
+  seven-leaves {out} y fit e d =
+      text-leaves (Over y) (line (l .offset) (refused 7))
+      (ap (λ (i : ℕ). record { service = l .service; have = l .have; offset = l .offset; next = Over y; wrote = i })
+      (rw (le-leb room (length out) fit) at e)) (rw (le-leb room (length out) fit) at d) (omega (arith, seven-short (l .offset)))
 
--- ---- one step, by what a read brought and what comes next
-module _ (n : ℕ) (l : Live) (read : Read) (b : List ℕ) {b′ out out′ : List ℕ} {r : Live} where
-  pub wait-bytes : (k : ℕ) → read ≡ Bytes k → l .have < k → Leaves (fed-turn n (l .service) (take k b) (l .offset)) b b′ out out′ r
-      → Leaves (step-of n Await (brought read (l .have) b) l b) b b′ out out′ r
+-- ---- one step, by what comes next and what a read brought
+module _ (n : ℕ) (l : Live) (b : List ℕ) {b′ out out′ : List ℕ} {r : Live} where
+  pub step-as : (x : Next) (c : Read) {y : Next} {read : Read} → y ≡ x → read ≡ c
+      → Leaves (step-of n x (brought c (l .have) b) l b) b b′ out out′ r → Leaves (step-of n y (brought read (l .have) b) l b) b b′ out out′ r
+  step-as x c e d g = rw (e, d) g
+
+  pub bytes-fed : (k : ℕ) → l .have < k → Leaves (fed-turn n (l .service) (take k b) (l .offset)) b b′ out out′ r
+      → Leaves (step-of n Await (brought (Bytes k) (l .have) b) l b) b b′ out out′ r
   unfolding step-by brought
-  wait-bytes k e h g =
+  bytes-fed k h g =
       let d : List ℕ = drop (l .have) (take k b) in
       let j : take (l .have) b ++ d ≡ take k b =
       ap (λ (y : List ℕ). y ++ d) (sym (take-take (l .have) k b (omega arith))) ∙ take-append-drop (l .have) (take k b) in
-      rw e (subst (λ (y : List ℕ). Leaves (fed-turn n (l .service) y (l .offset)) b b′ out out′ r) (sym j) g)
-
-  wait-end : read ≡ End → Leaves (silent-of (at-end (take (l .have) b)) l b) b b′ out out′ r
-      → Leaves (step-of n Await (brought read (l .have) b) l b) b b′ out out′ r
-  unfolding step-by brought
-  wait-end e g = rw e g
-
-  pub wait-again : read ≡ Again → Leaves (silent-of Await l b) b b′ out out′ r
-      → Leaves (step-of n Await (brought read (l .have) b) l b) b b′ out out′ r
-  unfolding step-by brought
-  wait-again e g = rw e g
-
-  pub wait-failed : read ≡ Failed → Leaves (silent-of (Over ReadFailed) l b) b b′ out out′ r
-      → Leaves (step-of n Await (brought read (l .have) b) l b) b b′ out out′ r
-  unfolding step-by brought
-  wait-failed e g = rw e g
-
-  pub step-as : (x : Next) → l .next ≡ x → Leaves (step-of n x (brought read (l .have) b) l b) b b′ out out′ r
-      → Leaves (stepped n l read b) b b′ out out′ r
-  step-as x e g =
-      subst (λ (y : Next). Leaves (step-of n y (brought read (l .have) b) l b) b b′ out out′ r) (sym e) g
-
--- ---- where the input ends
-end-none : (b : List ℕ) (h : ℕ) → h ≡ 0 → Over EndOfInput ≡ at-end (take h b)
-unfolding at-end
-end-none b h e = rw e
-
-end-some : (b : List ℕ) (h : ℕ) → h ≤ length b → (h ≡ 0 → ⊥) → Refuse CutShort ≡ at-end (take h b)
-unfolding at-end
-end-some b h l e = pick (take h b) (length-take-le h b l)
-  where
-    pick : (c : List ℕ) → length c ≡ h → Refuse CutShort ≡ at-end c
-    pick [] z = absurd (e (sym z))
-    pick (k ∷ c) z = refl
-
-module _ (n : ℕ) (l : Live) (read : Read) (b : List ℕ) {out : List ℕ} {r : Live} (x : read ≡ End) (h : l .have ≤ length b) where
-  pub ends-none : l .have ≡ 0 → r ≡ quieted l (Over EndOfInput) → Leaves (step-of n Await (brought read (l .have) b) l b) b b out out r
-  ends-none z e =
-      wait-end n l read b x
-      (subst (λ (y : Next). Leaves (silent-of y l b) b b out out r) (end-none b (l .have) z) (quiet-leaves l b out h r (Over EndOfInput) e))
-
-  pub ends-some : (l .have ≡ 0 → ⊥) → r ≡ quieted l (Refuse CutShort) → Leaves (step-of n Await (brought read (l .have) b) l b) b b out out r
-  ends-some z e =
-      wait-end n l read b x
-      (subst (λ (y : Next). Leaves (silent-of y l b) b b out out r) (end-some b (l .have) h z) (quiet-leaves l b out h r (Refuse CutShort) e))
+      subst (λ (y : List ℕ). Leaves (fed-turn n (l .service) y (l .offset)) b b′ out out′ r) (sym j) g

@@ -117,7 +117,7 @@ module _ (n : ℕ) (big : room ≤ n) (s : Service) (b : List ℕ) (o : ℕ) whe
 
   fed-forward : (l : List (List ℕ)) (m : ℕ) → size b l + 2 ≤ m
       → Sure (fed-turn n s b o .next) l × (cost (fed-turn n s b o .next) (size (fed-turn n s b o .waiting) l) ≤ m)
-  unfolding fed-turn comes Stops Sure Sure-why cost
+  unfolding fed-turn Stops Sure Sure-why cost
   fed-forward l m h = go (fed s b o n .stop) (says .why)
     where
       go : (x : Stop) → Stops x b o n (fed s b o n .at) (fed s b o n .wrote) → Sure (comes x) l × (cost (comes x) (size (drop (fed s b o n .at) b) l) ≤ m)

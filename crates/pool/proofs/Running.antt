@@ -1,19 +1,20 @@
 -- The turns of a run.
---   goes-inside, written-as                    one write, and many
---   settle-sent, turned                        one turn
---   Made, made-start, made-next, made-as, made-sound, ran    so many turns from the start on
+--   writes-from-inside, written-more           one write, and one more of many
+--   sent-same, turned                          one turn
+--   Made, made-start, made-more, made-end      so many turns from the start on
+--   made-sound                                 there is room for the next
 -- Assumes nothing.
 use mathlib.Core.Path.{_≡_, refl, sym, ap, ap₂, _∙_, subst}
 use mathlib.Core.Bool.{Bool, true, false, cond}
 use mathlib.Core.List.{List, []}
-use Prim.Native.Nat.{ℕ, _+_, _-_, _^_, _≤_, _<_}
+use Prim.Native.Nat.{ℕ, _+_, _-_, _≤_, _<_}
 use native.Mathlib.Decide.{decLe, ℕ-discrete}
 use native.Mathlib.Omega.{arith}
 use lib.Dec.{eqb}
 use lib.IntN.{pos}
 use lib.Signed.{ltZ}
 use lib.ListN.{length, getD, take, length-take}
-use lib.Seq.{sets, length-take-le, length-sets}
+use lib.Seq.{sets, length-take-le}
 use borrow.Author.Tests.{eq-eqb, ne-eqb, le-leb, lt-leb}
 use Rattle.io.specs.Counts.{clamped}
 use Rattle.service.specs.declared.Service.{Service}
@@ -27,16 +28,16 @@ use Rattle.pool.specs.declared.Next.the-variants.{Await, Feed, Refuse, O
 use Rattle.pool.specs.declared.Live.{Live}
 use Rattle.pool.specs.declared.Wrote.{Wrote}
 use Rattle.pool.specs.Turns.{Came, Turn, first-turn, step-by, step, sent, Due, Turns, none, more}
-use Rattle.pool.specs.Pool.{live-of, Leaves, brought, Untouched, Fills, stepped, interrupted, write-as, Goes-on, Written, Writes, settled, longest, Sound, Turned, is-over, Ran}
+use Rattle.pool.specs.Pool.{live-of, Leaves, brought, Untouched, Fills, stepped, interrupted, write-as, Writes-from, most-turns, Written, goes-on, Writes, sent-live, longest, Sound, Turned, is-over, Ran}
 use Rattle.pool.specs.Promise.{Unfinished, Stands, So-far, Run-right}
 use Rattle.pool.proofs.Answers.{clamped-inside}
 use Rattle.pool.proofs.Promise.{run-right}
-use Rattle.pool.proofs.Leaving.{front-sets}
+use Rattle.pool.proofs.Leaving.{front-sets, wrote-inside}
 
 -- ---- one write, and many
-pub goes-inside : (at n : ℕ) (w : Wrote) → Goes-on at n w → w .at ≤ n
+pub writes-from-inside : {at n : ℕ} {w : Wrote} → Writes-from at n w → w .at ≤ n
 unfolding write-as
-goes-inside at n w g = pick (ltZ (g .put) (pos 0)) (ℕ-discrete count 0) (ap (λ (x : Wrote). x .at) (g .result))
+writes-from-inside {at} {n} {w} g = pick (ltZ (g .put) (pos 0)) (ℕ-discrete count 0) (ap (λ (x : Wrote). x .at) (g .result))
   where
     count : ℕ
     count = clamped (g .put) (n - at)
@@ -51,15 +52,15 @@ goes-inside at n w g = pick (ltZ (g .put) (pos 0)) (ℕ-discrete count 0) (ap (�
         let u : w .at ≡ at + count = rw (ne-eqb count 0 d) at x in
         omega (arith, g .inside, clamped-inside (g .put) (n - at))
 
-pub written-as : {n k j i : ℕ} → Written n k i → k ≡ j → Written n j i
-written-as {n} {i = i} w e = subst (λ (q : ℕ). Written n q i) e w
+pub written-more : {n k j i : ℕ} {w : Wrote} → Written n k i → Writes-from i n w → w .ok ≡ true → k + 1 ≡ j → Written n j (w .at)
+written-more {n} {w = w} h g o e = subst (λ (j : ℕ). Written n j (w .at)) e (goes-on _ _ w h g o)
 
 -- ---- one turn
-settle-sent : (t : Turn) (w : Wrote) → Writes (length (t .text)) w → settled (live-of t) w ≡ live-of (sent (w .at) t)
-unfolding settled sent
-settle-sent t w h = pick (ℕ-discrete (w .at) (length (t .text)))
+sent-same : (t : Turn) (w : Wrote) → Writes (length (t .text)) w → sent-live (live-of t) w ≡ live-of (sent (w .at) t)
+unfolding sent-live sent
+sent-same t w h = pick (ℕ-discrete (w .at) (length (t .text)))
   where
-    pick : Dec (w .at ≡ length (t .text)) → settled (live-of t) w ≡ live-of (sent (w .at) t)
+    pick : Dec (w .at ≡ length (t .text)) → sent-live (live-of t) w ≡ live-of (sent (w .at) t)
     pick (yes e) =
         let k : w .ok ≡ true = h .all ∙ le-leb (length (t .text)) (w .at) (omega arith) in
         rw (k, eq-eqb (w .at) (length (t .text)) e)
@@ -70,13 +71,13 @@ settle-sent t w h = pick (ℕ-discrete (w .at) (length (t .text)))
         (ap (λ (i : ℕ). record { service = t .service; have = length (t .waiting); offset = t .offset; next = Over WriteFailed; wrote = i })
         (sym (length-take-le (w .at) (t .text) (h .inside))))
 
-pub turned : {l : Live} {b got b′ out out′ : List ℕ} {read : Read} {a r : Live} {w : Wrote} → Fills b got (l .have) read × Untouched (l .next) read b got
-    → Leaves (stepped (length out) l read got) got b′ out out′ a → Writes (length (take (a .wrote) out′)) w → r ≡ settled a w → Turned l b b′ out out′ r
+pub turned : {l : Live} {b got b′ out out′ : List ℕ} {read : Read} {a r : Live} {w : Wrote}
+    → Fills b got (l .have) read × Untouched (l .next) read b got → Leaves (stepped (length out) l read got) got b′ out out′ a
+    → Writes (length (take (a .wrote) out′)) w → r ≡ sent-live a w → Turned l b b′ out out′ r
 turned {l} {b} {got} {b′} {out} {out′} {read} {a} {r} {w} f g s e =
     let t : Turn = stepped (length out) l read got in
-    let n : a .wrote ≡ length (t .text) = ap (λ (x : Live). x .wrote) (g .result) in
     let m : length (take (a .wrote) out′) ≡ length (t .text) =
-    length-take-le (a .wrote) out′ (omega (arith, n, g .fits, ap length (g .output), length-sets out 0 (t .text))) ∙ n in
+    length-take-le (a .wrote) out′ (wrote-inside g) ∙ ap (λ (x : Live). x .wrote) (g .result) in
     let y : Writes (length (t .text)) w = subst (λ (i : ℕ). Writes i w) m s in
     record {
       read = read;
@@ -85,7 +86,7 @@ turned {l} {b} {got} {b′} {out} {out′} {read} {a} {r} {w} f g s e =
       fills = f .0;
       due = f .1;
       inside = y .inside;
-      result = e ∙ ap (λ (x : Live). settled x w) (g .result) ∙ settle-sent t w y;
+      result = e ∙ ap (λ (x : Live). sent-live x w) (g .result) ∙ sent-same t w y;
       input = g .input;
       output = g .output;
       kept = g .inside;
@@ -127,8 +128,9 @@ sent-waiting i t = pick (ℕ-discrete i (length (t .text)))
     pick (yes e) = rw (eq-eqb i (length (t .text)) e)
     pick (no e) = rw (ne-eqb i (length (t .text)) e)
 
-pub made-next : {n k : ℕ} {l r : Live} {b b′ out out′ : List ℕ} → Made n k l b → Turned l b b′ out out′ r → length out ≡ n → Made n (k + 1) r b′
-made-next {n} {k} {l} {r} {b} {b′} {out} {out′} m g e =
+pub made-more : {n k j : ℕ} {l r : Live} {b b′ out out′ : List ℕ} → Made n k l b → Turned l b b′ out out′ r → length out ≡ n → k + 1 ≡ j
+    → Made n j r b′
+made-more {n} {k} {j} {l} {r} {b} {b′} {out} {out′} m g e d =
     let c : Came = brought (g .read) (l .have) (g .got) in
     let t : Turn = m .turn in
     let x : l .next ≡ t .next = ap (λ (q : Live). q .next) (m .result) in
@@ -137,8 +139,10 @@ made-next {n} {k} {l} {r} {b} {b′} {out} {out′} m g e =
     ∙ ap (λ (w : List ℕ). step-by n (l .next) c (l .service) w (l .offset)) (g .fills .front ∙ m .front)
     ∙ ap (λ (q : Live). step-by n (q .next) c (q .service) (t .waiting) (q .offset)) (m .result) in
     let long : r .have ≡ length (step n c t .waiting) =
-    ap (λ (q : Live). q .have) (g .result) ∙ ap (λ (u : Turn). length (sent (g .put) u .waiting)) same ∙ ap length (sent-waiting (g .put) (step n c t)) in
-    record {
+    ap (λ (q : Live). q .have) (g .result) ∙ ap (λ (u : Turn). length (sent (g .put) u .waiting)) same
+    ∙ ap length (sent-waiting (g .put) (step n c t)) in
+    subst (λ (i : ℕ). Made n i r b′) d
+    (record {
       read = _;
       written = _;
       turn = sent (g .put) (step n c t);
@@ -151,22 +155,24 @@ made-next {n} {k} {l} {r} {b} {b′} {out} {out′} m g e =
           ap₂ (λ (i : ℕ) (w : List ℕ). take i w) long (g .input ∙ ap (λ (u : Turn). sets (g .got) 0 (u .waiting)) same)
           ∙ front-sets (g .got) (step n c t .waiting) (subst (λ (u : Turn). length (u .waiting) ≤ length (g .got)) same (g .kept))
           ∙ sym (sent-waiting (g .put) (step n c t));
-    }
+    })
 
-pub made-as : {n k j : ℕ} {l : Live} {b : List ℕ} → Made n k l b → k ≡ j → Made n j l b
-made-as {n} {l = l} {b = b} m e = subst (λ (i : ℕ). Made n i l b) e m
+pub made-end : {n k : ℕ} {l : Live} {b : List ℕ} → Made n k l b → (is-over (l .next) ≡ false → k ≡ most-turns) → Ran n l
+made-end {k = k} m h = record { count = k; read = m .read; written = m .written; turn = m .turn; turns = m .turns; result = m .result; ends = h }
 
 -- ---- there is room for a read where one is due
-of-six : (c : Bool) {a b : ℕ} → a ≤ 6 → b ≤ 6 → cond c a b ≤ 6
-of-six true h l = h
-of-six false h l = l
+both-short : (c : Bool) {a b : ℕ} → a ≤ longest → b ≤ longest → cond c a b ≤ longest
+both-short true h l = h
+both-short false h l = l
 
-at-most-six : (k : ℕ) → record-length k ≤ 6
+record-short : (k : ℕ) → record-length k ≤ longest
 unfolding record-length
-at-most-six k =
-    of-six (eqb k 1) (omega arith)
-    (of-six (eqb k 2) (omega arith)
-    (of-six (eqb k 3) (omega arith) (of-six (eqb k 4) (omega arith) (of-six (eqb k 5) (omega arith) (of-six (eqb k 6) (omega arith) (omega arith))))))
+record-short k =
+    both-short (eqb k 1) (omega arith)
+    (both-short (eqb k 2) (omega arith)
+    (both-short (eqb k 3) (omega arith)
+    (both-short (eqb k 4) (omega arith)
+    (both-short (eqb k 5) (omega arith) (both-short (eqb k 6) (omega arith) (omega arith))))))
 
 pub made-sound : {n k : ℕ} {l : Live} {b out : List ℕ} → Made n k l b → room ≤ n → length out ≡ n → longest ≤ length b → Sound l b out
 unfolding Run-right Stands Unfinished
@@ -189,8 +195,5 @@ made-sound {n} {k} {l} {b} {out} m big e h =
     unfinished x = subst (λ (y : Next). Stands y (right .used) w (m .written)) (sym (ap (λ (q : Live). q .next) (m .result)) ∙ x) (right .stands)
 
     few : Dec (1 ≤ length w) → Unfinished w → l .have < length b
-    few (yes y) f = omega (arith, counted, f (omega arith), at-most-six (getD w 0 0))
+    few (yes y) f = omega (arith, counted, f (omega arith), record-short (getD w 0 0))
     few (no y) f = omega (arith, counted)
-
-pub ran : {n k : ℕ} {l : Live} {b : List ℕ} → Made n k l b → (is-over (l .next) ≡ false → k ≡ 2 ^ 64 - 1) → Ran n l
-ran {k = k} m h = record { count = k; read = m .read; written = m .written; turn = m .turn; turns = m .turns; result = m .result; ends = h }

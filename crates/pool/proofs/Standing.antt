@@ -97,7 +97,7 @@ module _ (u : List ℕ) (whole : all-taken (items 0 u) ≡ true) where
 
     stopped : (x : Stop) → Stops x b (length u) n at (fed (behind u) b (length u) n .wrote) → (w : List ℕ) → w ≡ said (u ++ take at b)
         → Stands (comes x) (u ++ take at b) (drop at b) w
-    unfolding Stops comes Stands Broken Unfinished Ends
+    unfolding Stops Stands Broken Unfinished Ends
     stopped Used y w e = (λ h. absurd (omega (arith, left-long)), e)
     stopped Unknown y w e = ((omega (arith, left-long), ap record-length left-first ∙ y .1), e)
     stopped Partial y w e = (λ h. rw left-first (omega (arith, left-long)), e)
@@ -119,16 +119,15 @@ module _ (u : List ℕ) (whole : all-taken (items 0 u) ≡ true) where
 
   -- ---- one turn, where the bytes b wait
   module _ (n : ℕ) (b : List ℕ) where
-    rests : (x : Next) (w : List ℕ) → Stands x u b w → So-far (silent x (behind u) b (length u)) ((u ++ b) ++ []) (w ++ [])
-    rests x w h =
-        record {
-          used = u;
-          same = sym (append-nil (u ++ b));
-          taken = whole;
-          state = refl;
-          place = refl;
-          stands = subst (Stands x u b) (sym (append-nil w)) h;
-        }
+    rests : (x : Next) {text w : List ℕ} → Stands x u b w
+        → So-far (record { service = behind u; waiting = b; offset = length u; next = x; text = text }) (u ++ b) w
+    rests x h = record { used = u; same = refl; taken = whole; state = refl; place = refl; stands = h }
+
+    silent-rests : (x : Next) (w : List ℕ) → Stands x u b w → So-far (silent x (behind u) b (length u)) (u ++ b) (w ++ [])
+    silent-rests x w h = rests x (subst (Stands x u b) (sym (append-nil w)) h)
+
+    nothing-read : {t : Turn} {w : List ℕ} (c : Came) → came-bytes c ≡ [] → So-far t (u ++ b) w → So-far t ((u ++ b) ++ came-bytes c) w
+    nothing-read {t} {w} c e = subst (λ (l : List ℕ). So-far t l w) (sym (ap (λ (l : List ℕ). (u ++ b) ++ l) e ∙ append-nil (u ++ b)))
 
     ends : (w : List ℕ) → Unfinished b → w ≡ said u → Stands (at-end b) u b w
     unfolding at-end Stands Ends Broken
@@ -150,28 +149,13 @@ module _ (u : List ℕ) (whole : all-taken (items 0 u) ≡ true) where
     step-stands : (x : Next) (c : Came) (w : List ℕ) → Stands x u b w → Due x c
         → So-far (step-by n x c (behind u) b (length u)) ((u ++ b) ++ came-bytes c) (w ++ step-by n x c (behind u) b (length u) .text)
     unfolding step-by Due Stands came-bytes Ends
-    step-stands Await (bytes r) w h d =
-        subst (λ (l : List ℕ). So-far (fed-turn n (behind u) (b ++ r) (length u)) l (w ++ fed-turn n (behind u) (b ++ r) (length u) .text))
-        (sym (append-assoc u b r))
-        (fed-so-far n (b ++ r) w (h .1))
-    step-stands Await ended w h d = rests (at-end b) w (ends w (h .0) (h .1))
-    step-stands Await again w h d = rests Await w h
-    step-stands Await failed w h d = rests (Over ReadFailed) w (h .1)
-    step-stands Feed c w h d =
-        subst (λ (k : Came). So-far (fed-turn n (behind u) b (length u)) ((u ++ b) ++ came-bytes k) (w ++ fed-turn n (behind u) b (length u) .text)) (sym d)
-        (subst (λ (l : List ℕ). So-far (fed-turn n (behind u) b (length u)) l (w ++ fed-turn n (behind u) b (length u) .text)) (sym (append-nil (u ++ b)))
-        (fed-so-far n b w h))
-    step-stands (Refuse y) c w h d =
-        record {
-          used = u;
-          same = sym (append-nil (u ++ b)) ∙ ap (λ (k : Came). (u ++ b) ++ came-bytes k) (sym d);
-          taken = whole;
-          state = refl;
-          place = refl;
-          stands = ends-seven y w (h .0) (h .1);
-        }
-    step-stands (Over y) c w h d =
-        subst (λ (k : Came). So-far (silent (Over y) (behind u) b (length u)) ((u ++ b) ++ came-bytes k) (w ++ [])) (sym d) (rests (Over y) w h)
+    step-stands Await (bytes r) w h d = rw (append-assoc u b r) (fed-so-far n (b ++ r) w (h .1))
+    step-stands Await ended w h d = nothing-read ended refl (silent-rests (at-end b) w (ends w (h .0) (h .1)))
+    step-stands Await again w h d = nothing-read again refl (silent-rests Await w h)
+    step-stands Await failed w h d = nothing-read failed refl (silent-rests (Over ReadFailed) w (h .1))
+    step-stands Feed c w h d = nothing-read c (ap came-bytes d) (fed-so-far n b w h)
+    step-stands (Refuse y) c w h d = nothing-read c (ap came-bytes d) (rests (Over y) (ends-seven y w (h .0) (h .1)))
+    step-stands (Over y) c w h d = nothing-read c (ap came-bytes d) (silent-rests (Over y) w h)
 
 module _ (n : ℕ) (t : Turn) (read w : List ℕ) (g : So-far t read w) where
   pub step-so-far : (c : Came) → Due (t .next) c → So-far (step n c t) (read ++ came-bytes c) (w ++ step n c t .text)
@@ -183,7 +167,8 @@ module _ (n : ℕ) (t : Turn) (read w : List ℕ) (g : So-far t read w) where
       (w ++ step-by n (t .next) c s (t .waiting) (length (g .used)) .text)) (sym (g .state))
       (step-stands (g .used) (g .taken) n (t .waiting) (t .next) c w (g .stands) d)))
 
-pub sent-so-far : (t : Turn) (read w : List ℕ) (i : ℕ) → So-far t read (w ++ t .text) → i ≤ length (t .text) → So-far (sent i t) read (w ++ take i (t .text))
+pub sent-so-far : (t : Turn) (read w : List ℕ) (i : ℕ) → So-far t read (w ++ t .text) → i ≤ length (t .text)
+    → So-far (sent i t) read (w ++ take i (t .text))
 unfolding sent Stands Ends
 sent-so-far t read w i g h = pick (ℕ-discrete i (length (t .text)))
   where
@@ -202,9 +187,9 @@ sent-so-far t read w i g h = pick (ℕ-discrete i (length (t .text)))
           place = g .place;
           stands = (
             drop i (t .text) ++ a .0,
-            append-assoc w (take i (t .text)) (drop i (t .text) ++ a .0)
-                ∙ ap (λ (l : List ℕ). w ++ l)
-                (sym (append-assoc (take i (t .text)) (drop i (t .text)) (a .0)) ∙ ap (λ (l : List ℕ). l ++ a .0) (take-append-drop i (t .text)))
-                ∙ sym (append-assoc w (t .text) (a .0)) ∙ a .1,
+            sym (append-assoc (w ++ take i (t .text)) (drop i (t .text)) (a .0))
+                ∙ ap (λ (l : List ℕ). l ++ a .0)
+                (append-assoc w (take i (t .text)) (drop i (t .text)) ∙ ap (λ (l : List ℕ). w ++ l) (take-append-drop i (t .text)))
+                ∙ a .1,
           );
         })

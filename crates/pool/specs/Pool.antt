@@ -1,14 +1,16 @@
 -- What the code leaves in its values and its two buffers.
 --   live-of                 what a turn leaves, as the code's value
---   quieted, is-over        nothing to write; the run is over
+--   silent-live, is-over    nothing to write; the run is over
 --   Leaves                  what a step leaves: its value, and both buffers whole
 --   brought, Untouched      what a read brings; no read is made where none is due
---   interrupted             what errno tells behind a call that failed
---   read-as, Fills, Ready   one read: the bytes that waited stay in front; there is room for what was read, and for a line
+--   eintr, interrupted      what errno tells behind a call that failed
+--   read-as, Fills          one read: the bytes that waited stay in front
+--   Read-fits               what was read stands within the input's buffer, and a line fits into the output's
 --   step-of, stepped        one step of the code's value
---   write-as, Goes-on       one write of the bytes that are left
+--   write-as, Writes-from   one write of the bytes that are left
+--   most-turns              how often a loop is made at most
 --   Written, Writes         how far a text is written, by writes of which each goes on where the one before ended
---   settled                 the value behind that
+--   sent-live               the value behind that
 --   longest, Sound          there is room for a read where one is due, and for a line
 --   Turned                  one turn: a read, its step, and how far its text was written
 --   Ran                     a run from the start on
@@ -38,10 +40,10 @@ use Rattle.pool.specs.Turns.{Came, bytes, ended, again, failed, Turn, st
 abbrev pub live-of : Turn → Live
 live-of t = record { service = t .service; have = length (t .waiting); offset = t .offset; next = t .next; wrote = length (t .text) }
 
-abbrev pub quieted : Live → Next → Live
-quieted l x = record { service = l .service; have = l .have; offset = l .offset; next = x; wrote = 0 }
+abbrev pub silent-live : Live → Next → Live
+silent-live l x = record { service = l .service; have = l .have; offset = l .offset; next = x; wrote = 0 }
 
-unfoldable pub is-over : Next → Bool
+abbrev pub is-over : Next → Bool
 is-over Await = false
 is-over Feed = false
 is-over (Refuse y) = false
@@ -70,8 +72,11 @@ Untouched (Refuse y) r b b′ = (r ≡ Again) × (b′ ≡ b)
 Untouched (Over y) r b b′ = (r ≡ Again) × (b′ ≡ b)
 
 -- errno where a call was interrupted before it moved a byte
+abbrev pub eintr : ℕ
+eintr = 4
+
 unfoldable pub interrupted : (error : ℤ) → Bool
-interrupted (pos e) = eqb e 4
+interrupted (pos e) = eqb e eintr
 interrupted (negsuc e) = false
 
 -- an answer of read that counts n more bytes: below 0 an interruption or a failure, as errno tells; the end; or that many bytes are there
@@ -87,7 +92,7 @@ pub record Fills (b b-now : List ℕ) (have : ℕ) (r : Read) : Type 0 where
   pub moved : Moved (length b - have) got
   pub result : r ≡ read-as have (clamped got (length b - have)) got error
 
-pub record Ready (l : Live) (r : Read) (b out : List ℕ) : Type 0 where
+pub record Read-fits (l : Live) (r : Read) (b out : List ℕ) : Type 0 where
   pub have : l .have ≤ length b
   pub line : room ≤ length out
   pub inside : (n : ℕ) → r ≡ Bytes n → (l .have < n) × (n ≤ length b)
@@ -107,28 +112,32 @@ write-as i n p e =
     cond (ltZ p (pos 0)) (record { at = i; ok = interrupted e }) (cond (eqb n 0) (record { at = i; ok = false }) (record { at = i + n; ok = true }))
 
 -- of n bytes those behind the first `at` are lent; `put` and `error` are the answer and errno behind it
-pub record Goes-on (at n : ℕ) (w : Wrote) : Type 0 where
+pub record Writes-from (at n : ℕ) (w : Wrote) : Type 0 where
   pub put : ℤ
   pub error : ℤ
   pub inside : at ≤ n
   pub moved : Moved (n - at) put
   pub result : w ≡ write-as at (clamped put (n - at)) put error
 
+-- a loop counts its turns in 64 bits
+abbrev pub most-turns : ℕ
+most-turns = 2 ^ 64 - 1
+
 -- so many writes of n bytes went on, each where the one before ended, the last up to `at`
 pub data Written (n : ℕ) : (count at : ℕ) → Type 0 where
   unwritten : Written n 0 0
-  goes-on : (k i : ℕ) (w : Wrote) → Written n k i → Goes-on i n w → w .ok ≡ true → Written n (k + 1) (w .at)
+  goes-on : (k i : ℕ) (w : Wrote) → Written n k i → Writes-from i n w → w .ok ≡ true → Written n (k + 1) (w .at)
 
--- of n bytes: all; or fewer where a write failed, or behind 2 ^ 64 - 1 writes
+-- of n bytes: all; or fewer where a write failed, or behind `most-turns` writes
 pub record Writes (n : ℕ) (w : Wrote) : Type 0 where
   pub inside : w .at ≤ n
   pub all : w .ok ≡ leb n (w .at)
   pub count : ℕ
   pub written : Written n count (w .at)
-  pub stops : w .ok ≡ false → (count ≡ 2 ^ 64 - 1) ⊎ ((v : Wrote) × Goes-on (w .at) n v × (v .ok ≡ false))
+  pub stops : w .ok ≡ false → (count ≡ most-turns) ⊎ ((v : Wrote) × Writes-from (w .at) n v × (v .ok ≡ false))
 
-unfoldable pub settled : Live → Wrote → Live
-settled l w =
+unfoldable pub sent-live : Live → Wrote → Live
+sent-live l w =
     cond (w .ok) (record { service = l .service; have = l .have; offset = l .offset; next = l .next; wrote = w .at })
     (record { service = l .service; have = l .have; offset = l .offset; next = Over WriteFailed; wrote = w .at })
 
@@ -155,7 +164,7 @@ pub record Turned (l : Live) (b b-now out out-now : List ℕ) (r : Live) : Type 
   pub kept : length (stepped (length out) l read got .waiting) ≤ length got
 
 -- ---- A RUN
--- so many turns were made, and what the last left is handed back; it stops only where the run is over, or behind 2 ^ 64 - 1 turns
+-- so many turns were made, and what the last left is handed back; it stops only where the run is over, or behind `most-turns`
 pub record Ran (n : ℕ) (r : Live) : Type 0 where
   pub count : ℕ
   pub read : List ℕ
@@ -163,4 +172,4 @@ pub record Ran (n : ℕ) (r : Live) : Type 0 where
   pub turn : Turn
   pub turns : Turns n count read written turn
   pub result : r ≡ live-of turn
-  pub ends : is-over (r .next) ≡ false → count ≡ 2 ^ 64 - 1
+  pub ends : is-over (r .next) ≡ false → count ≡ most-turns

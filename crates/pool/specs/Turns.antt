@@ -52,7 +52,7 @@ first-turn = record { service = new-service; waiting = []; offset = 0; next = Aw
 -- ---- ONE TURN
 -- a record that is not whole waits for a read; where there was no room for a line the rest is fed again; an unknown kind is refused; past
 -- 64 bits all is over
-unfoldable pub comes : Stop → Next
+abbrev pub comes : Stop → Next
 comes Used = Await
 comes Partial = Await
 comes Full = Feed
@@ -107,8 +107,8 @@ Due (Over y) c = c ≡ again
 -- so many turns from the start on, whatever their reads bring and their writes take, read and wrote these bytes, and the last left this
 pub data Turns (n : ℕ) : (count : ℕ) (read written : List ℕ) → Turn → Type 0 where
   none : Turns n 0 [] [] first-turn
-  more : (k : ℕ) (read written : List ℕ) (t : Turn) (c : Came) (i : ℕ) → Turns n k read written t → Due (t .next) c → i ≤ length (step n c t .text)
-      → Turns n (k + 1) (read ++ came-bytes c) (written ++ take i (step n c t .text)) (sent i (step n c t))
+  more : (k : ℕ) (read written : List ℕ) (t : Turn) (c : Came) (i : ℕ) → Turns n k read written t → Due (t .next) c
+      → i ≤ length (step n c t .text) → Turns n (k + 1) (read ++ came-bytes c) (written ++ take i (step n c t .text)) (sent i (step n c t))
 
 -- ---- A LIST OF READS
 unfoldable pub next-came : Next → (reads : List (List ℕ)) → Came

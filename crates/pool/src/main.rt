@@ -3,10 +3,10 @@
 //   Read, Why, Next, Live, Wrote     what came of a read; why the run is over, or what comes next; what goes from turn to turn
 //   read_as, fill, ask               what an answer of read means; one read, where one is due
 //   keep, comes, take                feeds what there is, and moves the bytes that are not used to the front
-//   quiet, refuse                    nothing to write; the line of refusal 7
+//   silent, refuse                   nothing to write; the line of refusal 7
 //   wait, step                       what a read makes of the state: nothing is read or written here
 //   write_as, write_from, write      what an answer of write means; all of a text, past interruptions
-//   settle, turn                     what comes behind a write; one turn: a read where one is due, a step, and its text written
+//   sent, turn                       what comes behind a write; one turn: a read where one is due, a step, and its text written
 //   is_over, run                     turn after turn, till the run is over
 //   tell, main                       the message of a failure
 // No byte of output is made outside the crate stream.
@@ -17,8 +17,8 @@ ghost use lib.Seq.{sets};
 ghost use Rattle.lines.specs.Put.{room};
 ghost use Rattle.pool.specs.declared.Next.the-variants.{Await, Refuse};
 ghost use Rattle.pool.specs.Turns.{again, comes, fed-turn};
-ghost use Rattle.pool.specs.Pool.{quieted, is-over, Leaves, brought, Untouched, read-as, Fills, Ready, step-of, stepped};
-ghost use Rattle.pool.specs.Pool.{write-as, Goes-on, Writes, settled, longest, Sound, Turned, Ran};
+ghost use Rattle.pool.specs.Pool.{silent-live, is-over, Leaves, brought, Untouched, read-as, Fills, Read-fits, step-of, stepped};
+ghost use Rattle.pool.specs.Pool.{write-as, Writes-from, Writes, sent-live, longest, Sound, Turned, Ran};
 use libc::STDIN_FILENO;
 use libc::STDOUT_FILENO;
 use service::Service;
@@ -135,7 +135,8 @@ fn comes(stop: Stop) -> Next
 // Feeds the first n bytes of buf, and keeps those that are not used.
 fn take(service: Service, offset: u64, buf: &mut [u8], n: usize, out: &mut [u8]) -> Live
     requires { ⌜ n ≤ length (now buf) ⌝ }
-    ensures { λ r. ⌜ Leaves (fed-turn (length (now (out .entry))) service (take n (now (buf .entry))) offset) (now (buf .entry)) (now (buf .exit)) (now (out .entry)) (now (out .exit)) r ⌝ }
+    ensures { λ r. ⌜ Leaves (fed-turn (length (now (out .entry))) service (take n (now (buf .entry))) offset)
+        (now (buf .entry)) (now (buf .exit)) (now (out .entry)) (now (out .exit)) r ⌝ }
 {
     let fed = stream::feed(service, &buf[..n], offset, out);
     let kept = fed.service;
@@ -154,8 +155,8 @@ fn take(service: Service, offset: u64, buf: &mut [u8], n: usize, out: &mut [u8])
     }
 }
 
-fn quiet(live: Live, next: Next) -> Live
-    ensures { λ r. ⌜ r ≡ quieted live next ⌝ }
+fn silent(live: Live, next: Next) -> Live
+    ensures { λ r. ⌜ r ≡ silent-live live next ⌝ }
 {
     let service = live.service;
     Live {
@@ -170,7 +171,8 @@ fn quiet(live: Live, next: Next) -> Live
 // The line of refusal 7, and then the end of the run.
 fn refuse(live: Live, why: Why, buf: &[u8], out: &mut [u8]) -> Live
     requires { ⌜ (live .have ≤ length (now buf)) × (room ≤ length (now out)) ⌝ }
-    ensures { λ r. ⌜ Leaves (step-of (length (now (out .entry))) (Refuse why) again live (now (buf .entry))) (now (buf .entry)) (now (buf .entry)) (now (out .entry)) (now (out .exit)) r ⌝ }
+    ensures { λ r. ⌜ Leaves (step-of (length (now (out .entry))) (Refuse why) again live (now (buf .entry)))
+        (now (buf .entry)) (now (buf .entry)) (now (out .entry)) (now (out .exit)) r ⌝ }
 {
     let service = live.service;
     let wrote = stream::cut(live.offset, out);
@@ -185,8 +187,9 @@ fn refuse(live: Live, why: Why, buf: &[u8], out: &mut [u8]) -> Live
 
 // What a read brings.
 fn wait(live: Live, read: Read, buf: &mut [u8], out: &mut [u8]) -> Live
-    requires { ⌜ Ready live read (now buf) (now out) ⌝ }
-    ensures { λ r. ⌜ Leaves (step-of (length (now (out .entry))) Await (brought read (live .have) (now (buf .entry))) live (now (buf .entry))) (now (buf .entry)) (now (buf .exit)) (now (out .entry)) (now (out .exit)) r ⌝ }
+    requires { ⌜ Read-fits live read (now buf) (now out) ⌝ }
+    ensures { λ r. ⌜ Leaves (step-of (length (now (out .entry))) Await (brought read (live .have) (now (buf .entry))) live (now (buf .entry)))
+        (now (buf .entry)) (now (buf .exit)) (now (out .entry)) (now (out .exit)) r ⌝ }
 {
     let service = live.service;
     let offset = live.offset;
@@ -194,19 +197,20 @@ fn wait(live: Live, read: Read, buf: &mut [u8], out: &mut [u8]) -> Live
         Read::Bytes(n) => take(service, offset, buf, n, out),
         Read::End => {
             if live.have == 0 {
-                return quiet(live, Next::Over(Why::EndOfInput));
+                return silent(live, Next::Over(Why::EndOfInput));
             }
-            quiet(live, Next::Refuse(Why::CutShort))
+            silent(live, Next::Refuse(Why::CutShort))
         }
-        Read::Again => quiet(live, Next::Await),
-        Read::Failed => quiet(live, Next::Over(Why::ReadFailed)),
+        Read::Again => silent(live, Next::Await),
+        Read::Failed => silent(live, Next::Over(Why::ReadFailed)),
     }
 }
 
 // What comes next, done: nothing is read or written here.
 fn step(live: Live, read: Read, buf: &mut [u8], out: &mut [u8]) -> Live
-    requires { ⌜ Ready live read (now buf) (now out) ⌝ }
-    ensures { λ r. ⌜ Leaves (stepped (length (now (out .entry))) live read (now (buf .entry))) (now (buf .entry)) (now (buf .exit)) (now (out .entry)) (now (out .exit)) r ⌝ }
+    requires { ⌜ Read-fits live read (now buf) (now out) ⌝ }
+    ensures { λ r. ⌜ Leaves (stepped (length (now (out .entry))) live read (now (buf .entry)))
+        (now (buf .entry)) (now (buf .exit)) (now (out .entry)) (now (out .exit)) r ⌝ }
 {
     let service = live.service;
     let offset = live.offset;
@@ -216,7 +220,7 @@ fn step(live: Live, read: Read, buf: &mut [u8], out: &mut [u8]) -> Live
         Next::Await => wait(live, read, buf, out),
         Next::Feed => take(service, offset, buf, have, out),
         Next::Refuse(why) => refuse(live, why, buf, out),
-        Next::Over(why) => quiet(live, Next::Over(why)),
+        Next::Over(why) => silent(live, Next::Over(why)),
     }
 }
 
@@ -244,7 +248,7 @@ fn write_as(at: usize, n: usize, put: isize, error: i32) -> Wrote
 // One write of text from `at` on.
 fn write_from(text: &[u8], at: usize) -> Wrote
     requires { ⌜ at ≤ length (now text) ⌝ }
-    ensures { λ r. ⌜ Goes-on at (length (now (text .entry))) r ⌝ }
+    ensures { λ r. ⌜ Writes-from at (length (now (text .entry))) r ⌝ }
 {
     let put = libc::write(STDOUT_FILENO, &text[at..]);
     let n = io::count(put, &text[at..]);
@@ -276,8 +280,8 @@ fn write(text: &[u8]) -> Wrote
 }
 
 // Behind a text that is written as far as this.
-fn settle(live: Live, wrote: Wrote) -> Live
-    ensures { λ r. ⌜ r ≡ settled live wrote ⌝ }
+fn sent(live: Live, wrote: Wrote) -> Live
+    ensures { λ r. ⌜ r ≡ sent-live live wrote ⌝ }
 {
     let service = live.service;
     if wrote.ok {
@@ -309,7 +313,7 @@ fn turn(live: Live, buf: &mut [u8], out: &mut [u8]) -> Live
     let after = step(live, read, buf, out);
     let n = after.wrote;
     let wrote = write(&out[..n]);
-    settle(after, wrote)
+    sent(after, wrote)
 }
 
 fn is_over(next: Next) -> bool

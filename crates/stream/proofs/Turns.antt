@@ -25,7 +25,7 @@ use Rattle.scheme.proofs.Good.{good}
 use Rattle.scheme.proofs.Lists.{map-span-length, span-length}
 use Rattle.scheme.proofs.Refusals.{then-zero, unless-zero}
 use Rattle.plan.specs.Plan.{plan-of}
-use Rattle.plan.proofs.Laws.{places-le}
+use Rattle.scheme.proofs.PlanBounds.{places-le}
 use Rattle.service.specs.declared.Head.{Head}
 use Rattle.service.specs.declared.Service.{Service}
 use Rattle.service.specs.Calls.{lent, first-refusal, first-left, first-step, reply-refusal, reply-left, reply-step}

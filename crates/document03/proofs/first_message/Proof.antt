@@ -4,28 +4,20 @@ use mathlib.Core.Path.{_≡_, refl, sym, ap, _∙_}
 use lib.ListN.{length}
 use denote.Ref.{now}
 use borrow.Author.Needs.{needs}
-use Rattle.scheme.specs.Scheme.{sixteen, Stage, message-refusal}
 use Rattle.client.specs.declared.Answer.{Answer}
-use Rattle.client.specs.Client.{stage-of-number}
+use Rattle.client.specs.Client.{first-refusal}
 use Rattle.client.proofs.Laws.{moved-number}
-use Rattle.document03.specs.Ours.{plan-of-numbers}
 use Rattle.document03.proofs.Says.{first-says}
 use Rattle.document03.proofs.first_message.Statement.{statement}
 use Rattle.document03.proofs.first_message.Tie as tie
 
-number : (c : tie.After-first-message) → let a = c .before .before .before .before .before .before .args in
-    let p = plan-of-numbers (a .airfields) (a .least) (a .colluders) (a .blocks) in
-    c .first-message .result .number
-    ≡ message-refusal sixteen p (a .airfield) (stage-of-number (a .stage)) (now (a .key)) (now (a .figures)) (length (now (a .output)))
-number c =
-    let a = c .before .before .before .before .before .before .args in
-    ap (λ (r : Answer). r .number) (c .first-message .ensures .0) ∙ moved-number _ _ _
-    ∙ ap (λ (g : Stage).
-    message-refusal sixteen (plan-of-numbers (a .airfields) (a .least) (a .colluders) (a .blocks)) (a .airfield) g (now (a .key)) (now (a .figures))
-    (length (now (a .output)))) (c .before .before .stage-of-number .ensures)
+number : (c : tie.After-first-message) → let f = c .before .before in
+    let a = f .before .before .before .before .args in
+    c .first-message .result .number ≡ first-refusal (f .client-of .result) (now (a .key)) (now (a .figures)) (length (now (a .output)))
+number c = ap (λ (r : Answer). r .number) (c .first-message .ensures .0) ∙ moved-number _ _ _
 
-stage-of-number-requires : tie.Need-stage-of-number-requires
-stage-of-number-requires c κs = search needs
+client-of-requires : tie.Need-client-of-requires
+client-of-requires c κs = search needs
 
 first-message-requires : tie.Need-first-message-requires
 first-message-requires c κs = search needs
@@ -36,8 +28,8 @@ same-length c = search needs
 returns : tie.Need-returns
 returns c =
     let f = c .before .before .before in
-    first-says _ _ _ _ _ _ _ _ _ _ _ (number f) (λ e. absurd (c .if1 .taken (number f ∙ e))) (λ no. refl)
-    (rw (sym (f .before .before .stage-of-number .ensures)) (f .first-message .ensures .1))
+    first-says (f .before .before .client-of .ensures) _ _ _ _ _ (number f) (λ e. absurd (c .if1 .taken (number f ∙ e))) (λ no. refl)
+    (f .first-message .ensures .1)
 
 same-length-2 : tie.Need-same-length-2
 same-length-2 c = search needs
@@ -45,8 +37,8 @@ same-length-2 c = search needs
 returns-2 : tie.Need-returns-2
 returns-2 c =
     let f = c .before .before .before in
-    first-says _ _ _ _ _ _ _ _ _ _ _ (number f) (λ e. refl) (λ no. absurd (no (sym (number f) ∙ c .if1 .left)))
-    (rw (sym (f .before .before .stage-of-number .ensures)) (f .first-message .ensures .1))
+    first-says (f .before .before .client-of .ensures) _ _ _ _ _ (number f) (λ e. refl) (λ no. absurd (no (sym (number f) ∙ c .if1 .left)))
+    (f .first-message .ensures .1)
 
 pub first-message-spec : {M : Type 1} → statement M
-first-message-spec = tie.close (tie.spec stage-of-number-requires first-message-requires same-length returns same-length-2 returns-2)
+first-message-spec = tie.close (tie.spec client-of-requires first-message-requires same-length returns same-length-2 returns-2)

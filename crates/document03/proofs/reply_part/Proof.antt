@@ -1,44 +1,36 @@
 -- `document03::reply_part` meets document 03's contract: the client's refusal decides, and the start is our own.
 -- Assumes nothing.
-use mathlib.Core.Path.{_≡_, refl, sym, ap, _∙_}
+use mathlib.Core.Path.{refl, sym, _∙_}
 use native.Mathlib.Nat.{le-of-lt}
 use native.Mathlib.Omega.{arith}
 use denote.Ref.{now}
 use borrow.Author.Needs.{needs}
-use Rattle.scheme.specs.Scheme.{sixteen, Stage, reply-refusal}
+use Rattle.scheme.specs.Scheme.{sixteen}
 use Rattle.scheme.proofs.Refusals.{start-taken}
 use Rattle.scheme.proofs.Sets.{usable-below}
-use Rattle.plan.proofs.Laws.{usable-le}
-use Rattle.client.specs.Client.{stage-of-number}
+use Rattle.plan.specs.Plan.{plan-of}
+use Rattle.scheme.proofs.PlanBounds.{usable-le}
 use Rattle.client.proofs.Laws.{Answers, reply-answers}
-use Rattle.document03.specs.Ours.{plan-of-numbers}
 use Rattle.document03.proofs.Says.{reply-says}
 use Rattle.document03.proofs.reply_part.Statement.{statement}
 use Rattle.document03.proofs.reply_part.Tie as tie
 
-number : (c : tie.After-reply-refusal) → let a = c .before .before .before .args in
-    let p = plan-of-numbers (a .airfields) (a .least) (a .colluders) (a .blocks) in
-    c .reply-refusal .result ≡ reply-refusal sixteen p (a .airfield) (stage-of-number (a .stage)) (now (a .key)) (a .set)
-number c =
-    let a = c .before .before .before .args in
-    let p = plan-of-numbers (a .airfields) (a .least) (a .colluders) (a .blocks) in
-    c .reply-refusal .ensures
-    ∙ ap (λ (g : Stage). reply-refusal sixteen p (a .airfield) g (now (a .key)) (a .set)) (c .before .stage-of-number .ensures)
+answers : (c : tie.Else1) → let f = c .before .before .before in
+    let a = f .before .before .args in
+    Answers sixteen (plan-of (f .client-of .result .plan)) (f .client-of .result .user) (now (a .key)) (a .set)
+answers c = reply-answers _ (sym (c .before .reply-refusal .ensures) ∙ c .if1 .left)
 
-answers : (c : tie.Else1) → let a = c .before .before .before .before .args in
-    Answers sixteen (plan-of-numbers (a .airfields) (a .least) (a .colluders) (a .blocks)) (a .airfield) (now (a .key)) (a .set)
-answers c = reply-answers _ (sym (number (c .before)) ∙ c .if1 .left)
-
-stage-of-number-requires : tie.Need-stage-of-number-requires
-stage-of-number-requires c κs = search needs
+client-of-requires : tie.Need-client-of-requires
+client-of-requires c κs = search needs
 
 reply-refusal-requires : tie.Need-reply-refusal-requires
 reply-refusal-requires c κs = search needs
 
 returns : tie.Need-returns
 returns c =
-    let n = number (c .before) in
-    reply-says _ _ _ _ _ _ _ _ _ n (λ e. absurd (c .if1 .taken (n ∙ e))) (λ no. (refl, refl, refl))
+    let f = c .before in
+    reply-says (f .before .before .client-of .ensures) _ _ _ (f .reply-refusal .ensures)
+    (λ e. absurd (c .if1 .taken (f .reply-refusal .ensures ∙ e))) (λ no. (refl, refl, refl))
 
 reply-start-requires : tie.Need-reply-start-requires
 reply-start-requires c κs =
@@ -56,8 +48,9 @@ add-t16 c =
 
 returns-2 : tie.Need-returns-2
 returns-2 c =
-    let n = number (c .before .before) in
-    reply-says _ _ _ _ _ _ _ _ _ n (λ e. (c .reply-start .ensures .0, refl, refl)) (λ no. absurd (no (sym n ∙ c .before .if1 .left)))
+    let f = c .before .before in
+    reply-says (f .before .before .client-of .ensures) _ _ _ (f .reply-refusal .ensures)
+    (λ e. (c .reply-start .ensures .0, refl, refl)) (λ no. absurd (no (sym (f .reply-refusal .ensures) ∙ c .before .if1 .left)))
 
 pub reply-part-spec : {M : Type 1} → statement M
-reply-part-spec = tie.close (tie.spec stage-of-number-requires reply-refusal-requires returns reply-start-requires cast-t15 add-t16 returns-2)
+reply-part-spec = tie.close (tie.spec client-of-requires reply-refusal-requires returns reply-start-requires cast-t15 add-t16 returns-2)

@@ -11,7 +11,7 @@ use Rattle.scheme.specs.Scheme.{q, items, places}
 use Rattle.scheme.specs.Good.{Good}
 use Rattle.scheme.proofs.Refusals.{unless-held, unless-failed, after-taken, after-refused}
 use Rattle.plan.specs.Plan.{plan-of}
-use Rattle.plan.proofs.Laws.{places-le}
+use Rattle.scheme.proofs.PlanBounds.{places-le}
 use Rattle.finish.specs.Parts.{First-sums}
 use Rattle.finish.proofs.Blocks.{listed-few, listed-points}
 use Rattle.finish.proofs.Padded.{sets-zeros}

@@ -8,7 +8,7 @@ use Rattle.scheme.specs.KeyParts.{Key-input}
 use Rattle.scheme.proofs.Refusals.{after-taken, after-refused}
 use Rattle.scheme.proofs.KeyWriting.{key-accepted, key-whole}
 use Rattle.plan.specs.Plan.{plan-of}
-use Rattle.plan.proofs.Laws.{masks-inside}
+use Rattle.scheme.proofs.PlanBounds.{masks-inside}
 use Rattle.keys.proofs.make_key.Statement.{statement}
 use Rattle.keys.proofs.make_key.Tie as tie
 

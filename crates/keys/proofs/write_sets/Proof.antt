@@ -17,7 +17,7 @@ use Rattle.scheme.proofs.KeyPlaces.{rows-in, noise-room}
 use Rattle.scheme.proofs.KeyShares.{shares-right}
 use Rattle.scheme.proofs.KeyWriting.{Written, written-start, written-take, written-pass, written-skip, written-end}
 use Rattle.plan.specs.Plan.{plan-of}
-use Rattle.plan.proofs.Laws.{sets-le, reply-inside}
+use Rattle.scheme.proofs.PlanBounds.{sets-le, reply-inside}
 use Rattle.keys.proofs.write_sets.Statement.{statement}
 use Rattle.keys.proofs.write_sets.Tie as tie
 

@@ -29,9 +29,10 @@ same-length c = search needs
 returns : tie.Need-returns
 unfolding Untouched
 returns c =
-    let a = c .before .before .before .before .before .before .before .args in
-    let f = c .before .before .fill in
-    (f .ensures, asked-due (a .next) (f .result) (a .buf .now) (f .last .0) (c .before .before .before .before .enum-told .given .1))
+    let f = c .before .before in
+    let e = f .before .before in
+    let a = e .before .before .before .args in
+    (f .fill .ensures, asked-due (a .next) (f .fill .result) (a .buf .now) (f .fill .last .0) (e .enum-told .given .1))
 
 returns-2 : tie.Need-returns-2
 unfolding Untouched

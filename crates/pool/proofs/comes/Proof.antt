@@ -22,23 +22,18 @@ enum-told-5 : tie.Need-enum-told-5
 enum-told-5 c = search needs
 
 returns : tie.Need-returns
-unfolding comes
-returns c = sym (ap comes (c .enum-told .given .1))
+returns c = search needs
 
 returns-2 : tie.Need-returns-2
-unfolding comes
 returns-2 c = sym (ap comes (c .enum-told2 .given .1))
 
 returns-3 : tie.Need-returns-3
-unfolding comes
-returns-3 c = sym (ap comes (c .enum-told3 .given .1))
+returns-3 c = search needs
 
 returns-4 : tie.Need-returns-4
-unfolding comes
-returns-4 c = sym (ap comes (c .enum-told4 .given .1))
+returns-4 c = search needs
 
 returns-5 : tie.Need-returns-5
-unfolding comes
 returns-5 c = sym (ap comes (c .enum-told5 .given .1))
 
 pub comes-spec : {M : Type 1} → statement M

@@ -5,11 +5,10 @@ use Prim.Native.Nat.{ℕ, _-_}
 use native.Mathlib.Omega.{arith}
 use lib.ListN.{length}
 use borrow.Author.Needs.{needs}
-use borrow.Rule.Slice.PartMut.{mid-len}
+use borrow.Rule.Slice.PartMut.{mid-len, take-put}
 use Rattle.libc.specs.Io.{Moved}
 use Rattle.pool.specs.Pool.{read-as}
 use Rattle.pool.proofs.Answers.{answered}
-use Rattle.pool.proofs.Leaving.{front-kept}
 use Rattle.pool.proofs.fill.Statement.{statement}
 use Rattle.pool.proofs.fill.Tie as tie
 
@@ -48,21 +47,21 @@ same-length c = search needs
 
 returns : tie.Need-returns
 returns c =
-    let a = c .before .before .before .before .before .before .before .before .before .before .args in
-    let n = c .before .before .count in
+    let n = c .before .before in
+    let lent = n .before .before in
+    let r = lent .before .before .before in
+    let a = r .before .before .before .args in
     let error = c .before .errno in
-    let got = c .before .before .before .before .before .before .before .read in
-    let read = c .before .before .before .before .before .before .before .read .last .1 .0 in
-    let h = c .before .before .before .before .before .before .before .before .before .before .pre in
+    let got = r .read in
     record {
       got = got .result;
       error = error .result;
-      front = front-kept (a .have) (length (a .buf .now) - a .have) (a .buf .now) read h;
+      front = take-put (a .have) (length (a .buf .now) - a .have) (a .buf .now) (got .last .1 .0) (omega arith);
       inside = omega arith;
       moved = subst (λ (i : ℕ). Moved i (got .result)) (mid-len (a .have) (length (a .buf .now)) (a .buf .now) (omega arith)) (got .ensures);
       result =
           answered (read-as (a .have)) (got .result) (error .result) (record { sfits = got .ok }) (record { sfits = error .ok }) (c .read-as .ensures)
-          (n .ensures .1) (omega arith);
+          (n .count .ensures .1) (omega arith);
     }
 
 pub fill-spec : {M : Type 1} → statement M

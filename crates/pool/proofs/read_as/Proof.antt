@@ -4,7 +4,7 @@ use mathlib.Core.Path.{_∙_}
 use native.Mathlib.Omega.{arith}
 use borrow.Author.Needs.{needs}
 use borrow.Author.Tests.{eq-eqb, ne-eqb}
-use Rattle.pool.specs.Pool.{read-as}
+use Rattle.pool.specs.Pool.{eintr, read-as}
 use Rattle.pool.proofs.Answers.{below-zero, is-interrupted}
 use Rattle.pool.proofs.read_as.Statement.{statement}
 use Rattle.pool.proofs.read_as.Tie as tie
@@ -13,13 +13,13 @@ returns : tie.Need-returns
 unfolding read-as
 returns c =
     let s = c .before .before in
-    rw (below-zero (s .args .got) (s .fits .got) ∙ c .before .if1 .taken, is-interrupted (s .args .error) (s .fits .error) ∙ eq-eqb _ 4 (c .if2 .taken))
+    rw (below-zero (s .args .got) (s .fits .got) ∙ c .before .if1 .taken, is-interrupted (s .args .error) (s .fits .error) ∙ eq-eqb _ eintr (c .if2 .taken))
 
 returns-2 : tie.Need-returns-2
 unfolding read-as
 returns-2 c =
     let s = c .before .before in
-    rw (below-zero (s .args .got) (s .fits .got) ∙ c .before .if1 .taken, is-interrupted (s .args .error) (s .fits .error) ∙ ne-eqb _ 4 (c .if2 .left))
+    rw (below-zero (s .args .got) (s .fits .got) ∙ c .before .if1 .taken, is-interrupted (s .args .error) (s .fits .error) ∙ ne-eqb _ eintr (c .if2 .left))
 
 returns-3 : tie.Need-returns-3
 unfolding read-as

@@ -13,10 +13,10 @@ same-length c = search needs
 
 returns : tie.Need-returns
 returns c =
-    let a = c .before .before .before .before .before .before .before .args in
-    let p = c .before .before .before .before .before .before .before .pre in
-    let k = c .before .before .cut in
-    seven-leaves (a .live) (a .buf .now) (a .out .now) (p .0) (k .last .1 .0) (a .why) (k .result) (p .1) (k .ensures .0) (k .ensures .1)
+    let k = c .before .before in
+    let l = k .before .before in
+    let s = l .before .before .before in
+    seven-leaves (s .args .live) (s .args .buf .now) (s .pre .0) (s .args .why) (s .pre .1) (k .cut .ensures .0) (k .cut .ensures .1)
 
 pub refuse-spec : {M : Type 1} → statement M
 refuse-spec = tie.close (tie.spec cut-requires same-length returns)

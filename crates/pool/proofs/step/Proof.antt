@@ -1,12 +1,16 @@
 -- `pool::step` meets its contract: each thing that may come next.
 -- Assumes nothing.
+use mathlib.Core.Path.{refl}
 use lib.ListN.{length}
 use borrow.Author.Needs.{needs}
 use Rattle.pool.specs.declared.Next.the-variants.{Await, Feed, Refuse, Over}
 use Rattle.pool.specs.Turns.{step-by}
-use Rattle.pool.proofs.Leaving.{quiet-leaves, step-as}
+use Rattle.pool.proofs.Leaving.{silent-leaves, step-as}
 use Rattle.pool.proofs.step.Statement.{statement}
 use Rattle.pool.proofs.step.Tie as tie
+
+abbrev entered : tie.After-service → tie.Start
+entered c = c .before .before .before
 
 enum-told : tie.Need-enum-told
 enum-told c = search needs
@@ -29,8 +33,8 @@ refuse-requires c κs = search needs
 enum-known-next-2 : tie.Need-enum-known-next-2
 enum-known-next-2 c = search needs
 
-quiet-requires : tie.Need-quiet-requires
-quiet-requires c κs = search needs
+silent-requires : tie.Need-silent-requires
+silent-requires c κs = search needs
 
 same-length : tie.Need-same-length
 same-length c = search needs
@@ -40,9 +44,10 @@ same-length-2 c = search needs
 
 returns : tie.Need-returns
 returns c =
-    let a = c .before .before .before .before .before .before .before .before .before .before .before .before .args in
-    step-as (length (a .out .now)) (a .live) (a .read) (a .buf .now) Await (c .before .before .before .before .before .before .before .enum-told .given .1)
-    (c .before .before .before .before .wait .ensures)
+    let w = c .before .before .before .before in
+    let e = w .before .before .before in
+    let a = entered (e .before .before) .args in
+    step-as (length (a .out .now)) (a .live) (a .buf .now) Await (a .read) (e .enum-told .given .1) refl (w .wait .ensures)
 
 same-length-3 : tie.Need-same-length-3
 same-length-3 c = search needs
@@ -53,9 +58,10 @@ same-length-4 c = search needs
 returns-2 : tie.Need-returns-2
 unfolding step-by
 returns-2 c =
-    let a = c .before .before .before .before .before .before .before .before .before .before .before .before .args in
-    step-as (length (a .out .now)) (a .live) (a .read) (a .buf .now) Feed (c .before .before .before .before .before .before .before .enum-told2 .given .1)
-    (c .before .before .before .before .take .ensures)
+    let t = c .before .before .before .before in
+    let e = t .before .before .before in
+    let a = entered (e .before .before) .args in
+    step-as (length (a .out .now)) (a .live) (a .buf .now) Feed (a .read) (e .enum-told2 .given .1) refl (t .take .ensures)
 
 same-length-5 : tie.Need-same-length-5
 same-length-5 c = search needs
@@ -66,17 +72,19 @@ same-length-6 c = search needs
 returns-3 : tie.Need-returns-3
 unfolding step-by
 returns-3 c =
-    let a = c .before .before .before .before .before .before .before .before .before .before .before .args in
-    step-as (length (a .out .now)) (a .live) (a .read) (a .buf .now) (Refuse _) (c .before .before .before .before .before .before .next .given .1)
-    (c .before .before .refuse .ensures)
+    let f = c .before .before in
+    let x = f .before .before .before .before in
+    let a = entered (x .before .before) .args in
+    step-as (length (a .out .now)) (a .live) (a .buf .now) (Refuse _) (a .read) (x .next .given .1) refl (f .refuse .ensures)
 
 returns-4 : tie.Need-returns-4
 unfolding step-by
 returns-4 c =
-    let h = c .before .before .before .before .before .before .before .pre .have in
-    let a = c .before .before .before .before .before .before .before .args in
-    step-as (length (a .out .now)) (a .live) (a .read) (a .buf .now) (Over _) (c .before .before .next2 .given .1)
-    (quiet-leaves (a .live) (a .buf .now) (a .out .now) h (c .quiet .result) (Over _) (c .quiet .ensures))
+    let x = c .before .before in
+    let s = entered (x .before .before) in
+    let a = s .args in
+    step-as (length (a .out .now)) (a .live) (a .buf .now) (Over _) (a .read) (x .next2 .given .1) refl
+    (silent-leaves (a .live) (a .buf .now) (s .pre .have) (Over _) (c .silent .ensures))
 
 pub step-spec : {M : Type 1} → statement M
 step-spec =
@@ -89,7 +97,7 @@ step-spec =
     enum-known-next
     refuse-requires
     enum-known-next-2
-    quiet-requires
+    silent-requires
     same-length
     same-length-2
     returns

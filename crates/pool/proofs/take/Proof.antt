@@ -10,6 +10,12 @@ use Rattle.pool.proofs.Leaving.{here-fits, used-inside, fed-leaves}
 use Rattle.pool.proofs.take.Statement.{statement}
 use Rattle.pool.proofs.take.Tie as tie
 
+abbrev entered : tie.After-feed-arg → tie.Start
+entered c = c .before .before .before
+
+abbrev behind-feed : tie.After-keep-arg → tie.After-feed
+behind-feed c = c .before .before .before .before
+
 slice-reshare-prefix-feed : tie.Need-slice-reshare-prefix-feed
 slice-reshare-prefix-feed c = search needs
 
@@ -21,13 +27,15 @@ feed-requires c κs = search needs
 
 add-here : tie.Need-add-here
 add-here c =
-    let h : c .before .before .before .before .before .before .before .before .args .offset < 2 ^ 64 = omega arith in
-    omega (arith, here-fits _ _ _ _ _ (c .before .before .before .feed .ensures .0) h)
+    let f = c .before .before .before in
+    let h : entered (f .before .before) .args .offset < 2 ^ 64 = omega arith in
+    omega (arith, here-fits _ _ _ _ _ (f .feed .ensures .0) h)
 
 keep-requires : tie.Need-keep-requires
 keep-requires c κs =
-    let s = c .before .before .before .before .before .before .before .before .before in
-    (used-inside _ _ _ _ _ _ (s .pre) (c .before .before .before .before .feed .ensures .0), s .pre)
+    let f = behind-feed c in
+    let s = entered (f .before .before) in
+    (used-inside _ _ _ _ _ _ (s .pre) (f .feed .ensures .0), s .pre)
 
 comes-requires : tie.Need-comes-requires
 comes-requires c κs = search needs
@@ -40,12 +48,14 @@ same-length-2 c = search needs
 
 returns : tie.Need-returns
 returns c =
-    let s = c .before .before .before .before .before .before .before .before .before .before .before .before .before in
-    let f = c .before .before .before .before .before .before .before .before .feed in
-    let k = c .before .before .before .keep in
-    fed-leaves (s .args .service) (s .args .buf .now) (s .args .n) (s .args .offset) (length (s .args .out .now)) (f .result) (s .pre)
-    (f .ensures .0) (k .last .0) (s .args .out .now) (f .last .1 .1 .1 .0) (k .result) (c .comes .result) refl
-    (f .ensures .1) (k .ensures .0) (k .ensures .1) (c .comes .ensures)
+    let kept = c .before .before .before in
+    let fed = behind-feed (kept .before) in
+    let s = entered (fed .before .before) in
+    let a = s .args in
+    let f = fed .feed in
+    let k = kept .keep in
+    fed-leaves (a .service) (a .buf .now) (a .n) (a .offset) (length (a .out .now)) (f .result) (s .pre) (f .ensures .0) (k .last .0)
+    (a .out .now) (f .last .1 .1 .1 .0) (k .result) (c .comes .result) refl (f .ensures .1) (k .ensures .0) (k .ensures .1) (c .comes .ensures)
 
 pub take-spec : {M : Type 1} → statement M
 take-spec =

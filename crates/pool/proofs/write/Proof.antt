@@ -2,19 +2,19 @@
 -- Assumes nothing.
 use mathlib.Core.Path.{refl, sym}
 use mathlib.Core.Logic.{inl, inr}
-use Prim.Native.Nat.{_-_, _^_, _≤_}
+use Prim.Native.Nat.{_-_, _≤_}
 use native.Mathlib.Omega.{arith}
 use lib.ListN.{length}
 use borrow.Author.Needs.{needs}
 use borrow.Author.Tests.{not-true, not-false, le-leb, lt-leb}
 use Rattle.scheme.proofs.Tests.{holds}
-use Rattle.pool.specs.Pool.{Written, unwritten, goes-on}
-use Rattle.pool.proofs.Running.{goes-inside, written-as}
+use Rattle.pool.specs.Pool.{most-turns, Written, unwritten}
+use Rattle.pool.proofs.Running.{writes-from-inside, written-more}
 use Rattle.pool.proofs.write.Statement.{statement}
 use Rattle.pool.proofs.write.Tie as tie
 
 abbrev Inv-loop : tie.InvT-loop
-Inv-loop text at₀ turns₀ at turns = (at ≤ length text) × Written (length text) (2 ^ 64 - 1 - turns) at × (turns ≤ 2 ^ 64 - 1)
+Inv-loop text at₀ turns₀ at turns = (at ≤ length text) × Written (length text) (most-turns - turns) at × (turns ≤ most-turns)
 
 abbrev μ-loop : tie.MeasureT-loop
 μ-loop text at₀ turns₀ at turns = turns
@@ -24,8 +24,9 @@ loop-holds c = (omega arith, unwritten, omega arith)
 
 returns : tie.Need-returns Inv-loop μ-loop
 returns c =
-    let n = length (c .before .before .before .before .args .text .now) in
-    let l = c .before .before .loop in
+    let e = c .before .before in
+    let n = length (e .before .before .args .text .now) in
+    let l = e .loop in
     record { inside = omega arith; all = sym (le-leb n (l .at) (omega arith)); count = _; written = l .inv .1; stops = λ e. absurd (holds (sym e)) }
 
 write-from-requires : tie.Need-write-from-requires Inv-loop μ-loop
@@ -33,14 +34,16 @@ write-from-requires c κs = search needs
 
 returns-2 : tie.Need-returns-2 Inv-loop μ-loop
 returns-2 c =
-    let n = length (c .before .before .before .before .before .before .before .args .text .now) in
-    let l = c .before .before .before .before .before .loop in
+    let w = c .before .before in
+    let e = w .before .before .before in
+    let n = length (e .before .before .args .text .now) in
+    let l = e .loop in
     record {
       inside = omega arith;
       all = sym (lt-leb n (l .at) (omega arith));
       count = _;
       written = l .inv .1;
-      stops = λ e. inr (c .before .before .write-from .result, c .before .before .write-from .ensures, not-true _ (c .if2 .taken));
+      stops = λ z. inr (w .write-from .result, w .write-from .ensures, not-true _ (c .if2 .taken));
     }
 
 sub-turns : tie.Need-sub-turns Inv-loop μ-loop
@@ -51,10 +54,10 @@ loop-less c = search needs
 
 loop-again : tie.Need-loop-again Inv-loop μ-loop
 loop-again c =
-    let w = c .before .before .write-from in
-    let i = c .before .before .before .before .before .loop .inv in
-    let more = goes-on _ _ (w .result) (i .1) (w .ensures) (not-false _ (c .if2 .left)) in
-    (goes-inside _ _ _ (w .ensures), written-as more (omega (arith, i)), omega (arith, i))
+    let w = c .before .before in
+    let g = w .write-from .ensures in
+    let i = w .before .before .before .loop .inv in
+    (writes-from-inside g, written-more (i .1) g (not-false _ (c .if2 .left)) (omega (arith, i)), omega (arith, i))
 
 returns-3 : tie.Need-returns-3 Inv-loop μ-loop
 returns-3 c = record { inside = omega arith; all = refl; count = _; written = c .before .loop .inv .1; stops = λ e. inl (omega arith) }

@@ -44,10 +44,11 @@ write-as-requires c κs = search needs
 
 returns : tie.Need-returns
 returns c =
-    let a = c .before .before .before .before .before .before .before .args in
-    let n = c .before .before .count in
+    let n = c .before .before in
+    let w = n .before .before in
+    let a = w .before .before .before .args in
     let error = c .before .errno in
-    let put = c .before .before .before .before .write in
+    let put = w .write in
     record {
       put = put .result;
       error = error .result;
@@ -55,7 +56,7 @@ returns c =
       moved = subst (λ (i : ℕ). Moved i (put .result)) (mid-len (a .at) (length (a .text .now)) (a .text .now) (omega arith)) (put .ensures);
       result =
           answered (write-as (a .at)) (put .result) (error .result) (record { sfits = put .ok }) (record { sfits = error .ok }) (c .write-as .ensures)
-          (n .ensures .1) (omega arith);
+          (n .count .ensures .1) (omega arith);
     }
 
 pub write-from-spec : {M : Type 1} → statement M

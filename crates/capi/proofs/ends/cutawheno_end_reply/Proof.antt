@@ -10,7 +10,7 @@ use Rattle.scheme.specs.Scheme.{sixteen, reply-start}
 use Rattle.scheme.proofs.Refusals.{start-taken}
 use Rattle.plan.specs.Plan.{plan-of}
 use Rattle.scheme.proofs.Sets.{usable-below}
-use Rattle.plan.proofs.Laws.{usable-le, reply-inside}
+use Rattle.scheme.proofs.PlanBounds.{usable-le, reply-inside}
 use Rattle.client.specs.declared.Client.{Client}
 use Rattle.client.specs.Client.{stage-of, stage-number, answer-refusal}
 use Rattle.client.proofs.Laws.{Answers, reply-answers, answers-held}
