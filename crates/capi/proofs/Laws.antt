@@ -1,7 +1,7 @@
 -- Laws of the airfield end on a lent array.
 --   stage-back                       a stage of the code, from that of the definitions
 --   stage-moved                      the array with another stage stands for the end at that stage
---   start-taken, start-refused       what start hands back and leaves
+--   begun-number                     what start hands back
 --   kept-taken, kept-refused, part-taken, part-refused      what the calls leave, and the part
 -- Assumes nothing.
 use mathlib.Core.Path.{_≡_, refl, ap, _∙_}
@@ -11,17 +11,17 @@ use native.Mathlib.Omega.{arith}
 use lib.ListN.{length, getD, set}
 use lib.Seq.{getD-set-same, getD-set-other}
 use Rattle.scheme.specs.Scheme as scheme
-use Rattle.scheme.specs.Scheme.{reply-start, after}
-use Rattle.scheme.proofs.Refusals.{after-refused}
+use Rattle.scheme.specs.Scheme.{reply-start}
+use Rattle.scheme.proofs.Refusals.{after-taken, after-refused}
 use Rattle.plan.specs.declared.Plan.{Plan}
 use Rattle.plan.specs.Plan.{plan-of}
 use Rattle.client.specs.declared.Stage.{Stage}
 use Rattle.client.specs.declared.Stage.the-variants.{Fresh, Sent, Answered}
 use Rattle.client.specs.declared.Client.{Client}
-use Rattle.client.specs.Client.{stage-of, stage-of-number, stage-number, begun-by, begun-with, moved}
-use Rattle.client.proofs.Laws.{begun-refused, moved-refused}
+use Rattle.client.specs.Client.{stage-of, stage-of-number, stage-number, begun-with, moved}
+use Rattle.client.proofs.Laws.{moved-taken, moved-refused}
 use Rattle.capi.specs.Plans.{code-plan}
-use Rattle.capi.specs.Ends.{code-stage, end-at, end-numbers, start-left, kept, part-by}
+use Rattle.capi.specs.Ends.{end-length, code-stage, end-at, kept, part-by}
 
 pub stage-back : (g : Stage) → code-stage (stage-of g) ≡ g
 unfolding code-stage stage-of
@@ -38,7 +38,7 @@ number-forth (scheme.answered v) = let e : v + 2 ≡ suc (suc v) = omega arith i
 abbrev at-stage : Client → Stage → Client
 at-stage c g = record { plan = c .plan; user = c .user; stage = g }
 
-pub stage-moved : (e : List ℕ) → length e ≡ 8 → (g : Stage) → end-at (set e 5 (stage-number (stage-of g))) ≡ at-stage (end-at e) g
+pub stage-moved : (e : List ℕ) → length e ≡ end-length → (g : Stage) → end-at (set e 5 (stage-number (stage-of g))) ≡ at-stage (end-at e) g
 unfolding end-at
 stage-moved e l g =
     let n = stage-number (stage-of g) in
@@ -54,20 +54,15 @@ stage-moved e l g =
     }
 
 -- ---- what the calls hand back and leave
-module _ {n : ℕ} (p : Plan) (k : ℕ) (e : List ℕ) where
-  pub start-taken : n ≡ 0 → let s = begun-with n p k in
-      (s .number ≡ 0) × (start-left (s .client) e ≡ end-numbers (record { plan = p; user = k; stage = Fresh }))
-  unfolding begun-with start-left
-  start-taken z = rw z (refl, refl)
-
-  pub start-refused : (n ≡ 0 → ⊥) → let s = begun-with n p k in (s .number ≡ n) × (start-left (s .client) e ≡ e)
-  unfolding begun-by start-left
-  start-refused h = rw (← begun-refused h p k) (refl, refl)
+pub begun-number : (n : ℕ) (p : Plan) (k : ℕ) → begun-with n p k .number ≡ n
+unfolding begun-with
+begun-number zero p k = refl
+begun-number (suc n) p k = refl
 
 module _ {n : ℕ} (c : Client) (g : Stage) (e : List ℕ) where
   pub kept-taken : n ≡ 0 → kept (moved n c g) e ≡ set e 5 (stage-number (stage-of g))
-  unfolding kept moved after
-  kept-taken z = ap (λ (m : ℕ). kept (moved m c g) e) z
+  unfolding kept
+  kept-taken z = rw (moved-taken z c g) (after-taken refl _ e)
 
   pub kept-refused : (n ≡ 0 → ⊥) → kept (moved n c g) e ≡ e
   unfolding kept
@@ -76,9 +71,10 @@ module _ {n : ℕ} (c : Client) (g : Stage) (e : List ℕ) where
 module _ {n : ℕ} (c : Client) (v : ℕ) where
   pub part-taken : n ≡ 0 → part-by n c v ≡ record { number = 0; start = reply-start (plan-of (c .plan)) (c .user) v; count = c .plan .blocks }
   unfolding part-by
-  part-taken z = ap (λ (m : ℕ). part-by m c v) z
+  part-taken z = λ i.
+      record { number = z i; start = after-taken z (reply-start (plan-of (c .plan)) (c .user) v) 0 i; count = after-taken z (c .plan .blocks) 0 i }
 
-pub part-refused : {n : ℕ} → (n ≡ 0 → ⊥) → (c : Client) (v : ℕ) → part-by n c v ≡ record { number = n; start = 0; count = 0 }
-unfolding part-by
-part-refused {n = zero} h c v = absurd (h refl)
-part-refused {n = suc n} h c v = refl
+  pub part-refused : (n ≡ 0 → ⊥) → part-by n c v ≡ record { number = n; start = 0; count = 0 }
+  unfolding part-by
+  part-refused h = λ i.
+      record { number = n; start = after-refused h (reply-start (plan-of (c .plan)) (c .user) v) 0 i; count = after-refused h (c .plan .blocks) 0 i }

@@ -1,18 +1,19 @@
 -- Laws of the service on lent arrays.
 --   phase-replying                     a number from 3 on
---   left-refused                       a refused call leaves the arrays
---   taken-right, refused-right, kept-right     what a call answers and leaves; kept-right of a call on the arrays themselves
+--   taken-right, kept-right            what a call answers and leaves: taken, and refused
 --   same-head                          arrays with equal heads
 --   close-kept                         a refused close keeps the state
 -- Assumes nothing.
 use mathlib.Core.Path.{_≡_, refl, sym, ap, _∙_}
 use mathlib.Core.List.{List}
 use Prim.Native.Nat.{ℕ, zero, suc}
+use Rattle.scheme.specs.Scheme.{after}
+use Rattle.scheme.proofs.Refusals.{after-taken, after-refused}
 use Rattle.service.specs.declared.Phase.the-variants.{Replying}
 use Rattle.service.specs.declared.Head.{Head}
 use Rattle.service.specs.declared.Service.{Service}
 use Rattle.service.specs.Calls.{lent, close-refusal, close-answer, close-step}
-use Rattle.capi.specs.Lent.{Arrays, arrays, state, arrays-of, phase-at, left}
+use Rattle.capi.specs.Lent.{Arrays, arrays, state, arrays-of, phase-at}
 
 pub phase-replying : (n : ℕ) → (n ≡ 0 → ⊥) → (n ≡ 1 → ⊥) → (n ≡ 2 → ⊥) → phase-at n ≡ Replying
 unfolding phase-at
@@ -21,24 +22,15 @@ phase-replying (suc zero) a b c = absurd (b refl)
 phase-replying (suc (suc zero)) a b c = absurd (c refl)
 phase-replying (suc (suc (suc n))) a b c = refl
 
-pub left-refused : (n : ℕ) (s : Service) (a : Arrays) → (n ≡ 0 → ⊥) → left n s a ≡ a
-unfolding left
-left-refused zero s a h = absurd (h refl)
-left-refused (suc n) s a h = refl
-
 -- the number m and the state t that a call hands back, and the arrays b at exit
 module _ (a : Arrays) {n : ℕ} (s : Service) {m : ℕ} (e : m ≡ n) where
-  pub taken-right : {t : Service} {b : Arrays} → m ≡ 0 → t ≡ s → b ≡ arrays-of t → (0 ≡ n) × (b ≡ left n s a)
-  unfolding left
-  taken-right z f g = let h = sym z ∙ e in (h, rw (sym h) (g ∙ ap arrays-of f))
+  pub taken-right : {t : Service} {b : Arrays} → m ≡ 0 → t ≡ s → b ≡ arrays-of t → (0 ≡ n) × (b ≡ after n (arrays-of s) a)
+  taken-right z f g = let h = sym z ∙ e in (h, g ∙ ap arrays-of f ∙ sym (after-taken (sym h) _ _))
 
-  pub refused-right : (m ≡ 0 → ⊥) → (m ≡ n) × (a ≡ left n s a)
-  refused-right h = (e, sym (left-refused n s a (λ z. h (e ∙ z))))
-
-  pub kept-right : {h : Head} {xs ys : List ℕ} → (m ≡ 0 → ⊥) → lent h xs ys ≡ s → s ≡ state a → (m ≡ n) × (arrays (a .head) xs ys ≡ left n s a)
+  pub kept-right : {h : Head} {xs ys : List ℕ} → (m ≡ 0 → ⊥) → lent h xs ys ≡ s → s ≡ state a
+      → (m ≡ n) × (arrays (a .head) xs ys ≡ after n (arrays-of s) a)
   kept-right h f k =
-      let d = refused-right h in
-      (d .0, (λ i. arrays (a .head) ((f ∙ k) i .first) ((f ∙ k) i .reply)) ∙ d .1)
+      (e, (λ i. arrays (a .head) ((f ∙ k) i .first) ((f ∙ k) i .reply)) ∙ sym (after-refused (λ z. h (e ∙ z)) _ a))
 
 pub same-head : {g h xs ys : List ℕ} → g ≡ h → arrays g xs ys ≡ arrays h xs ys
 same-head e = cc

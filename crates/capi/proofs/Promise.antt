@@ -29,7 +29,7 @@ use Rattle.client.specs.declared.Answer.{Answer}
 use Rattle.client.specs.Client.{stage-of, stage-of-number, stage-number, begun-with, moved, answer-refusal, reply-answer, part-of}
 use Rattle.client.proofs.Laws.{reply-answers, reply-taken, moved-number, moved-taken, part-given}
 use Rattle.client.proofs.Laws as client
-use Rattle.capi.specs.Ends.{code-stage, end-at, end-numbers, start-left, kept, part-by, part-answer}
+use Rattle.capi.specs.Ends.{end-length, code-stage, end-at, end-numbers, fresh-end, start-left, kept, part-by, part-answer}
 use Rattle.capi.specs.Promise.{Same-length, End-stands, Ends-stand, Part-is-reply, Same-part}
 use Rattle.capi.proofs.Laws.{stage-moved, kept-taken, part-taken, part-refused}
 
@@ -42,9 +42,10 @@ same-length p k g u =
     ap (λ (n : ℕ). places p + n * p .blocks) e ∙ sym (key-len-good p 1 (f, omega arith, omega (arith, f .users-low)))
 
 -- ---- the airfield end on its array
-module _ (e : List ℕ) (l : length e ≡ 8) where
-  started-stands : (n : ℕ) (p : code.Plan) (k : ℕ) → let s = begun-with n p k in s .number ≡ 0 → s .client ≡ some (end-at (start-left (s .client) e))
-  unfolding begun-with start-left end-at end-numbers code-stage stage-of-number stage-number stage-of
+module _ (e : List ℕ) (l : length e ≡ end-length) where
+  started-stands : (n : ℕ) (p : code.Plan) (k : ℕ) → let s = begun-with n p k in
+      s .number ≡ 0 → s .client ≡ some (end-at (after (s .number) (end-numbers (fresh-end p k)) e))
+  unfolding begun-with after end-at end-numbers code-stage stage-of-number stage-number stage-of
   started-stands zero p k z = refl
   started-stands (suc n) p k z = absurd (omega arith)
 
@@ -54,6 +55,7 @@ module _ (e : List ℕ) (l : length e ≡ 8) where
   moved-stands (suc n) g = refl
 
   end-stands : End-stands e
+  unfolding start-left
   end-stands =
       record {
         start-stands = λ p k. started-stands _ p k;
@@ -65,27 +67,23 @@ pub ends-stand : Ends-stand
 unfolding Ends-stand
 ends-stand e l = end-stands e l
 
-part-number : (n : ℕ) (c : Client) (v : ℕ) → part-by n c v .number ≡ n
-unfolding part-by
-part-number zero c v = refl
-part-number (suc n) c v = refl
-
 part-shares : (c : Client) (ks : List ℕ) (v : ℕ) → let p = part-answer c ks v in take (p .count) (drop (p .start) ks) ≡ part-of c ks v
 unfolding reply
 part-shares c ks v = either (ℕ-discrete (answer-refusal c ks v) 0)
   where
     either : Dec (answer-refusal c ks v ≡ 0) → let p = part-answer c ks v in take (p .count) (drop (p .start) ks) ≡ part-of c ks v
     either (yes z) = rw (part-taken c v z) (sym (part-given c ks v z .0))
-    either (no h) = rw (part-refused h c v) (sym (client.part-refused c ks v h .0))
+    either (no h) = rw (part-refused c v h) (sym (client.part-refused c ks v h .0))
 
 pub part-is-reply : Part-is-reply
-unfolding Part-is-reply
-part-is-reply c ks v = record { number = part-number _ c v ∙ sym (moved-number _ c (Answered v)); shares = part-shares c ks v }
+unfolding Part-is-reply part-by
+part-is-reply c ks v = record { number = sym (moved-number _ c (Answered v)); shares = part-shares c ks v }
 
 -- a taken reply leaves the end that has answered the set
-module _ (e ks : List ℕ) (v : ℕ) (l : length e ≡ 8) (z : part-answer (end-at e) ks v .number ≡ 0) where
+module _ (e ks : List ℕ) (v : ℕ) (l : length e ≡ end-length) (z : part-answer (end-at e) ks v .number ≡ 0) where
   taken : answer-refusal (end-at e) ks v ≡ 0
-  taken = sym (part-number _ (end-at e) v) ∙ z
+  unfolding part-by
+  taken = z
 
   asked : end-at (kept (reply-answer (end-at e) ks v) e) ≡ record { plan = end-at e .plan; user = end-at e .user; stage = Answered v }
   asked = moved-stands e l _ (Answered v) ∙ ap (λ (a : Answer). a .client) (moved-taken taken (end-at e) (Answered v))

@@ -11,7 +11,7 @@ use Rattle.service.specs.declared.Service.{Service}
 use Rattle.service.specs.Calls.{nothing-first, nothing-reply, new-service, plan-step, open-step, first-step, reply-step, close-answer, close-step}
 use Rattle.scheme.specs.Scheme.{after}
 use Rattle.finish.specs.Finish.{finish-answer, finish-step}
-use Rattle.capi.specs.Lent.{Arrays, arrays-of, phase-at, phase-number, head-at, numbers, state, left, plan-left, open-left, close-left, finish-left}
+use Rattle.capi.specs.Lent.{Arrays, arrays-of, phase-at, phase-number, head-at, numbers, state, plan-left, open-left, close-left, finish-left}
 use Rattle.capi.specs.Promise.{New-stands, Calls-stand}
 
 pub new-stands : New-stands
@@ -35,18 +35,18 @@ stands s =
     }) (phase-back (s .head .phase))
 
 module _ (a : Arrays) where
-  after-stands : (n : ℕ) (s : Service) → state (left n (after n s (state a)) a) ≡ after n s (state a)
-  unfolding left after
+  after-stands : (n : ℕ) (s : Service) → state (after n (arrays-of (after n s (state a))) a) ≡ after n s (state a)
+  unfolding after
   after-stands zero s = stands s
   after-stands (suc n) s = refl
 
-  close-stands : (n : ℕ) → let t = close-answer n (state a) in state (left (t .number) (t .service) a) ≡ t .service
-  unfolding left close-answer
+  close-stands : (n : ℕ) → let t = close-answer n (state a) in state (after (t .number) (arrays-of (t .service)) a) ≡ t .service
+  unfolding after close-answer
   close-stands zero = stands _
   close-stands (suc n) = refl
 
-  finish-stands : (n : ℕ) → let t = finish-answer n (state a) in state (left (t .number) (t .service) a) ≡ t .service
-  unfolding left finish-answer
+  finish-stands : (n : ℕ) → let t = finish-answer n (state a) in state (after (t .number) (arrays-of (t .service)) a) ≡ t .service
+  unfolding after finish-answer
   finish-stands zero = stands _
   finish-stands (suc n) = refl
 

@@ -1,23 +1,27 @@
 -- The airfield end where it stands in an array that the caller lends.
+--   end-length                         how many numbers the array has
 --   code-stage, end-at, end-numbers    what the array stands for: an end of crate client; and the array of an end
---   start-left                         what starting an end leaves in the array
+--   fresh-end, start-left              a new end; what starting one leaves in the array
 --   kept                               the array with the stage of the end that a call hands back, or after a refusal as it came
---   part-by, part-answer               the refusal's number, or where in the key the shares for a set lie
+--   part-by, part-answer               the refusal's number, and where in the key the shares for a set lie
 -- Assumes nothing: these are definitions.
 use mathlib.Core.List.{List, [], _∷_}
-use mathlib.Core.Option.{Option, none, some}
-use Prim.Native.Nat.{ℕ, zero, suc}
+use Prim.Native.Nat.{ℕ}
 use lib.ListN.{getD, set}
 use Rattle.scheme.specs.Scheme as scheme
 use Rattle.scheme.specs.Scheme.{reply-start, after}
+use Rattle.plan.specs.declared.Plan.{Plan}
 use Rattle.plan.specs.Plan.{plan-of}
 use Rattle.client.specs.declared.Stage.{Stage}
 use Rattle.client.specs.declared.Stage.the-variants.{Fresh, Sent, Answered}
 use Rattle.client.specs.declared.Client.{Client}
 use Rattle.client.specs.declared.Answer.{Answer}
-use Rattle.client.specs.Client.{stage-of, stage-of-number, stage-number, answer-refusal}
+use Rattle.client.specs.Client.{stage-of, stage-of-number, stage-number, begun, answer-refusal}
 use Rattle.capi.specs.Plans.{code-plan}
 use Rattle.capi.specs.declared.ends.CutawhenoPart.{CutawhenoPart}
+
+abbrev pub end-length : ℕ
+end-length = 8
 
 unfoldable pub code-stage : scheme.Stage → Stage
 code-stage scheme.fresh = Fresh
@@ -37,18 +41,18 @@ unfoldable pub end-numbers : Client → List ℕ
 end-numbers c =
     c .plan .users ∷ c .plan .threshold ∷ c .plan .collusion ∷ c .plan .blocks ∷ c .user ∷ stage-number (stage-of (c .stage)) ∷ 0 ∷ 0 ∷ []
 
--- a fresh end, or after a refusal the array as it came
-unfoldable pub start-left : Option Client → (end : List ℕ) → List ℕ
-start-left none e = e
-start-left (some c) e = end-numbers c
+abbrev pub fresh-end : Plan → (user : ℕ) → Client
+fresh-end p k = record { plan = p; user = k; stage = Fresh }
+
+unfoldable pub start-left : Plan → (user : ℕ) → (end : List ℕ) → List ℕ
+start-left p k e = after (begun p k .number) (end-numbers (fresh-end p k)) e
 
 unfoldable pub kept : Answer → (end : List ℕ) → List ℕ
 kept a e = after (a .number) (set e 5 (stage-number (stage-of (a .client .stage)))) e
 
--- the shares for the set are the `count` elements of the key from `start` on
+-- the shares for the set are the `count` elements of the key from `start` on: none after a refusal
 unfoldable pub part-by : (refusal : ℕ) → Client → (set : ℕ) → CutawhenoPart
-part-by zero c v = record { number = 0; start = reply-start (plan-of (c .plan)) (c .user) v; count = c .plan .blocks }
-part-by (suc n) c v = record { number = suc n; start = 0; count = 0 }
+part-by n c v = record { number = n; start = after n (reply-start (plan-of (c .plan)) (c .user) v) 0; count = after n (c .plan .blocks) 0 }
 
 abbrev pub part-answer : Client → (key : List ℕ) → (set : ℕ) → CutawhenoPart
 part-answer c ks v = part-by (answer-refusal c ks v) c v

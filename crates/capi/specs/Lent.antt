@@ -1,14 +1,15 @@
 -- The pooling service where its state stands in three arrays that the caller lends.
---   Arrays, arrays                     the lent arrays
+--   head-length, Arrays, arrays, zeros    the lent arrays, and those of a new service
 --   phase-at, head-at, state           what they stand for
 --   phase-number, numbers, arrays-of   the arrays of a state
---   left                               the arrays of the new state, or after a refusal as they came
---   plan-left, open-left, close-left, finish-left     what each call leaves in them; the element calls leave first-left and reply-left
+--   plan-left, open-left, close-left, finish-left     what each call leaves in them: the arrays of the new state, or after a refusal as
+--                                      they came; the element calls leave first-left and reply-left
 --   closed-answer, finish-totals       what close hands back, and the buffer that finish writes
 -- Assumes nothing: these are definitions.
 use mathlib.Core.List.{List, [], _∷_}
 use Prim.Native.Nat.{ℕ, zero, suc}
-use lib.ListN.{getD}
+use lib.ListN.{getD, replicate}
+use Rattle.scheme.specs.Limits.{firsts, cells}
 use Rattle.scheme.specs.Scheme.{after}
 use Rattle.plan.specs.declared.Plan.{Plan}
 use Rattle.service.specs.declared.Phase.{Phase}
@@ -21,6 +22,9 @@ use Rattle.finish.specs.Finish.{finish-step}
 use Rattle.capi.specs.Plans.{code-plan}
 use Rattle.capi.specs.declared.pooling.CutawhenoClosed.{CutawhenoClosed}
 
+abbrev pub head-length : ℕ
+head-length = 8
+
 -- head: phase, users, threshold, collusion, blocks, places, round, survivors; first and reply: as the service keeps them
 pub record Arrays : Type 0 where
   pub head : List ℕ
@@ -29,6 +33,9 @@ pub record Arrays : Type 0 where
 
 abbrev pub arrays : (head first reply : List ℕ) → Arrays
 arrays h xs ys = record { head = h; first = xs; reply = ys }
+
+abbrev pub zeros : Arrays
+zeros = arrays (replicate head-length 0) (replicate firsts 0) (replicate cells 0)
 
 -- a number that no call leaves, above 3, is read as replying
 unfoldable pub phase-at : ℕ → Phase
@@ -63,24 +70,20 @@ state a = record { head = head-at (a .head); first = a .first; reply = a .reply 
 abbrev pub arrays-of : Service → Arrays
 arrays-of s = arrays (numbers (s .head)) (s .first) (s .reply)
 
-unfoldable pub left : (refusal : ℕ) → (new : Service) → (old : Arrays) → Arrays
-left zero s a = arrays-of s
-left (suc n) s a = a
-
 unfoldable pub plan-left : Arrays → Plan → Arrays
-plan-left a p = let t = plan-step (state a) p in left (t .number) (t .service) a
+plan-left a p = let t = plan-step (state a) p in after (t .number) (arrays-of (t .service)) a
 
 unfoldable pub open-left : Arrays → (round : ℕ) → Arrays
-open-left a r = let t = open-step (state a) r in left (t .number) (t .service) a
+open-left a r = let t = open-step (state a) r in after (t .number) (arrays-of (t .service)) a
 
 unfoldable pub close-left : Arrays → Arrays
-close-left a = let t = close-step (state a) in left (t .number) (t .service) a
+close-left a = let t = close-step (state a) in after (t .number) (arrays-of (t .service)) a
 
 abbrev pub closed-answer : Closed → CutawhenoClosed
 closed-answer t = record { number = t .number; set = t .set }
 
 unfoldable pub finish-left : Arrays → Arrays
-finish-left a = let t = finish-step (state a) in left (t .number) (t .service) a
+finish-left a = let t = finish-step (state a) in after (t .number) (arrays-of (t .service)) a
 
 unfoldable pub finish-totals : Arrays → (old : List ℕ) → List ℕ
 finish-totals a old = let t = finish-step (state a) in after (t .number) (t .totals) old

@@ -13,7 +13,7 @@ use mathlib.Core.Bool.{true}
 use mathlib.Core.List.{List}
 use mathlib.Core.Option.{some}
 use Prim.Native.Nat.{ℕ}
-use lib.ListN.{length, take, drop, replicate}
+use lib.ListN.{length, take, drop}
 use Rattle.scheme.specs.Scheme.{Plan, plan-good, is-user, key-length}
 use Rattle.plan.specs.declared.Plan as code
 use Rattle.plan.specs.Lengths.{key-len}
@@ -21,20 +21,20 @@ use Rattle.client.specs.declared.Client.{Client}
 use Rattle.client.specs.Client.{begun, first-answer, reply-answer, part-of}
 use Rattle.service.specs.Calls.{new-service, plan-step, open-step, first-left, first-step, close-step, reply-left, reply-step}
 use Rattle.finish.specs.Finish.{finish-step}
-use Rattle.capi.specs.Ends.{end-at, start-left, kept, part-answer}
-use Rattle.capi.specs.Lent.{Arrays, arrays, head-at, state, plan-left, open-left, close-left, finish-left}
+use Rattle.capi.specs.Ends.{end-length, end-at, start-left, kept, part-answer}
+use Rattle.capi.specs.Lent.{Arrays, arrays, zeros, head-at, state, plan-left, open-left, close-left, finish-left}
 
 unfoldable pub Same-length : Type 0
 Same-length = (p : Plan) (k : ℕ) → plan-good p ≡ true → is-user p k ≡ true → key-length p k ≡ key-len p 1
 
 -- an end that stands in an array: start from any content, and the stage moved by the calls
 pub record End-stands (e : List ℕ) : Type 0 where
-  pub start-stands : (p : code.Plan) (k : ℕ) → begun p k .number ≡ 0 → begun p k .client ≡ some (end-at (start-left (begun p k .client) e))
+  pub start-stands : (p : code.Plan) (k : ℕ) → begun p k .number ≡ 0 → begun p k .client ≡ some (end-at (start-left p k e))
   pub first-stands : (ks fs : List ℕ) (n : ℕ) → let a = first-answer (end-at e) ks fs n in end-at (kept a e) ≡ a .client
   pub reply-stands : (ks : List ℕ) (v : ℕ) → let a = reply-answer (end-at e) ks v in end-at (kept a e) ≡ a .client
 
 unfoldable pub Ends-stand : Type 0
-Ends-stand = (e : List ℕ) → length e ≡ 8 → End-stands e
+Ends-stand = (e : List ℕ) → length e ≡ end-length → End-stands e
 
 pub record Part-given (c : Client) (ks : List ℕ) (v : ℕ) : Type 0 where
   pub number : part-answer c ks v .number ≡ reply-answer c ks v .number
@@ -45,11 +45,12 @@ Part-is-reply = (c : Client) (ks : List ℕ) (v : ℕ) → Part-given c ks v
 
 unfoldable pub Same-part : Type 0
 Same-part =
-    (e ks : List ℕ) (v : ℕ) → length e ≡ 8 → part-answer (end-at e) ks v .number ≡ 0 → let asked = kept (reply-answer (end-at e) ks v) e in
+    (e ks : List ℕ) (v : ℕ) → length e ≡ end-length → part-answer (end-at e) ks v .number ≡ 0 →
+    let asked = kept (reply-answer (end-at e) ks v) e in
     (part-answer (end-at asked) ks v ≡ part-answer (end-at e) ks v) × (kept (reply-answer (end-at asked) ks v) asked ≡ asked)
 
 unfoldable pub New-stands : Type 0
-New-stands = state (arrays (replicate 8 0) (replicate 768 0) (replicate 128 0)) ≡ new-service
+New-stands = state zeros ≡ new-service
 
 pub record Calls-stand (a : Arrays) : Type 0 where
   pub plan-stands : (p : code.Plan) → state (plan-left a p) ≡ plan-step (state a) p .service

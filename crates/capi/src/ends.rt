@@ -55,7 +55,7 @@ pub extern "C" fn cutawheno_end_start(
     user: u32,
 ) -> u32
     ensures number { λ r. ⌜ r ≡ begun (code-plan users threshold collusion blocks) user .number ⌝ }
-    ensures left { λ r. ⌜ now (end .exit) ≡ start-left (begun (code-plan users threshold collusion blocks) user .client) (now (end .entry)) ⌝ }
+    ensures left { λ r. ⌜ now (end .exit) ≡ start-left (code-plan users threshold collusion blocks) user (now (end .entry)) ⌝ }
 {
     let plan = Plan {
         users,
@@ -79,9 +79,13 @@ pub extern "C" fn cutawheno_end_first_message(
     message: &mut [u16],
     end: &mut [u32; END],
 ) -> u32
-    ensures number { λ r. ⌜ r ≡ first-answer (end-at (now (end .entry))) (now (key .entry)) (now (figures .entry)) (length (now (message .entry))) .number ⌝ }
-    ensures message { λ r. ⌜ now (message .exit) ≡ message-left (end-at (now (end .entry))) (now (key .entry)) (now (figures .entry)) (now (message .entry)) ⌝ }
-    ensures left { λ r. ⌜ now (end .exit) ≡ kept (first-answer (end-at (now (end .entry))) (now (key .entry)) (now (figures .entry)) (length (now (message .entry)))) (now (end .entry)) ⌝ }
+    ensures number { λ r. ⌜ r
+        ≡ first-answer (end-at (now (end .entry))) (now (key .entry)) (now (figures .entry)) (length (now (message .entry))) .number ⌝ }
+    ensures message { λ r. ⌜ now (message .exit)
+        ≡ message-left (end-at (now (end .entry))) (now (key .entry)) (now (figures .entry)) (now (message .entry)) ⌝ }
+    ensures left { λ r. ⌜ now (end .exit)
+        ≡ kept (first-answer (end-at (now (end .entry))) (now (key .entry)) (now (figures .entry)) (length (now (message .entry))))
+        (now (end .entry)) ⌝ }
 {
     let client = end_at(end);
     let answer = client.first_message(key, figures, message);

@@ -7,9 +7,10 @@
 // Lists come first: they are pointer and length in registers, as C passes them.
 ghost use mathlib.Core.Path.{_≡_};
 ghost use lib.ListN.{length};
-ghost use Rattle.scheme.specs.Scheme.{sixteen, key, key-refusal, after};
+ghost use Rattle.scheme.specs.Scheme.{sixteen, key-refusal};
 ghost use Rattle.plan.specs.Plan.{plan-of};
 ghost use Rattle.plan.specs.Lengths.{row-len, list-len, key-len};
+ghost use Rattle.keys.specs.Promise.{key-left};
 ghost use Rattle.capi.specs.Plans.{code-plan};
 
 pub mod ends;
@@ -70,8 +71,10 @@ pub extern "C" fn cutawheno_make_key(
     blocks: u32,
     user: u32,
 ) -> u32
-    ensures number { λ r. ⌜ r ≡ key-refusal sixteen (plan-of (code-plan users threshold collusion blocks)) user (now (list .entry)) (length (now (out .entry))) ⌝ }
-    ensures left { λ r. ⌜ now (out .exit) ≡ after (key-refusal sixteen (plan-of (code-plan users threshold collusion blocks)) user (now (list .entry)) (length (now (out .entry)))) (key sixteen (plan-of (code-plan users threshold collusion blocks)) (now (list .entry)) user) (now (out .entry)) ⌝ }
+    ensures number { λ r. ⌜ r
+        ≡ key-refusal sixteen (plan-of (code-plan users threshold collusion blocks)) user (now (list .entry)) (length (now (out .entry))) ⌝ }
+    ensures left { λ r. ⌜ now (out .exit)
+        ≡ key-left (plan-of (code-plan users threshold collusion blocks)) user (now (list .entry)) (now (out .entry)) ⌝ }
 {
     let plan = Plan {
         users,

@@ -11,12 +11,12 @@ ghost use Rattle.service.specs.Calls.{plan-step, open-step, first-refusal, firs
 ghost use Rattle.finish.specs.Finish.{finish-step};
 ghost use Rattle.capi.specs.Plans.{code-plan};
 ghost use Rattle.capi.specs.Lent.{arrays, state, phase-at, phase-number, head-at, numbers, plan-left, open-left, closed-answer, close-left, finish-left, finish-totals};
+use plan::CELLS;
+use plan::FIRSTS;
 use plan::MOST_PLACES;
 use plan::Plan;
-use service::FIRSTS;
 use service::Head;
 use service::Phase;
-use service::REPLIES;
 
 // The length of `head`.
 pub const NUMBERS: usize = 8;
@@ -97,14 +97,16 @@ fn numbers(head: Head) -> [u32; NUMBERS]
 pub extern "C" fn cutawheno_service_plan(
     head: &mut [u32; NUMBERS],
     first: &mut [u16; FIRSTS],
-    reply: &mut [u16; REPLIES],
+    reply: &mut [u16; CELLS],
     users: u32,
     threshold: u32,
     collusion: u32,
     blocks: u32,
 ) -> u32
-    ensures number { λ r. ⌜ r ≡ plan-step (state (arrays (now (head .entry)) (now (first .entry)) (now (reply .entry)))) (code-plan users threshold collusion blocks) .number ⌝ }
-    ensures left { λ r. ⌜ arrays (now (head .exit)) (now (first .exit)) (now (reply .exit)) ≡ plan-left (arrays (now (head .entry)) (now (first .entry)) (now (reply .entry))) (code-plan users threshold collusion blocks) ⌝ }
+    ensures number { λ r. ⌜ r
+        ≡ plan-step (state (arrays (now (head .entry)) (now (first .entry)) (now (reply .entry)))) (code-plan users threshold collusion blocks) .number ⌝ }
+    ensures left { λ r. ⌜ arrays (now (head .exit)) (now (first .exit)) (now (reply .exit))
+        ≡ plan-left (arrays (now (head .entry)) (now (first .entry)) (now (reply .entry))) (code-plan users threshold collusion blocks) ⌝ }
 {
     let plan = Plan {
         users,
@@ -128,11 +130,12 @@ pub extern "C" fn cutawheno_service_plan(
 pub extern "C" fn cutawheno_service_open(
     head: &mut [u32; NUMBERS],
     first: &mut [u16; FIRSTS],
-    reply: &mut [u16; REPLIES],
+    reply: &mut [u16; CELLS],
     round: u32,
 ) -> u32
     ensures number { λ r. ⌜ r ≡ open-step (state (arrays (now (head .entry)) (now (first .entry)) (now (reply .entry)))) round .number ⌝ }
-    ensures left { λ r. ⌜ arrays (now (head .exit)) (now (first .exit)) (now (reply .exit)) ≡ open-left (arrays (now (head .entry)) (now (first .entry)) (now (reply .entry))) round ⌝ }
+    ensures left { λ r. ⌜ arrays (now (head .exit)) (now (first .exit)) (now (reply .exit))
+        ≡ open-left (arrays (now (head .entry)) (now (first .entry)) (now (reply .entry))) round ⌝ }
 {
     let held = head_at(head);
     let step = service::open_lent(held, first, reply, round);
@@ -166,10 +169,11 @@ pub extern "C" fn cutawheno_service_first_element(
 pub extern "C" fn cutawheno_service_close(
     head: &mut [u32; NUMBERS],
     first: &[u16; FIRSTS],
-    reply: &mut [u16; REPLIES],
+    reply: &mut [u16; CELLS],
 ) -> CutawhenoClosed
     ensures answer { λ r. ⌜ r ≡ closed-answer (close-step (state (arrays (now (head .entry)) (now (first .entry)) (now (reply .entry))))) ⌝ }
-    ensures left { λ r. ⌜ arrays (now (head .exit)) (now (first .entry)) (now (reply .exit)) ≡ close-left (arrays (now (head .entry)) (now (first .entry)) (now (reply .entry))) ⌝ }
+    ensures left { λ r. ⌜ arrays (now (head .exit)) (now (first .entry)) (now (reply .exit))
+        ≡ close-left (arrays (now (head .entry)) (now (first .entry)) (now (reply .entry))) ⌝ }
 {
     let held = head_at(head);
     let step = service::close_lent(held, first, reply);
@@ -187,7 +191,7 @@ pub extern "C" fn cutawheno_service_close(
 #[no_mangle]
 pub extern "C" fn cutawheno_service_reply_element(
     head: &[u32; NUMBERS],
-    reply: &mut [u16; REPLIES],
+    reply: &mut [u16; CELLS],
     user: u32,
     block: u32,
     element: u32,
@@ -204,11 +208,12 @@ pub extern "C" fn cutawheno_service_reply_element(
 pub extern "C" fn cutawheno_service_finish(
     head: &mut [u32; NUMBERS],
     first: &mut [u16; FIRSTS],
-    reply: &mut [u16; REPLIES],
+    reply: &mut [u16; CELLS],
     totals: &mut [u16; MOST_PLACES],
 ) -> u32
     ensures number { λ r. ⌜ r ≡ finish-step (state (arrays (now (head .entry)) (now (first .entry)) (now (reply .entry)))) .number ⌝ }
-    ensures left { λ r. ⌜ arrays (now (head .exit)) (now (first .exit)) (now (reply .exit)) ≡ finish-left (arrays (now (head .entry)) (now (first .entry)) (now (reply .entry))) ⌝ }
+    ensures left { λ r. ⌜ arrays (now (head .exit)) (now (first .exit)) (now (reply .exit))
+        ≡ finish-left (arrays (now (head .entry)) (now (first .entry)) (now (reply .entry))) ⌝ }
     ensures totals { λ r. ⌜ now (totals .exit) ≡ finish-totals (arrays (now (head .entry)) (now (first .entry)) (now (reply .entry))) (now (totals .entry)) ⌝ }
 {
     let held = head_at(head);

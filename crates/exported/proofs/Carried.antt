@@ -92,7 +92,7 @@ module _ (A : Arithmetic) where
   unfolding Survived refusal next-state planned-state opened-state idle-state is-replying gathered
   next-survived (plan-record p) s e w h = absurd (holds h)
   next-survived (open-record r) s e w h = absurd (holds h)
-  next-survived (first-record l i x) s e w h = absurd (one-phase (s .phase) (test-held _ 11 _ (test-held _ 10 _ e .1) .0) h)
+  next-survived (first-record l i x) s e w h = absurd (one-phase (s .phase) (test-held _ _ _ (test-held _ _ _ e .1) .0) h)
   next-survived close-record s e w h = refl
   next-survived (reply-record l b x) s e w h = w h
   next-survived finish-record s e w h = absurd (holds h)

@@ -25,7 +25,7 @@ use Rattle.client.specs.declared.Answer.{Answer}
 use Rattle.client.specs.Client.{stage-of, answer-refusal}
 use Rattle.client.proofs.Laws.{moved-number, moved-taken}
 use Rattle.capi.specs.declared.ends.CutawhenoPart.{CutawhenoPart}
-use Rattle.capi.specs.Ends.{end-at, part-by, part-answer}
+use Rattle.capi.specs.Ends.{end-length, end-at, part-by, part-answer}
 use Rattle.capi.specs.Promise.{Ends-stand, Part-is-reply}
 use Rattle.capi.proofs.Laws.{kept-taken}
 use Rattle.capi.proofs.Promise.{ends-stand, part-is-reply}
@@ -41,7 +41,7 @@ abbrev stage-at : List ℕ → scheme.Stage
 stage-at e = stage-of (end-at e .stage)
 
 record Leaves-of (c : End-call) (e : List ℕ) : Type 0 where
-  long : length (end-leaves c e) ≡ 8
+  long : length (end-leaves c e) ≡ end-length
   taken : end-number c e ≡ 0 → end-at (end-leaves c e) ≡ record { plan = end-at e .plan; user = end-at e .user; stage = next c }
   refused : end-number c e ≢ 0 → end-leaves c e ≡ e
   part : (v : ℕ) → part-by 0 (end-at (end-leaves c e)) v ≡ part-by 0 (end-at e) v
@@ -50,13 +50,13 @@ answer-taken : (e ks : List ℕ) (v : ℕ) → part-answer (end-at e) ks v .numb
 unfolding Part-is-reply
 answer-taken e ks v z = sym (moved-number _ (end-at e) (Answered v)) ∙ sym (part-is-reply (end-at e) ks v .number) ∙ z
 
-module _ (e : List ℕ) (l : length e ≡ 8) where
+module _ (e : List ℕ) (l : length e ≡ end-length) where
   refused-same : (c : End-call) → end-number c e ≢ 0 → end-leaves c e ≡ e
   unfolding end-number end-leaves
   refused-same (message-call ks fs o) h = refused-unchanged .first-kept e ks fs o h .0
   refused-same (answer-call ks v) h = refused-unchanged .reply-kept e ks v h .0
 
-  taken-long : (c : End-call) → end-number c e ≡ 0 → length (end-leaves c e) ≡ 8
+  taken-long : (c : End-call) → end-number c e ≡ 0 → length (end-leaves c e) ≡ end-length
   unfolding end-number end-leaves
   taken-long (message-call ks fs o) z = ap length (kept-taken (end-at e) Sent e (sym (moved-number _ (end-at e) Sent) ∙ z)) ∙ length-set e 5 _ ∙ l
   taken-long (answer-call ks v) z = ap length (kept-taken (end-at e) (Answered v) e (answer-taken e ks v z)) ∙ length-set e 5 _ ∙ l
@@ -105,14 +105,14 @@ unfolding next stage-of is-fresh
 next-sent (message-call ks fs o) = refl
 next-sent (answer-call ks v) = refl
 
-stays-sent : (c : End-call) (e : List ℕ) → length e ≡ 8 → is-fresh (stage-at e) ≡ false → is-fresh (stage-at (end-leaves c e)) ≡ false
+stays-sent : (c : End-call) (e : List ℕ) → length e ≡ end-length → is-fresh (stage-at e) ≡ false → is-fresh (stage-at (end-leaves c e)) ≡ false
 stays-sent c e l f = either (ℕ-discrete (end-number c e) 0)
   where
     either : Dec (end-number c e ≡ 0) → is-fresh (stage-at (end-leaves c e)) ≡ false
     either (yes z) = ap (λ (d : Client). is-fresh (stage-of (d .stage))) (leaves-of e l c .taken z) ∙ next-sent c
     either (no h) = ap (λ (d : List ℕ). is-fresh (stage-at d)) (leaves-of e l c .refused h) ∙ f
 
-sent-once : (cs : List End-call) (e : List ℕ) → length e ≡ 8 → is-fresh (stage-at e) ≡ false → messages cs e ≡ 0
+sent-once : (cs : List End-call) (e : List ℕ) → length e ≡ end-length → is-fresh (stage-at e) ≡ false → messages cs e ≡ 0
 unfolding messages
 sent-once [] e l f = refl
 sent-once (message-call ks fs o ∷ cs) e l f =
@@ -121,7 +121,7 @@ sent-once (message-call ks fs o ∷ cs) e l f =
 sent-once (answer-call ks v ∷ cs) e l f =
     let c = answer-call ks v in sent-once cs (end-leaves c e) (leaves-of e l c .long) (stays-sent c e l f)
 
-one-message : (cs : List End-call) (e : List ℕ) → length e ≡ 8 → messages cs e ≤ 1
+one-message : (cs : List End-call) (e : List ℕ) → length e ≡ end-length → messages cs e ≤ 1
 unfolding messages
 one-message [] e l = omega arith
 one-message (message-call ks fs o ∷ cs) e l = either (one-message cs (end-leaves c e) (leaves-of e l c .long)) (ℕ-discrete (end-number c e) 0)
@@ -137,8 +137,8 @@ one-message (message-call ks fs o ∷ cs) e l = either (one-message cs (end-leav
     either m (no h) = rw (ne-eqb _ _ h) m
 one-message (answer-call ks v ∷ cs) e l = let c = answer-call ks v in one-message cs (end-leaves c e) (leaves-of e l c .long)
 
-answered-only : (v : ℕ) (p : CutawhenoPart) (cs : List End-call) (e : List ℕ) → length e ≡ 8 → end-at e .stage ≡ Answered v → part-by 0 (end-at e) v ≡ p
-    → Only-to v p cs e
+answered-only : (v : ℕ) (p : CutawhenoPart) (cs : List End-call) (e : List ℕ) → length e ≡ end-length → end-at e .stage ≡ Answered v
+    → part-by 0 (end-at e) v ≡ p → Only-to v p cs e
 unfolding Only-to end-number next
 answered-only v p [] e l g q = tt
 answered-only v p (message-call ks fs o ∷ cs) e l g q =
@@ -163,7 +163,7 @@ record Only (cs : List End-call) (e : List ℕ) : Type 0 where
   set : ℕ
   only : Only-to set (part-by 0 (end-at e) set) cs e
 
-one-set : (cs : List End-call) (e : List ℕ) → length e ≡ 8 → Only cs e
+one-set : (cs : List End-call) (e : List ℕ) → length e ≡ end-length → Only cs e
 unfolding Only-to end-number next
 one-set [] e l = record { set = 0; only = tt }
 one-set (message-call ks fs o ∷ cs) e l =

@@ -38,6 +38,6 @@ unfolding inverse inverse-from modular-laws laws16 point padded unknown-at
     Calls.closed Calls.close-answer Calls.close-step told
     Finish.rows-of Finish.values-of Finish.choice-of Finish.choice Finish.finish-refusal Finish.finish-answer Finish.finish-step Finish.finished
     Ends.code-stage Ends.end-at Ends.end-numbers Ends.start-left Ends.kept Ends.part-by
-    Lent.phase-at Lent.phase-number Lent.head-at Lent.numbers Lent.left Lent.plan-left Lent.open-left Lent.close-left Lent.finish-left Lent.finish-totals
+    Lent.phase-at Lent.phase-number Lent.head-at Lent.numbers Lent.plan-left Lent.open-left Lent.close-left Lent.finish-left Lent.finish-totals
     number-of leaves handed answers end-calls calls example-given example-calls
 example-right = record { user-1 = refl; user-2 = refl; user-3 = refl; answered = refl }

@@ -1,15 +1,17 @@
 -- How long the lists can be that callers lend, over all plans.
---   computed   at most 497 elements of the random list, and 128 of a key, for each block, over all numbers of users, thresholds and collusions
+--   block-list, block-key   what one block adds to the longest random list, and to the longest key
+--   computed   no block of any numbers of users, thresholds and collusions adds more
 --   longest    the statement of specs/Longest.antt
 -- Assumes nothing.
 use mathlib.Core.Path.{_≡_, refl, sym, ap, ap₂, _∙_, subst}
 use mathlib.Core.Bool.{Bool, true, false, _&&_, cond}
-use Prim.Native.Nat.{ℕ, _+_, _*_, _-_, _≤_}
+use Prim.Native.Nat.{ℕ, suc, _+_, _*_, _-_, _/_, _≤_}
 use native.Mathlib.Nat.{mul-comm, mul-assoc, add-mul, mul-le-mul}
 use native.Mathlib.Omega.{arith}
 use lib.Dec.{leb}
 use lib.ListN.{length}
 use borrow.Author.Tests.{leb-true}
+use Rattle.scheme.specs.Limits.{most-users, most-blocks, most-places}
 use Rattle.scheme.specs.Lists.{span, all-of}
 use Rattle.scheme.specs.Scheme.{Plan, plan-good, items, places, is-user, in-set, ones, usable, usable-with, usable-sets, sets-with, list-length, key-length}
 use Rattle.scheme.specs.Good.{Good}
@@ -21,22 +23,28 @@ use Rattle.plan.specs.Counts.{sets-of, holding}
 use Rattle.plan.specs.Lengths.{row-len, list-len, key-len}
 use Rattle.scheme.proofs.PlanBounds.{places-le}
 use Rattle.plan.proofs.Counts.{holding-same, sets-same, with-same}
-use Rattle.exported.specs.Longest.{Longest}
+use Rattle.exported.specs.Longest.{longest-list, longest-key, Longest}
+
+abbrev block-list : ℕ
+block-list = longest-list / most-blocks
+
+abbrev block-key : ℕ
+block-key = longest-key / most-blocks
 
 -- the numbers of a block: n users, threshold u, collusion t
 fits : (n u t : ℕ) → Bool
-fits n u t = leb (n * (u - t) + sets-of n u * t) 497 && leb ((u - t) + holding n u 1) 128
+fits n u t = leb (n * (u - t) + sets-of n u * t) block-list && leb ((u - t) + holding n u 1) block-key
 
-computed : all-of (λ n. all-of (λ u. all-of (fits n u) (span (u - 1) 1)) (span n 0)) (span 9 0) ≡ true
+computed : all-of (λ n. all-of (λ u. all-of (fits n u) (span (u - 1) 1)) (span n 0)) (span (suc most-users) 0) ≡ true
 unfolding all-of fits sets-of holding usable-sets sets-with usable-with usable in-set ones
 computed = refl
 
 module _ (p : Plan) (g : Good p) where
-  few : (p .users * (p .threshold - p .collusion) + sets-of (p .users) (p .threshold) * p .collusion ≤ 497)
-      × ((p .threshold - p .collusion) + holding (p .users) (p .threshold) 1 ≤ 128)
+  few : (p .users * (p .threshold - p .collusion) + sets-of (p .users) (p .threshold) * p .collusion ≤ block-list)
+      × ((p .threshold - p .collusion) + holding (p .users) (p .threshold) 1 ≤ block-key)
   unfolding fits
   few =
-      let a = all-of-in _ (span 9 0) computed (p .users) (in-span 9 0 (p .users) (omega arith) (omega arith)) in
+      let a = all-of-in _ (span (suc most-users) 0) computed (p .users) (in-span (suc most-users) 0 (p .users) (omega arith) (omega arith)) in
       let b = all-of-in _ (span (p .users) 0) a (p .threshold) (in-span (p .users) 0 (p .threshold) (omega arith) (omega arith)) in
       let i = in-span (p .threshold - 1) 1 (p .collusion) (omega arith) (omega arith) in
       let c = both _ _ (all-of-in (fits (p .users) (p .threshold)) (span (p .threshold - 1) 1) b (p .collusion) i) in
@@ -48,18 +56,18 @@ list-blocks n m d s t =
     ap₂ _+_ (ap (λ (x : ℕ). n * x) (mul-comm m d) ∙ sym (mul-assoc n d m)) (mul-assoc s m t ∙ ap (λ (x : ℕ). s * x) (mul-comm m t) ∙ sym (mul-assoc s t m))
     ∙ sym (add-mul (n * d) (s * t) m)
 
-list-le : (p : Plan) → Good p → list-length p ≤ 7952
+list-le : (p : Plan) → Good p → list-length p ≤ longest-list
 unfolding list-length places items
 list-le p g =
-    let h = subst (λ (s : ℕ). p .users * (p .threshold - p .collusion) + s * p .collusion ≤ 497) (sets-same p) (few p g .0) in
+    let h = subst (λ (s : ℕ). p .users * (p .threshold - p .collusion) + s * p .collusion ≤ block-list) (sets-same p) (few p g .0) in
     rw (list-blocks (p .users) (p .blocks) (p .threshold - p .collusion) (length (usable-sets p)) (p .collusion)) (mul-le-mul h (g .blocks-high))
 
-key-le : (p : Plan) (k : ℕ) → Good p → 1 ≤ k → k ≤ p .users → key-length p k ≤ 2048
+key-le : (p : Plan) (k : ℕ) → Good p → 1 ≤ k → k ≤ p .users → key-length p k ≤ longest-key
 unfolding key-length places items
 key-le p k g lo hi =
     let d = p .threshold - p .collusion in
     let same = sym (with-same p k) ∙ holding-same (p .users) (p .threshold) k (omega arith) (omega arith) lo hi in
-    let h = subst (λ (s : ℕ). d + s ≤ 128) (sym same) (few p g .1) in
+    let h = subst (λ (s : ℕ). d + s ≤ block-key) (sym same) (few p g .1) in
     rw (ap (λ (x : ℕ). x + length (sets-with p k) * p .blocks) (mul-comm (p .blocks) d) ∙ sym (add-mul d (length (sets-with p k)) (p .blocks)))
     (mul-le-mul h (g .blocks-high))
 
@@ -71,9 +79,9 @@ pub longest : Longest
 unfolding row-len list-len key-len is-user plan-good places items list-length key-length sets-of holding usable-sets sets-with usable-with usable in-set ones
 longest =
     record {
-      row = λ p. when _ _ 96 (λ e. places-le p (good p e));
-      list = λ p. when _ _ 7952 (λ e. list-le p (good p e));
-      key = λ p k. when _ _ 2048 (λ e. let s = both (plan-good p) (is-user p k) e in let u = both (leb 1 k) (leb k (p .users)) (s .1) in
+      row = λ p. when _ _ most-places (λ e. places-le p (good p e));
+      list = λ p. when _ _ longest-list (λ e. list-le p (good p e));
+      key = λ p k. when _ _ longest-key (λ e. let s = both (plan-good p) (is-user p k) e in let u = both (leb 1 k) (leb k (p .users)) (s .1) in
           key-le p k (good p (s .0)) (leb-true 1 k (u .0)) (leb-true k (p .users) (u .1)));
       row-met = refl;
       list-met = refl;

@@ -1,54 +1,41 @@
 -- A refused exported call changes nothing.
 --   refused-unchanged   the statement of specs/Refused.antt
 -- Assumes nothing.
-use mathlib.Core.Path.{_≡_, refl, ap, _∙_}
+use mathlib.Core.Path.{_≡_, ap, _∙_}
 use mathlib.Core.Logic.{_≢_}
 use mathlib.Core.List.{List}
-use Prim.Native.Nat.{ℕ, zero, suc}
+use Prim.Native.Nat.{ℕ}
 use lib.ListN.{length}
 use Rattle.scheme.proofs.Refusals.{after-refused}
-use Rattle.plan.specs.declared.Plan.{Plan}
 use Rattle.client.specs.declared.Stage.the-variants.{Sent, Answered}
-use Rattle.client.specs.declared.Client.{Client}
-use Rattle.client.specs.Client.{begun-with, first-refusal}
+use Rattle.client.specs.Client.{first-refusal}
 use Rattle.client.proofs.Laws.{moved-number}
 use Rattle.service.specs.Calls.{first-left, reply-left}
 use Rattle.capi.specs.Ends.{end-at, start-left, part-by}
 use Rattle.capi.specs.Lent.{Arrays, arrays, plan-left, open-left, close-left, finish-left, finish-totals}
 use Rattle.capi.proofs.Laws.{kept-refused}
-use Rattle.capi.proofs.Lent.{left-refused}
 use Rattle.exported.specs.Runs.{Call, plan-call, open-call, first-call, close-call, reply-call, finish-call, number-of, leaves}
 use Rattle.exported.specs.Refused.{Refused-unchanged}
 
-start-same : (n : ℕ) (p : Plan) (k : ℕ) (e : List ℕ) → begun-with n p k .number ≢ 0 → start-left (begun-with n p k .client) e ≡ e
-unfolding begun-with start-left
-start-same zero p k e h = absurd (h refl)
-start-same (suc n) p k e h = refl
-
-no-part : (n : ℕ) (c : Client) (v : ℕ) → part-by n c v .number ≢ 0 → (n ≢ 0) × (part-by n c v .start ≡ 0) × (part-by n c v .count ≡ 0)
-unfolding part-by
-no-part zero c v h = absurd (h refl)
-no-part (suc n) c v h = (λ e. h e, refl, refl)
-
 arrays-same : (c : Call) (a : Arrays) → number-of c a ≢ 0 → leaves c a ≡ a
 unfolding number-of leaves plan-left open-left close-left finish-left first-left reply-left
-arrays-same (plan-call p) a h = left-refused _ _ a h
-arrays-same (open-call r) a h = left-refused _ _ a h
+arrays-same (plan-call p) a h = after-refused h _ a
+arrays-same (open-call r) a h = after-refused h _ a
 arrays-same (first-call k i x) a h = ap (λ (l : List ℕ). arrays (a .head) l (a .reply)) (after-refused h _ (a .first))
-arrays-same close-call a h = left-refused _ _ a h
+arrays-same close-call a h = after-refused h _ a
 arrays-same (reply-call k b x) a h = ap (λ (l : List ℕ). arrays (a .head) (a .first) l) (after-refused h _ (a .reply))
-arrays-same (finish-call o) a h = left-refused _ _ a h
+arrays-same (finish-call o) a h = after-refused h _ a
 
 pub refused-unchanged : Refused-unchanged
-unfolding number-of finish-totals
+unfolding number-of finish-totals start-left part-by
 refused-unchanged =
     record {
       key-kept = λ p k xs o h. after-refused h _ o;
-      start-kept = λ p k e h. start-same _ p k e h;
+      start-kept = λ p k e h. after-refused h _ e;
       first-kept = λ e ks fs o h.
           let r : first-refusal (end-at e) ks fs (length o) ≢ 0 = λ z. h (moved-number _ (end-at e) Sent ∙ z) in
           (kept-refused (end-at e) Sent e r, after-refused r _ o);
-      reply-kept = λ e ks v h. let d = no-part _ (end-at e) v h in (kept-refused (end-at e) (Answered v) e (d .0), d .1, d .2);
+      reply-kept = λ e ks v h. (kept-refused (end-at e) (Answered v) e h, after-refused h _ 0, after-refused h _ 0);
       arrays-kept = arrays-same;
       totals-kept = λ a o h. after-refused h _ o;
     }

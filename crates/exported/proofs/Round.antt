@@ -6,21 +6,20 @@
 use mathlib.Core.Path.{_≡_, refl, sym, ap, _∙_, subst}
 use mathlib.Core.Logic.{_≢_}
 use mathlib.Core.Bool.{Bool, true, false}
-use mathlib.Core.List.{List, [], _∷_, map}
-use Prim.Native.Nat.{ℕ, zero, suc}
+use mathlib.Core.List.{List, [], _∷_}
+use Prim.Native.Nat.{ℕ, zero, suc, _≤_}
 use native.Mathlib.Omega.{arith}
 use lib.Dec.{leb}
 use lib.ListN.{getD, take}
-use Rattle.scheme.specs.Lists.{span, padded}
+use Rattle.scheme.specs.Limits.{most-places}
+use Rattle.scheme.specs.Lists.{padded}
 use Rattle.scheme.specs.Scheme.{sixteen, plan-good, places, in-set, ones, unless, _then_, after}
 use Rattle.scheme.specs.Totals.{total-of, totals}
 use Rattle.scheme.specs.Service.{has-plan, is-replying, State, gathered, replied, values, totals-by, Record, open-record, finish-record, Answer, refusal, opened-state, next-state, Steps}
 use Rattle.scheme.proofs.Tests.{holds}
 use Rattle.scheme.proofs.Refusals.{after-taken}
 use Rattle.scheme.proofs.Held.{complete-held}
-use Rattle.scheme.proofs.Lists.{map-span-length}
 use Rattle.plan.specs.Plan.{plan-of}
-use Rattle.solve.proofs.Filled.{padded-take}
 use Rattle.client.specs.Shown as client
 use Rattle.client.specs.Shown.{Given}
 use Rattle.service.specs.declared.Service.{Service}
@@ -29,11 +28,11 @@ use Rattle.service.specs.Calls.{opened, open-step}
 use Rattle.service.proofs.Same.{opened-view}
 use Rattle.finish.specs.Finish.{choice, finish-refusal, finish-answer, finish-step}
 use Rattle.finish.proofs.Answers.{answer-number}
-use Rattle.capi.specs.Lent.{Arrays, state, finish-totals}
+use Rattle.capi.specs.Lent.{Arrays, zeros, state, finish-totals}
 use Rattle.capi.proofs.Stands.{calls-stand}
 use Rattle.round.specs.Round as round
 use Rattle.round.proofs.Round as round-proved
-use Rattle.exported.specs.Runs.{Call, open-call, zeros, plan-in, number-of, leaves, run}
+use Rattle.exported.specs.Runs.{Call, open-call, plan-in, number-of, leaves, run}
 use Rattle.exported.specs.Shown.{calls, Same-given}
 use Rattle.exported.specs.Round.{Each-taken, First-of, Reply-of, Round-right}
 use Rattle.exported.proofs.Runs.{step-right, run-formed, zeros-formed}
@@ -41,10 +40,11 @@ use Rattle.exported.proofs.Shown.{same-given}
 use Rattle.exported.proofs.Carried.{Carried, nothing-carried, steps-first, steps-reply, Survived, steps-survived, run-keeps}
 
 -- ---- the tests of finish
-passes : (b : Bool) (n m : ℕ) → (unless b (suc n) then m) ≢ suc n → (b ≡ true) × ((unless b (suc n) then m) ≡ m)
+passes : (b : Bool) (n m : ℕ) → 1 ≤ n → (unless b n then m) ≢ n → (b ≡ true) × ((unless b n then m) ≡ m)
 unfolding unless _then_
-passes true n m h = (refl, refl)
-passes false n m h = absurd (h refl)
+passes true n m p h = (refl, refl)
+passes false zero m p h = absurd (omega arith)
+passes false (suc n) m p h = absurd (h refl)
 
 record Finishes (s : Service) : Type 0 where
   replying : is-replying (view s .phase) ≡ true
@@ -54,20 +54,20 @@ finishes : (s : Service) → finish-step s .number ≢ 11 → finish-step s .num
 unfolding finish-step finish-refusal refusal view unless _then_
 finishes s n11 n12 n15 =
     let e = answer-number (finish-refusal s) s in
-    let a = passes (has-plan (phase-of (s .head .phase))) 10 _ (λ z. n11 (e ∙ z)) in
-    let b = passes (is-replying (phase-of (s .head .phase))) 11 _ (λ z. n12 (e ∙ a .1 ∙ z)) in
-    let c = passes (plan-good (plan-of (s .head .plan))) 14 _ (λ z. n15 (e ∙ a .1 ∙ b .1 ∙ z)) in
-    let d = passes (leb (s .head .plan .threshold) (ones (s .head .plan .users) (replied (view s)))) 14 _ (λ z. n15 (e ∙ a .1 ∙ b .1 ∙ c .1 ∙ z)) in
+    let a = passes (has-plan (phase-of (s .head .phase))) 11 _ (omega arith) (λ z. n11 (e ∙ z)) in
+    let b = passes (is-replying (phase-of (s .head .phase))) 12 _ (omega arith) (λ z. n12 (e ∙ a .1 ∙ z)) in
+    let c = passes (plan-good (plan-of (s .head .plan))) 15 _ (omega arith) (λ z. n15 (e ∙ a .1 ∙ b .1 ∙ z)) in
+    let enough = leb (s .head .plan .threshold) (ones (s .head .plan .users) (replied (view s))) in
+    let d = passes enough 15 _ (omega arith) (λ z. n15 (e ∙ a .1 ∙ b .1 ∙ c .1 ∙ z)) in
     record { replying = b .0; untested = simp (a .0, b .0, d .0) }
 
 -- the totals that a taken finish gives are its first L places, and 0 behind them
 totals-padded : (s : Service) (n : ℕ) → finish-answer n s .number ≡ 0 → let ts = finish-answer n s .totals in
-    ts ≡ padded 96 (take (places (plan-of (s .head .plan))) ts)
+    ts ≡ padded most-places (take (places (plan-of (s .head .plan))) ts)
 unfolding finish-answer totals-by totals view
 totals-padded s zero z =
     let t = total-of sixteen (plan-of (s .head .plan)) (s .head .survivors) (values (view s .firsts)) (choice s) in
-    let p = places (plan-of (s .head .plan)) in
-    sym (ap (padded 96) (ap (λ (n : ℕ). take n (padded 96 (map t (span p 0)))) (sym (map-span-length t p 0)) ∙ padded-take 96 (map t (span p 0))))
+    sym (ap (padded most-places) (round-proved.first-places most-places (places (plan-of (s .head .plan))) t))
 totals-padded s (suc n) z = absurd (omega arith)
 
 -- ---- the arrays behind an accepted open, and behind the calls of the round
@@ -106,7 +106,7 @@ pub round-right : Round-right
 unfolding Round-right run number-of finish-step finish-totals Survived Same-given gathered replied view round.Round-right
 round-right before cs r xs x lent o e n11 n12 n15 ok rows room sent =
     let done = round-proved.round-right s xs x (λ k. lent k .key-buffer) (λ k. lent k .buffer) formed (f .untested) ok rows room held in
-    (done .0, after-taken (done .0) _ o ∙ totals-padded s _ (done .0) ∙ ap (padded 96) (done .1))
+    (done .0, after-taken (done .0) _ o ∙ totals-padded s _ (done .0) ∙ ap (padded most-places) (done .1))
   where
     start : Arrays
     start = run before zeros

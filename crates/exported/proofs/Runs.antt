@@ -10,6 +10,7 @@ use Prim.Native.Nat.{ℕ, zero, suc}
 use lib.ListN.{take}
 use Rattle.scheme.specs.Scheme.{sixteen, plan-good, places, after, unless, _then_}
 use Rattle.scheme.specs.Service.{State, has-plan, Answer, totalled, Record, finish-record, Runs, done, more}
+use Rattle.scheme.proofs.Refusals.{after-taken}
 use Rattle.scheme.proofs.Well.{test-held}
 use Rattle.plan.specs.declared.Plan.{Plan}
 use Rattle.plan.specs.Plan.{plan-of}
@@ -24,10 +25,10 @@ use Rattle.service.proofs.Steps as proved
 use Rattle.finish.specs.Promise.{Finish-steps}
 use Rattle.finish.specs.Finish.{finish-step}
 use Rattle.finish.proofs.Steps.{finish-steps}
-use Rattle.capi.specs.Lent.{Arrays, arrays-of, state, left, plan-left, open-left, finish-totals}
+use Rattle.capi.specs.Lent.{Arrays, arrays-of, zeros, state, plan-left, open-left, finish-totals}
 use Rattle.capi.specs.Promise.{New-stands}
 use Rattle.capi.proofs.Stands.{new-stands, calls-stand}
-use Rattle.exported.specs.Runs.{Call, plan-call, open-call, first-call, close-call, reply-call, finish-call, record-of, zeros, plan-in, number-of, leaves, handed, answer-to, run, answers, Runs-right, Opens-as-new}
+use Rattle.exported.specs.Runs.{Call, plan-call, open-call, first-call, close-call, reply-call, finish-call, record-of, plan-in, number-of, leaves, handed, answer-to, run, answers, Runs-right, Opens-as-new}
 
 -- the state that the service's own call hands back is the one that the arrays stand for
 module _ (a : Arrays) (w : Formed (state a)) where
@@ -77,10 +78,6 @@ runs-right cs =
       formed = run-formed cs zeros zeros-formed;
     }
 
-left-taken : {n : ℕ} → n ≡ 0 → (s : Service) (a : Arrays) → left n s a ≡ arrays-of s
-unfolding left
-left-taken e s a = ap (λ (n : ℕ). left n s a) e
-
 -- zeros take every good plan
 plan-taken : (p : Plan) → plan-good (plan-of p) ≡ true → state (plan-left zeros p) ≡ planned p
 unfolding New-stands plan-step plan-refusal new-service phase-of has-plan after unless _then_
@@ -94,6 +91,6 @@ opens-as-new cs r e =
     let w = run-formed cs zeros zeros-formed in
     let same = proved.opens-as-new (state a) r w e in
     let new : open-step (state (plan-left zeros p)) r ≡ open-step (planned p) r =
-    ap (λ (s : Service). open-step s r) (plan-taken p (w .well .good (test-held _ 10 _ e .0))) in
-    left-taken e _ a ∙ ap (λ (t : Stepped). arrays-of (t .service)) (same ∙ sym new)
-    ∙ sym (left-taken (ap (λ (t : Stepped). t .number) (new ∙ sym same) ∙ e) _ _)
+    ap (λ (s : Service). open-step s r) (plan-taken p (w .well .good (test-held _ _ _ e .0))) in
+    after-taken e _ a ∙ ap (λ (t : Stepped). arrays-of (t .service)) (same ∙ sym new)
+    ∙ sym (after-taken (ap (λ (t : Stepped). t .number) (new ∙ sym same) ∙ e) _ _)

@@ -6,37 +6,35 @@ use mathlib.Core.List.{List, map}
 use Prim.Native.Nat.{ℕ, zero, suc}
 use lib.ListN.{length}
 use Rattle.scheme.specs.Lists.{span}
-use Rattle.scheme.specs.Scheme.{users-in}
+use Rattle.scheme.specs.Scheme.{users-in, after}
 use Rattle.plan.specs.declared.Plan.{Plan}
 use Rattle.plan.specs.Plan.{plan-of}
-use Rattle.client.specs.declared.Stage.the-variants.{Fresh}
 use Rattle.client.specs.declared.Client.{Client}
 use Rattle.client.specs.Client.{stage-of, stage-of-number, stage-number, begun-with, message-left, part-of}
 use Rattle.client.specs.Shown as client
 use Rattle.client.specs.Shown.{client-calls}
 use Rattle.client.proofs.Shown as proved
-use Rattle.capi.specs.Ends.{code-stage, end-at, end-numbers, start-left}
+use Rattle.capi.specs.Ends.{code-stage, end-at, end-numbers, fresh-end, start-left}
 use Rattle.capi.specs.Promise.{Ends-stand, Part-is-reply}
 use Rattle.capi.proofs.Promise.{ends-stand, part-is-reply}
 use Rattle.exported.specs.Shown.{end-calls, calls, Same-given, Shown-is-sent}
 
 -- from the array that start leaves
 end-given : (n : ℕ) (p : Plan) (k : ℕ) (e ks fs : List ℕ) (v : ℕ) (o : List ℕ) → let b = begun-with n p k in
-    end-calls (b .number) (start-left (b .client) e) ks fs v o ≡ client-calls (b .client) ks fs v o
-unfolding begun-with start-left end-calls client-calls end-numbers end-at code-stage stage-of stage-number stage-of-number Ends-stand Part-is-reply
+    end-calls (b .number) (after (b .number) (end-numbers (fresh-end p k)) e) ks fs v o ≡ client-calls (b .client) ks fs v o
+unfolding begun-with after end-calls client-calls end-numbers end-at code-stage stage-of stage-number stage-of-number Ends-stand Part-is-reply
 end-given zero p k e ks fs v o =
-    let c : Client = record { plan = p; user = k; stage = Fresh } in
-    let same = ends-stand (end-numbers c) refl .first-stands ks fs (length o) in
+    let same = ends-stand (end-numbers (fresh-end p k)) refl .first-stands ks fs (length o) in
     λ i.
     record {
       key-given = ks;
-      message = message-left c ks fs o;
+      message = message-left (fresh-end p k) ks fs o;
       part = (part-is-reply _ ks v .shares ∙ ap (λ (d : Client). part-of d ks v) same) i;
     }
 end-given (suc n) p k e ks fs v o = refl
 
 pub same-given : Same-given
-unfolding Same-given calls client.calls
+unfolding Same-given calls client.calls start-left
 same-given p xs fs v k l = end-given _ p k (l .end) _ fs v (l .buffer)
 
 pub shown-is-sent : Shown-is-sent

@@ -13,7 +13,7 @@ use lib.Dec.{eqb}
 use lib.ListN.{length}
 use Rattle.client.specs.Client.{first-answer, reply-answer}
 use Rattle.capi.specs.declared.ends.CutawhenoPart.{CutawhenoPart}
-use Rattle.capi.specs.Ends.{end-at, kept, part-by, part-answer}
+use Rattle.capi.specs.Ends.{end-length, end-at, kept, part-by, part-answer}
 
 pub data End-call : Type 0 where
   message-call : (key figures buffer : List ℕ) → End-call
@@ -47,6 +47,6 @@ pub record One-message-one-set (cs : List End-call) (e : List ℕ) : Type 0 wher
   pub set : ℕ
   pub one-set : Only-to set (part-by 0 (end-at e) set) cs e
 
--- every array that can be lent has 8 numbers, also the one that start leaves
+-- every array that can be lent has that length, also the one that start leaves
 unfoldable pub Ends-right : Type 0
-Ends-right = (cs : List End-call) (e : List ℕ) → length e ≡ 8 → One-message-one-set cs e
+Ends-right = (cs : List End-call) (e : List ℕ) → length e ≡ end-length → One-message-one-set cs e

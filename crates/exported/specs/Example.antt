@@ -8,11 +8,14 @@ use mathlib.Core.Path.{_≡_}
 use mathlib.Core.List.{List, [], _∷_}
 use Prim.Native.Nat.{ℕ, _*_}
 use lib.ListN.{getD, replicate}
+use Rattle.scheme.specs.Limits.{most-places}
 use Rattle.scheme.specs.Service.{silent, planned, opened, closed, totalled, refused}
 use Rattle.plan.specs.declared.Plan.{Plan}
 use Rattle.plan.specs.Plan.{plan-of}
 use Rattle.client.specs.Shown.{Given}
-use Rattle.exported.specs.Runs.{Call, plan-call, open-call, first-call, close-call, reply-call, finish-call, zeros, answers}
+use Rattle.capi.specs.Ends.{end-length}
+use Rattle.capi.specs.Lent.{zeros}
+use Rattle.exported.specs.Runs.{Call, plan-call, open-call, first-call, close-call, reply-call, finish-call, answers}
 use Rattle.exported.specs.Shown.{calls}
 
 abbrev pub example-plan : Plan
@@ -24,7 +27,7 @@ example-list = 100 ∷ 200 ∷ 300 ∷ 12 ∷ 60 ∷ 40 ∷ 120 ∷ []
 -- whatever the buffers and the array held before
 unfoldable pub example-given : (k : ℕ) → Given
 example-given k =
-    calls example-plan example-list (k * 10 ∷ []) 5 k (record { key-buffer = replicate 4 7; buffer = 7 ∷ []; end = replicate 8 7 })
+    calls example-plan example-list (k * 10 ∷ []) 5 k (record { key-buffer = replicate 4 7; buffer = 7 ∷ []; end = replicate end-length 7 })
 
 abbrev pub message-of : (k : ℕ) → ℕ
 message-of k = getD (example-given k .message) 0 0
@@ -35,7 +38,7 @@ share-of k = getD (example-given k .part) 0 0
 unfoldable pub example-calls : List Call
 example-calls =
     plan-call example-plan ∷ open-call 7 ∷ first-call 1 0 (message-of 1) ∷ first-call 3 0 (message-of 3) ∷ close-call
-    ∷ first-call 2 0 (message-of 2) ∷ reply-call 1 0 (share-of 1) ∷ reply-call 3 0 (share-of 3) ∷ finish-call (replicate 96 7) ∷ []
+    ∷ first-call 2 0 (message-of 2) ∷ reply-call 1 0 (share-of 1) ∷ reply-call 3 0 (share-of 3) ∷ finish-call (replicate most-places 7) ∷ []
 
 pub record Example-right : Type 0 where
   pub user-1 : example-given 1 ≡ record { key-given = 100 ∷ 154 ∷ 220 ∷ 340 ∷ []; message = 110 ∷ []; part = 220 ∷ [] }

@@ -12,6 +12,7 @@ use mathlib.Core.Bool.{true}
 use mathlib.Core.List.{List, [], _∷_, map}
 use Prim.Native.Nat.{ℕ, _≤_}
 use lib.ListN.{getD}
+use Rattle.scheme.specs.Limits.{most-places}
 use Rattle.scheme.specs.Lists.{span, padded}
 use Rattle.scheme.specs.Scheme.{sixteen, places, in-set, total-at}
 use Rattle.scheme.specs.Promise.{Table, admissible, list-good}
@@ -19,8 +20,8 @@ use Rattle.scheme.specs.Service.{Record, plan-record, open-record, first-record
 use Rattle.plan.specs.Plan.{plan-of}
 use Rattle.client.specs.Shown.{Given}
 use Rattle.service.specs.View.{view}
-use Rattle.capi.specs.Lent.{Arrays, state, finish-totals}
-use Rattle.exported.specs.Runs.{Call, open-call, finish-call, record-of, zeros, plan-in, number-of, leaves, run}
+use Rattle.capi.specs.Lent.{Arrays, zeros, state, finish-totals}
+use Rattle.exported.specs.Runs.{Call, open-call, finish-call, record-of, plan-in, number-of, leaves, run}
 use Rattle.exported.specs.Shown.{Lent, Room, calls}
 
 unfoldable pub Each-taken : (Record → Type 0) → List Call → Arrays → Type 0
@@ -63,4 +64,4 @@ Round-right =
     let n = number-of (finish-call o) a in
     n ≢ 11 → n ≢ 12 → n ≢ 15 → list-good sixteen (plan-of p) xs ≡ true → admissible sixteen (plan-of p) x →
     ((k : ℕ) → 1 ≤ k → k ≤ p .users → Room p k (lent k)) → Sent-in round opened (λ k. calls p xs (x k) v k (lent k)) →
-    (n ≡ 0) × (finish-totals a o ≡ padded 96 (map (total-at sixteen (plan-of p) x v) (span (places (plan-of p)) 0)))
+    (n ≡ 0) × (finish-totals a o ≡ padded most-places (map (total-at sixteen (plan-of p) x v) (span (places (plan-of p)) 0)))

@@ -1,6 +1,6 @@
 -- The exported service calls one after the other, over the arrays that the caller lends, as their contracts have them.
 --   Call, record-of        a call with what it is given; the record of document 01 that it stands for
---   zeros, plan-in         the arrays of a new service; the plan that arrays hold
+--   plan-in                the plan that arrays hold
 --   number-of, leaves      the number that a call hands back, and the arrays that it leaves
 --   handed, answer-to      what it hands back beside the number, and with it: document 01's answer
 --   run, answers           the arrays after a list of calls, and what the calls answered
@@ -10,7 +10,7 @@
 use mathlib.Core.Path.{_≡_}
 use mathlib.Core.List.{List, [], _∷_, map}
 use Prim.Native.Nat.{ℕ}
-use lib.ListN.{take, replicate}
+use lib.ListN.{take}
 use Rattle.scheme.specs.Scheme.{sixteen, places}
 use Rattle.scheme.specs.Service.{new-state, Record, plan-record, open-record, first-record, close-record, reply-record, finish-record, Answer, silent, planned, opened, closed, totalled, Runs}
 use Rattle.plan.specs.declared.Plan.{Plan}
@@ -19,7 +19,7 @@ use Rattle.service.specs.View.{view, Formed}
 use Rattle.service.specs.Calls.{plan-step, open-step, first-refusal, first-left, close-step, reply-refusal, reply-left}
 use Rattle.service.specs.Promise.{told}
 use Rattle.finish.specs.Finish.{finish-step}
-use Rattle.capi.specs.Lent.{Arrays, arrays, head-at, state, plan-left, open-left, closed-answer, close-left, finish-left, finish-totals}
+use Rattle.capi.specs.Lent.{Arrays, arrays, zeros, head-at, state, plan-left, open-left, closed-answer, close-left, finish-left, finish-totals}
 
 -- finish is lent a buffer for the totals
 pub data Call : Type 0 where
@@ -37,9 +37,6 @@ record-of (first-call k i x) = first-record k i x
 record-of close-call = close-record
 record-of (reply-call k b x) = reply-record k b x
 record-of (finish-call o) = finish-record
-
-abbrev pub zeros : Arrays
-zeros = arrays (replicate 8 0) (replicate 768 0) (replicate 128 0)
 
 abbrev pub plan-in : Arrays → Plan
 plan-in a = state a .head .plan

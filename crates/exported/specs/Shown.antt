@@ -8,7 +8,7 @@
 use mathlib.Core.Path.{_≡_}
 use mathlib.Core.Bool.{true}
 use mathlib.Core.List.{List, [], map}
-use Prim.Native.Nat.{ℕ, zero, suc, _≤_}
+use Prim.Native.Nat.{ℕ, _≤_}
 use lib.ListN.{length, take, drop}
 use Rattle.scheme.specs.Lists.{span}
 use Rattle.scheme.specs.Scheme.{sixteen, plan-good, places, usable, users-in, key, key-length, key-refusal, after}
@@ -30,15 +30,18 @@ abbrev pub Room : Plan → (k : ℕ) → Lent → Type 0
 Room p k l = (length (l .key-buffer) ≡ key-length (plan-of p) k) × (length (l .buffer) ≡ places (plan-of p))
 
 unfoldable pub end-calls : (refusal : ℕ) → (end key figures : List ℕ) → (set : ℕ) → (buffer : List ℕ) → Given
-end-calls zero e ks fs v o =
+end-calls n e ks fs v o =
     let sent = kept (first-answer (end-at e) ks fs (length o)) e in
     let part = part-answer (end-at sent) ks v in
-    record { key-given = ks; message = message-left (end-at e) ks fs o; part = take (part .count) (drop (part .start) ks) }
-end-calls (suc n) e ks fs v o = record { key-given = ks; message = o; part = [] }
+    record {
+      key-given = ks;
+      message = after n (message-left (end-at e) ks fs o) o;
+      part = after n (take (part .count) (drop (part .start) ks)) [];
+    }
 
 unfoldable pub calls : Plan → (list : List ℕ) → (figures : List ℕ) → (set user : ℕ) → Lent → Given
 calls p xs fs v k l =
-    end-calls (begun p k .number) (start-left (begun p k .client) (l .end))
+    end-calls (begun p k .number) (start-left p k (l .end))
     (after (key-refusal sixteen (plan-of p) k xs (length (l .key-buffer))) (key sixteen (plan-of p) xs k) (l .key-buffer)) fs v (l .buffer)
 
 unfoldable pub Same-given : Type 0

@@ -1,18 +1,22 @@
 -- Demand 2 from end to end: the calls give rule-true messages, and finish gives the total of those.
---   round-right   the statement of specs/Round.antt
+--   first-places   the first n of a list with zeros behind it
+--   round-right    the statement of specs/Round.antt
 -- Assumes nothing.
 use mathlib.Core.Path.{_≡_, sym, ap, _∙_}
 use mathlib.Core.Bool.{true}
 use mathlib.Core.List.{List, map}
 use Prim.Native.Nat.{ℕ, _≤_}
 use lib.ListN.{getD, take}
+use Rattle.scheme.specs.Limits.{most-places}
 use Rattle.scheme.specs.Lists.{span, padded}
+use Rattle.scheme.specs.Scheme as scheme
 use Rattle.scheme.specs.Scheme.{sixteen, plan-good, places, in-set, total-at}
 use Rattle.scheme.specs.Promise.{admissible}
 use Rattle.scheme.specs.Totals.{Follows}
 use Rattle.scheme.specs.Service.{replied, values}
 use Rattle.scheme.proofs.Lists.{map-span-length}
 use Rattle.scheme.proofs.Well.{Finishing, finishing, replied-survives}
+use Rattle.plan.specs.declared.Plan.{Plan}
 use Rattle.plan.specs.Plan.{plan-of}
 use Rattle.client.proofs.Shown.{Ready, message-is-sent, part-is-sent}
 use Rattle.solve.proofs.Filled.{padded-take}
@@ -21,36 +25,44 @@ use Rattle.finish.specs.Promise.{Finish-right}
 use Rattle.finish.proofs.Steps.{finish-right}
 use Rattle.round.specs.Round.{Round-right}
 
+pub first-places : (size n : ℕ) (t : ℕ → ℕ) → take n (padded size (map t (span n 0))) ≡ map t (span n 0)
+first-places size n t =
+    ap (λ (m : ℕ). take m (padded size (map t (span n 0)))) (sym (map-span-length t n 0)) ∙ padded-take size (map t (span n 0))
+
 pub round-right : Round-right
 unfolding Round-right Finish-right admissible view
 round-right s xs x ko o w e ok rows room held =
     let done = finish-right s xs x w e ok rows rules in
-    let l = map-span-length (total-at sixteen (plan-of (s .head .plan)) x (s .head .survivors)) (places (plan-of (s .head .plan))) 0 in (
-      done .0,
-      ap (take (places (plan-of (s .head .plan)))) (done .1)
-          ∙ ap (λ (n : ℕ). take n (padded 96 totals)) (sym l) ∙ padded-take 96 totals,
-    )
+    (done .0, ap (take (places q)) (done .1) ∙ first-places most-places (places q) (total-at sixteen q x v))
   where
-    totals : List ℕ
-    totals = map (total-at sixteen (plan-of (s .head .plan)) x (s .head .survivors)) (span (places (plan-of (s .head .plan))) 0)
+    p : Plan
+    p = s .head .plan
+
+    q : scheme.Plan
+    q = plan-of p
+
+    v : ℕ
+    v = s .head .survivors
 
     f : Finishing (view s)
     f = finishing sixteen (view s) e
 
-    good : plan-good (plan-of (s .head .plan)) ≡ true
+    good : plan-good q ≡ true
     good = w .well .good (f .planned)
 
-    ready : (k : ℕ) → 1 ≤ k → k ≤ s .head .plan .users → Ready (s .head .plan) xs k (x k) (ko k) (o k)
+    ready : (k : ℕ) → 1 ≤ k → k ≤ p .users → Ready p xs k (x k) (ko k) (o k)
     ready k lo hi = record { good-plan = good; good-list = ok; user = (lo, hi); figures = rows k lo hi; room = room k lo hi }
 
-    survives : (k : ℕ) → 1 ≤ k → k ≤ s .head .plan .users → in-set (replied (view s)) k ≡ true → in-set (s .head .survivors) k ≡ true
+    survives : (k : ℕ) → 1 ≤ k → k ≤ p .users → in-set (replied (view s)) k ≡ true → in-set v k ≡ true
     survives = replied-survives sixteen (view s) (w .well) (f .planned)
 
-    rules : Follows sixteen (plan-of (s .head .plan)) xs x (s .head .survivors) (replied (view s)) (values (view s .firsts)) (values (view s .replies))
-    rules = record {
-      first = λ k i lo hi m h. held .first k i lo hi m h ∙ ap (λ (l : List ℕ). getD l i 0) (message-is-sent (s .head .plan) xs (s .head .survivors) k (x k) (ko k) (o k) (ready k lo hi));
-      survives = survives;
-      answer = λ k b lo hi m h.
-          held .answer k b lo hi m h
-          ∙ ap (λ (l : List ℕ). getD l b 0) (part-is-sent (s .head .plan) xs (s .head .survivors) k (x k) (ko k) (o k) (ready k lo hi) (w .well .survive (f .replying)) (survives k lo hi m));
-    }
+    rules : Follows sixteen q xs x v (replied (view s)) (values (view s .firsts)) (values (view s .replies))
+    rules =
+        record {
+          first = λ k i lo hi m h.
+              held .first k i lo hi m h ∙ ap (λ (l : List ℕ). getD l i 0) (message-is-sent p xs v k (x k) (ko k) (o k) (ready k lo hi));
+          survives = survives;
+          answer = λ k b lo hi m h.
+              let part = part-is-sent p xs v k (x k) (ko k) (o k) (ready k lo hi) (w .well .survive (f .replying)) (survives k lo hi m) in
+              held .answer k b lo hi m h ∙ ap (λ (l : List ℕ). getD l b 0) part;
+        }

@@ -27,10 +27,9 @@ pub record Sent-in (s : Service) (xs : List ℕ) (x : Table) (key-buffer buffer 
 -- finish is not refused by 11, 12 or 15: it answers 0 and the sum of the survivors' figures, place by place
 unfoldable pub Round-right : Type 0
 Round-right =
-    (s : Service) (xs : List ℕ) (x : Table) (key-buffer buffer : (k : ℕ) → List ℕ) → Formed s → refusal sixteen finish-record (view s) ≡ 0 →
-    list-good sixteen (plan-of (s .head .plan)) xs ≡ true → admissible sixteen (plan-of (s .head .plan)) x →
-    ((k : ℕ) → 1 ≤ k → k ≤ s .head .plan .users → (length (key-buffer k) ≡ key-length (plan-of (s .head .plan)) k) × (length (buffer k) ≡ places (plan-of (s .head .plan)))) →
+    (s : Service) (xs : List ℕ) (x : Table) (key-buffer buffer : (k : ℕ) → List ℕ) → let p = plan-of (s .head .plan) in
+    Formed s → refusal sixteen finish-record (view s) ≡ 0 → list-good sixteen p xs ≡ true → admissible sixteen p x →
+    ((k : ℕ) → 1 ≤ k → k ≤ p .users → (length (key-buffer k) ≡ key-length p k) × (length (buffer k) ≡ places p)) →
     Sent-in s xs x key-buffer buffer →
     (finish-step s .number ≡ 0)
-    × (take (places (plan-of (s .head .plan))) (finish-step s .totals)
-    ≡ map (total-at sixteen (plan-of (s .head .plan)) x (s .head .survivors)) (span (places (plan-of (s .head .plan))) 0))
+    × (take (places p) (finish-step s .totals) ≡ map (total-at sixteen p x (s .head .survivors)) (span (places p) 0))

@@ -40,7 +40,9 @@ module _ (s w f r : List ℕ) (x : ℕ) (first : f ≡ take (length w) s) (other
 
   pub just : {b : Bool} → f ≡ w → Exactly b (r ≡ replicate (length r) x) → Exactly b (s ≡ w ++ replicate (length s - length w) x)
   just e t = record {
-    sound = λ b. sym (take-append-drop (length w) s) ∙ ap (λ (l : List ℕ). l ++ drop (length w) s) (sym first ∙ e) ∙ ap (λ (l : List ℕ). w ++ l) (sym others ∙ t .sound b ∙ long);
+    sound = λ b.
+        sym (take-append-drop (length w) s) ∙ ap (λ (l : List ℕ). l ++ drop (length w) s) (sym first ∙ e)
+        ∙ ap (λ (l : List ℕ). w ++ l) (sym others ∙ t .sound b ∙ long);
     whole = λ d. t .whole (others ∙ ap (drop (length w)) d ∙ drop-append-seam w _ ∙ sym long);
   }
     where

@@ -5,7 +5,6 @@
 --   lent-right            a list that is lent must fit
 --   served, opened, closed   what the lines o and c leave and show
 --   end-of, begun-as, started     what the line s leaves and shows: the fresh end, or after a refusal the old one
---   total-count           how many totals a finish hands back
 -- Assumes nothing: these are definitions.
 use mathlib.Core.Bool.{Bool, true, false, cond}
 use mathlib.Core.List.{List}
@@ -65,6 +64,3 @@ begun-as c b wanted =
 
 abbrev pub started : Case → (line : List ℕ) → Checked
 started c l = begun-as c (begun (c .plan) (getD l 0 0)) (getD l 1 0)
-
-abbrev pub total-count : (number places : ℕ) → ℕ
-total-count number places = cond (eqb number 0) places 0

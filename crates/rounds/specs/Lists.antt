@@ -1,8 +1,24 @@
--- What a test answers.
+-- The lists that the program lends, and what its tests of lists answer.
+--   lent-length, key-start, room, mark   the lent list, where the key starts in it; a buffer, and the number that it has throughout
 --   Exactly   the answer is true exactly if the claim holds
 -- Assumes nothing: these are definitions.
 use mathlib.Core.Path.{_≡_}
 use mathlib.Core.Bool.{Bool, true}
+use Prim.Native.Nat.{ℕ, _+_}
+
+-- past the longest random list, 7952 elements
+abbrev pub key-start : ℕ
+key-start = 8192
+
+-- more than the longest key, 2048 elements
+abbrev pub room : ℕ
+room = 2304
+
+abbrev pub lent-length : ℕ
+lent-length = key-start + room
+
+abbrev pub mark : ℕ
+mark = 7
 
 pub record Exactly (answer : Bool) (claim : Type 0) : Type 0 where
   pub sound : answer ≡ true → claim

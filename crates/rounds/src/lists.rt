@@ -13,15 +13,15 @@ ghost use Prim.Native.Nat.{_+_, _-_, _≤_};
 ghost use lib.Dec.{leb};
 ghost use lib.ListN.{length, getD, take, drop, replicate};
 ghost use lib.Seq.{sets};
-ghost use Rattle.rounds.specs.Lists.{Exactly};
+ghost use Rattle.rounds.specs.Lists.{lent-length, key-start, room, mark, Exactly};
 
 // Room for what is lent: the longest random list, 7952 elements, and behind it the longest key, 2048. No line has more numbers.
-pub const SPACE: usize = 10496;
+pub const SPACE: usize = KEY_AT + ROOM;
 
 pub const KEY_AT: usize = 8192;
 
 pub fn space() -> [u16; SPACE]
-    ensures { λ r. ⌜ r ≡ replicate 10496 0 ⌝ }
+    ensures { λ r. ⌜ r ≡ replicate lent-length 0 ⌝ }
 {
     [0; SPACE]
 }
@@ -32,7 +32,7 @@ pub const ROOM: usize = 2304;
 pub const MARK: u16 = 7;
 
 pub fn marked() -> [u16; ROOM]
-    ensures { λ r. ⌜ r ≡ replicate 2304 7 ⌝ }
+    ensures { λ r. ⌜ r ≡ replicate room mark ⌝ }
 {
     [MARK; ROOM]
 }
@@ -71,7 +71,7 @@ pub fn rest(s: &[u16], from: usize) -> &[u16]
 }
 
 pub fn key_of(lent: &[u16; SPACE], n: usize) -> &[u16]
-    ensures { λ r. ⌜ now r ≡ take n (drop 8192 (now (lent .entry))) ⌝ }
+    ensures { λ r. ⌜ now r ≡ take n (drop key-start (now (lent .entry))) ⌝ }
 {
     front(rest(lent, KEY_AT), n)
 }
@@ -108,7 +108,8 @@ pub fn all_are(s: &[u16], x: u16) -> bool
 // Writes s into out from `at` on, and answers whether it fits.
 pub fn copy_to(s: &[u16], out: &mut [u16], at: usize) -> bool
     ensures fits { λ r. ⌜ r ≡ leb (at + length (now (s .entry))) (length (now (out .entry))) ⌝ }
-    ensures left { λ r. ⌜ now (out .exit) ≡ cond (leb (at + length (now (s .entry))) (length (now (out .entry)))) (sets (now (out .entry)) at (now (s .entry))) (now (out .entry)) ⌝ }
+    ensures left { λ r. ⌜ now (out .exit)
+        ≡ cond (leb (at + length (now (s .entry))) (length (now (out .entry)))) (sets (now (out .entry)) at (now (s .entry))) (now (out .entry)) ⌝ }
 {
     if out.len() < at {
         return false;
@@ -136,7 +137,7 @@ pub fn holds_just(s: &[u16], wanted: &[u16], x: u16) -> bool
 
 // Whether a buffer is the wanted list, then the mark throughout.
 pub fn marked_behind(s: &[u16; ROOM], wanted: &[u16]) -> bool
-    ensures { λ r. ⌜ Exactly r (now (s .entry) ≡ now (wanted .entry) ++ replicate (2304 - length (now (wanted .entry))) 7) ⌝ }
+    ensures { λ r. ⌜ Exactly r (now (s .entry) ≡ now (wanted .entry) ++ replicate (room - length (now (wanted .entry))) mark) ⌝ }
 {
     holds_just(s, wanted, MARK)
 }

@@ -4,12 +4,12 @@
 //   limits_right    plans at each limit have lengths and those past it none; 96 places are the most
 //   elements_right  a random list may hold q - 1, and not q
 //   stream_lines    the example stream, cut in two at every byte: the printed lines; and the line of refusal 7
-//   main            the examples, then the input (calls/lines.rt)
+//   main            the examples, then the input (calls/input.rt)
 // Document 01's airfield is a user here.
 mod calls;
 mod lists;
 
-use calls::make_into;
+use calls::maker::make_into;
 use client::Client;
 use libc::STDOUT_FILENO;
 use lists::front;
@@ -221,10 +221,17 @@ fn every_cut(input: &[u8], lines: &[u8], text: &mut [u8; BYTES]) -> bool {
     cut_lines(input, lines, cut, text)
 }
 
-// The example input of document 01 and its output; and the line of a record cut short at offset 34.
+// The example input of document 01, a record a line, and its output; and the line of a record cut short at offset 34.
 fn stream_lines(text: &mut [u8; BYTES]) -> bool {
-    let input =
-        b"\x01\x03\x02\x01\x01\x02\x07\x00\x00\x00\x03\x01\x00\x00\x6E\x00\x03\x03\x00\x00\x4A\x01\x04\x03\x02\x00\x00\xDC\x00\x05\x01\x00\xDC\x00\x05\x03\x00\x70\x00\x06";
+    let input = b"\x01\x03\x02\x01\x01\
+        \x02\x07\x00\x00\x00\
+        \x03\x01\x00\x00\x6E\x00\
+        \x03\x03\x00\x00\x4A\x01\
+        \x04\
+        \x03\x02\x00\x00\xDC\x00\
+        \x05\x01\x00\xDC\x00\
+        \x05\x03\x00\x70\x00\
+        \x06";
     let lines = b"plan 3 2 1 1\nopen 7\nsurvivors 7 5\nrefused 12 at 23\ntotal 7 40\n";
     if !every_cut(input, lines, text) {
         return false;
@@ -254,5 +261,5 @@ fn main() {
         return;
     }
     say(b"example stream: as printed, cut at every byte\n");
-    calls::lines::read_all();
+    calls::input::read_all();
 }

@@ -1,15 +1,16 @@
 -- `rounds::lengths_right` is safe and ends: the users left fall.
 -- Assumes nothing.
-use Prim.Native.Nat.{_-_, _≤_}
+use Prim.Native.Nat.{suc, _-_, _≤_}
 use borrow.Author.Needs.{needs}
+use Rattle.scheme.specs.Limits.{most-users}
 use Rattle.rounds.proofs.lengths_right.Statement.{statement}
 use Rattle.rounds.proofs.lengths_right.Tie as tie
 
 abbrev Inv-loop : tie.InvT-loop
-Inv-loop plan user₀ user = (1 ≤ user) × (user ≤ 9)
+Inv-loop plan user₀ user = (1 ≤ user) × (user ≤ suc most-users)
 
 abbrev μ-loop : tie.MeasureT-loop
-μ-loop plan user₀ user = 9 - user
+μ-loop plan user₀ user = suc most-users - user
 
 loop-holds : tie.Need-loop-holds Inv-loop μ-loop
 loop-holds c = search needs

@@ -1,6 +1,6 @@
 -- `capi::ends::cutawheno_end_reply` meets its contract: the client's refusal decides, and where the reply is taken its part lies inside the key.
 -- Assumes nothing.
-use mathlib.Core.Path.{_≡_, sym, ap, _∙_}
+use mathlib.Core.Path.{sym, ap, _∙_}
 use Prim.Native.Nat.{ℕ}
 use native.Mathlib.Nat.{le-of-lt}
 use native.Mathlib.Omega.{arith}
@@ -12,22 +12,15 @@ use Rattle.plan.specs.Plan.{plan-of}
 use Rattle.scheme.proofs.Sets.{usable-below}
 use Rattle.scheme.proofs.PlanBounds.{usable-le, reply-inside}
 use Rattle.client.specs.declared.Client.{Client}
-use Rattle.client.specs.Client.{stage-of, stage-number, answer-refusal}
+use Rattle.client.specs.Client.{stage-of, stage-number}
 use Rattle.client.proofs.Laws.{Answers, reply-answers, answers-held}
-use Rattle.capi.specs.Ends.{end-at}
 use Rattle.capi.proofs.Laws.{kept-taken, kept-refused, part-taken, part-refused}
 use Rattle.capi.proofs.ends.cutawheno_end_reply.Statement.{statement}
 use Rattle.capi.proofs.ends.cutawheno_end_reply.Tie as tie
 
--- of the end that the array stands for
-refusal : (c : tie.After-reply-refusal) → let a = c .before .before .before .before .args in
-    c .reply-refusal .result ≡ answer-refusal (end-at (now (a .end))) (now (a .key)) (a .set)
-refusal c =
-    let a = c .before .before .before .before .args in
-    c .reply-refusal .ensures ∙ ap (λ (d : Client). answer-refusal d (now (a .key)) (a .set)) (c .before .end-at .ensures)
-
-answers : (c : tie.Else1) → let a = c .before .before .before .before .before .args in
-    let d = c .before .before .end-at .result in
+answers : (c : tie.Else1) → let e = c .before .before in
+    let d = e .end-at .result in
+    let a = e .before .before .before .args in
     Answers sixteen (plan-of (d .plan)) (d .user) (now (a .key)) (a .set)
 answers c = reply-answers _ (sym (c .before .reply-refusal .ensures) ∙ c .if1 .left)
 
@@ -39,8 +32,8 @@ reply-refusal-requires c κs = search needs
 
 returns : tie.Need-returns
 returns c =
-    let n = refusal (c .before) in
-    (rw n (sym (part-refused (λ z. c .if1 .taken (n ∙ z)) _ _)), (omega arith, sym (kept-refused _ _ _ (λ z. c .if1 .taken (n ∙ z)))))
+    let n = rw (c .before .before .end-at .ensures) at (c .before .reply-refusal .ensures) in
+    (rw n (sym (part-refused _ _ (λ z. c .if1 .taken (n ∙ z)))), (omega arith, sym (kept-refused _ _ _ (λ z. c .if1 .taken (n ∙ z)))))
 
 reply-start-requires : tie.Need-reply-start-requires
 reply-start-requires c κs =
@@ -64,7 +57,8 @@ unfolding stage-number stage-of
 returns-2 c =
     let x = c .before .before .before .before in
     let v = x .before .before .before .args .set in
-    let z = sym (refusal (c .before .before .before)) ∙ c .before .before .if1 .left in
+    let n = rw (x .end-at .ensures) at (c .before .before .before .reply-refusal .ensures) in
+    let z = sym n ∙ c .before .before .if1 .left in
     let start = c .reply-start .ensures .0 in
     let t = answers (c .before .before) in (
       ap (λ (n : ℕ). record { number = 0; start = n; count = x .end-at .result .plan .blocks }) start

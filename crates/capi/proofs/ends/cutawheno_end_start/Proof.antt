@@ -2,9 +2,10 @@
 -- Assumes nothing.
 use mathlib.Core.Path.{sym, _∙_}
 use borrow.Author.Needs.{needs}
+use Rattle.scheme.proofs.Refusals.{after-taken, after-refused}
 use Rattle.client.specs.Client.{stage-of, stage-number}
-use Rattle.capi.specs.Ends.{end-numbers}
-use Rattle.capi.proofs.Laws.{start-taken, start-refused}
+use Rattle.capi.specs.Ends.{end-numbers, start-left}
+use Rattle.capi.proofs.Laws.{begun-number}
 use Rattle.capi.proofs.ends.cutawheno_end_start.Statement.{statement}
 use Rattle.capi.proofs.ends.cutawheno_end_start.Tie as tie
 
@@ -12,16 +13,16 @@ start-refusal-requires : tie.Need-start-refusal-requires
 start-refusal-requires c κs = search needs
 
 returns : tie.Need-returns
+unfolding start-left
 returns c =
-    let n = c .before .start-refusal .ensures in
-    let d = start-refused _ _ _ (λ z. c .if1 .taken (n ∙ z)) in
-    (n ∙ sym (d .0), sym (d .1))
+    let n = c .before .start-refusal .ensures ∙ sym (begun-number _ _ _) in
+    (n, sym (after-refused (λ z. c .if1 .taken (n ∙ z)) _ _))
 
 returns-2 : tie.Need-returns-2
-unfolding end-numbers stage-number stage-of
+unfolding start-left end-numbers stage-number stage-of
 returns-2 c =
-    let d = start-taken _ _ _ (sym (c .before .before .start-refusal .ensures) ∙ c .before .if1 .left) in
-    (sym (d .0), sym (d .1))
+    let z = begun-number _ _ _ ∙ sym (c .before .before .start-refusal .ensures) ∙ c .before .if1 .left in
+    (sym z, sym (after-taken z _ _))
 
 pub cutawheno-end-start-spec : {M : Type 1} → statement M
 cutawheno-end-start-spec = tie.close (tie.spec start-refusal-requires returns returns-2)

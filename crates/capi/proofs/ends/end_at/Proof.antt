@@ -30,7 +30,10 @@ element-copy-out-t6-2 c = search needs
 
 returns : tie.Need-returns
 unfolding end-at
-returns c = let g = c .before .before .before .before .before .stage-of-number in rw (sym (stage-back (g .result)) ∙ ap code-stage (g .ensures))
+returns c =
+    let x = c .before .before .before .before in
+    let g = x .before .stage-of-number in
+    rw (sym (stage-back (g .result)) ∙ ap code-stage (g .ensures))
 
 pub end-at-spec : {M : Type 1} → statement M
 end-at-spec =

@@ -2,9 +2,7 @@
 -- Assumes nothing.
 use mathlib.Core.Path.{ap, _∙_}
 use borrow.Author.Needs.{needs}
-use Rattle.service.specs.declared.Head.{Head}
 use Rattle.service.specs.declared.Closed.{Closed}
-use Rattle.service.specs.Calls.{lent, close-step}
 use Rattle.capi.specs.Lent.{closed-answer, close-left}
 use Rattle.capi.proofs.Lent.{same-head, taken-right, kept-right, close-kept}
 use Rattle.capi.proofs.pooling.cutawheno_service_close.Statement.{statement}
@@ -20,8 +18,7 @@ returns : tie.Need-returns
 unfolding close-left
 returns c =
     let x = c .before in
-    let a = x .before .before .before .before .args in
-    let e = x .close-lent .ensures ∙ ap (λ (h : Head). close-step (lent h (a .first .now) (a .reply .now))) (x .before .before .head-at .ensures) in
+    let e = rw (x .before .before .head-at .ensures) at (x .close-lent .ensures) in
     let n = ap (λ (t : Closed). t .number) e in
     (ap closed-answer e, kept-right _ _ n (c .if1 .taken) (ap (λ (t : Closed). t .service) e) (close-kept _ (λ z. c .if1 .taken (n ∙ z))) .1)
 
@@ -32,8 +29,7 @@ returns-2 : tie.Need-returns-2
 unfolding close-left
 returns-2 c =
     let x = c .before .before .before in
-    let a = x .before .before .before .before .args in
-    let e = x .close-lent .ensures ∙ ap (λ (h : Head). close-step (lent h (a .first .now) (a .reply .now))) (x .before .before .head-at .ensures) in
+    let e = rw (x .before .before .head-at .ensures) at (x .close-lent .ensures) in
     let n = ap (λ (t : Closed). t .number) e in
     (ap closed-answer e, taken-right _ _ n (c .before .before .if1 .left) (ap (λ (t : Closed). t .service) e) (same-head (c .numbers .ensures)) .1)
 

@@ -3,10 +3,7 @@
 use mathlib.Core.Path.{sym, ap, _∙_}
 use borrow.Author.Needs.{needs}
 use Rattle.scheme.proofs.Refusals.{after-taken, after-refused}
-use Rattle.service.specs.declared.Head.{Head}
-use Rattle.service.specs.Calls.{lent}
 use Rattle.finish.specs.declared.Finished.{Finished}
-use Rattle.finish.specs.Finish.{finish-step}
 use Rattle.finish.proofs.Answers.{finish-kept}
 use Rattle.capi.specs.Lent.{finish-left, finish-totals}
 use Rattle.capi.proofs.Lent.{same-head, taken-right, kept-right}
@@ -23,8 +20,7 @@ returns : tie.Need-returns
 unfolding finish-left finish-totals
 returns c =
     let x = c .before .before in
-    let a = x .before .before .before .before .before .args in
-    let e = x .finish-lent .ensures ∙ ap (λ (h : Head). finish-step (lent h (a .first .now) (a .reply .now))) (x .before .before .before .head-at .ensures) in
+    let e = rw (x .before .before .before .head-at .ensures) at (x .finish-lent .ensures) in
     let n = ap (λ (t : Finished). t .number) e in
     let h = kept-right _ _ n (c .if1 .taken) (ap (λ (t : Finished). t .service) e) (finish-kept _ (λ z. c .if1 .taken (n ∙ z))) in
     (h .0, (h .1, sym (after-refused (λ z. c .if1 .taken (n ∙ z)) _ _)))
@@ -36,9 +32,9 @@ returns-2 : tie.Need-returns-2
 unfolding finish-left finish-totals
 returns-2 c =
     let x = c .before .before .before .before in
-    let a = x .before .before .before .before .before .args in
-    let e = x .finish-lent .ensures ∙ ap (λ (h : Head). finish-step (lent h (a .first .now) (a .reply .now))) (x .before .before .before .head-at .ensures) in
-    let h = taken-right _ _ (ap (λ (t : Finished). t .number) e) (c .before .before .if1 .left) (ap (λ (t : Finished). t .service) e) (same-head (c .numbers .ensures)) in
+    let e = rw (x .before .before .before .head-at .ensures) at (x .finish-lent .ensures) in
+    let n = ap (λ (t : Finished). t .number) e in
+    let h = taken-right _ _ n (c .before .before .if1 .left) (ap (λ (t : Finished). t .service) e) (same-head (c .numbers .ensures)) in
     (h .0, (h .1, ap (λ (t : Finished). t .totals) e ∙ sym (after-taken (sym (h .0)) _ _)))
 
 pub cutawheno-service-finish-spec : {M : Type 1} → statement M

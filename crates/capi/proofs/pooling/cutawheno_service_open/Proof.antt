@@ -2,9 +2,8 @@
 -- Assumes nothing.
 use mathlib.Core.Path.{ap, _∙_}
 use borrow.Author.Needs.{needs}
-use Rattle.service.specs.declared.Head.{Head}
 use Rattle.service.specs.declared.Stepped.{Stepped}
-use Rattle.service.specs.Calls.{lent, open-step}
+use Rattle.service.specs.Calls.{open-step}
 use Rattle.scheme.proofs.Refusals.{after-refused}
 use Rattle.capi.specs.Lent.{open-left}
 use Rattle.capi.proofs.Lent.{same-head, taken-right, kept-right}
@@ -21,8 +20,7 @@ returns : tie.Need-returns
 unfolding open-left open-step
 returns c =
     let x = c .before in
-    let a = x .before .before .before .before .before .args in
-    let e = x .open-lent .ensures ∙ ap (λ (h : Head). open-step (lent h (a .first .now) (a .reply .now)) (a .round)) (x .before .before .before .head-at .ensures) in
+    let e = rw (x .before .before .before .head-at .ensures) at (x .open-lent .ensures) in
     let n = ap (λ (t : Stepped). t .number) e in
     kept-right _ _ n (c .if1 .taken) (ap (λ (t : Stepped). t .service) e) (after-refused (λ z. c .if1 .taken (n ∙ z)) _ _)
 
@@ -33,9 +31,9 @@ returns-2 : tie.Need-returns-2
 unfolding open-left
 returns-2 c =
     let x = c .before .before .before in
-    let a = x .before .before .before .before .before .args in
-    let e = x .open-lent .ensures ∙ ap (λ (h : Head). open-step (lent h (a .first .now) (a .reply .now)) (a .round)) (x .before .before .before .head-at .ensures) in
-    taken-right _ _ (ap (λ (t : Stepped). t .number) e) (c .before .before .if1 .left) (ap (λ (t : Stepped). t .service) e) (same-head (c .numbers .ensures))
+    let e = rw (x .before .before .before .head-at .ensures) at (x .open-lent .ensures) in
+    let n = ap (λ (t : Stepped). t .number) e in
+    taken-right _ _ n (c .before .before .if1 .left) (ap (λ (t : Stepped). t .service) e) (same-head (c .numbers .ensures))
 
 pub cutawheno-service-open-spec : {M : Type 1} → statement M
 cutawheno-service-open-spec =

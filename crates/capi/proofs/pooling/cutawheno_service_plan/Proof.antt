@@ -2,11 +2,9 @@
 -- Assumes nothing.
 use mathlib.Core.Path.{ap, _∙_}
 use borrow.Author.Needs.{needs}
-use Rattle.service.specs.declared.Head.{Head}
 use Rattle.service.specs.declared.Stepped.{Stepped}
-use Rattle.service.specs.Calls.{lent, plan-step}
+use Rattle.service.specs.Calls.{plan-step}
 use Rattle.scheme.proofs.Refusals.{after-refused}
-use Rattle.capi.specs.Plans.{code-plan}
 use Rattle.capi.specs.Lent.{plan-left}
 use Rattle.capi.proofs.Lent.{same-head, taken-right, kept-right}
 use Rattle.capi.proofs.pooling.cutawheno_service_plan.Statement.{statement}
@@ -22,8 +20,7 @@ returns : tie.Need-returns
 unfolding plan-left plan-step
 returns c =
     let x = c .before in
-    let a = x .before .before .before .before .before .args in
-    let e = x .plan-lent .ensures ∙ ap (λ (h : Head). plan-step (lent h (a .first .now) (a .reply .now)) (code-plan (a .users) (a .threshold) (a .collusion) (a .blocks))) (x .before .before .before .head-at .ensures) in
+    let e = rw (x .before .before .before .head-at .ensures) at (x .plan-lent .ensures) in
     let n = ap (λ (t : Stepped). t .number) e in
     kept-right _ _ n (c .if1 .taken) (ap (λ (t : Stepped). t .service) e) (after-refused (λ z. c .if1 .taken (n ∙ z)) _ _)
 
@@ -34,9 +31,9 @@ returns-2 : tie.Need-returns-2
 unfolding plan-left
 returns-2 c =
     let x = c .before .before .before in
-    let a = x .before .before .before .before .before .args in
-    let e = x .plan-lent .ensures ∙ ap (λ (h : Head). plan-step (lent h (a .first .now) (a .reply .now)) (code-plan (a .users) (a .threshold) (a .collusion) (a .blocks))) (x .before .before .before .head-at .ensures) in
-    taken-right _ _ (ap (λ (t : Stepped). t .number) e) (c .before .before .if1 .left) (ap (λ (t : Stepped). t .service) e) (same-head (c .numbers .ensures))
+    let e = rw (x .before .before .before .head-at .ensures) at (x .plan-lent .ensures) in
+    let n = ap (λ (t : Stepped). t .number) e in
+    taken-right _ _ n (c .before .before .if1 .left) (ap (λ (t : Stepped). t .service) e) (same-head (c .numbers .ensures))
 
 pub cutawheno-service-plan-spec : {M : Type 1} → statement M
 cutawheno-service-plan-spec =

@@ -34,7 +34,7 @@ element-copy-out-t14-2 c = search needs
 
 returns : tie.Need-returns
 unfolding head-at
-returns c = rw (c .before .before .before .before .before .before .before .phase-at .ensures)
+returns c = let x = c .before .before .before .before in rw (x .before .before .before .phase-at .ensures)
 
 pub head-at-spec : {M : Type 1} → statement M
 head-at-spec =

@@ -28,7 +28,8 @@ all-are-requires c κs = search needs
 returns-2 : tie.Need-returns-2
 returns-2 c =
     let s = c .before .before .before in
-    just _ _ _ _ _ (s .before .front .ensures) (c .before .rest .ensures) (s .same .ensures .sound (not-false _ (c .before .before .if1 .left))) (c .all-are .ensures)
+    let first = s .same .ensures .sound (not-false _ (c .before .before .if1 .left)) in
+    just _ _ _ _ _ (s .before .front .ensures) (c .before .rest .ensures) first (c .all-are .ensures)
 
 pub holds-just-spec : {M : Type 1} → statement M
 holds-just-spec =

@@ -20,7 +20,10 @@ returns : tie.Need-returns
 returns c = search needs
 
 returns-2 : tie.Need-returns-2
-returns-2 c = let past : length (c .before .before .args .s .now) ≤ c .before .before .args .i = search needs in (sym (List·getD-eq-default (c .before .before .args .s .now) 0 past), search needs)
+returns-2 c =
+    let a = c .before .before .args in
+    let past : length (a .s .now) ≤ a .i = search needs in
+    (sym (List·getD-eq-default (a .s .now) 0 past), search needs)
 
 pub number-at-spec : {M : Type 1} → statement M
 number-at-spec =

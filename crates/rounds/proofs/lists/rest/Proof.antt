@@ -34,7 +34,9 @@ part-result-end-2 : tie.Need-part-result-end-2
 part-result-end-2 c = search needs
 
 returns-2 : tie.Need-returns-2
-returns-2 c = let a = c .before .before .args in take-all (length (a .s .now) - a .from) (drop (a .from) (a .s .now)) (omega (arith, length-drop (a .from) (a .s .now)))
+returns-2 c =
+    let a = c .before .before .args in
+    take-all (length (a .s .now) - a .from) (drop (a .from) (a .s .now)) (omega (arith, length-drop (a .from) (a .s .now)))
 
 pub rest-spec : {M : Type 1} → statement M
 rest-spec =
