@@ -1,5 +1,5 @@
 -- Tests, lists and refusals; sums, sets and keys; demand 3 (Add, Delta, Told, Modular); totals and the service (Totals, Held, Well,
--- Choices, Service); what is sharp (Sharp, Settled, FirstUsers, Collusion, Threshold).
+-- Choices, Service); what is sharp (Sharp, Settled, FirstUsers, Collusion, Threshold); loops that make a key (Weighed, KeyRows to KeyWriting).
 pub mod Tests
 pub mod Good
 pub mod Lists

@@ -1,5 +1,5 @@
 -- Read Scheme, then Promise: the definitions of document 01 and the promise of demand 3. Laws and Delta serve its proof, and Modular is
--- the arithmetic with its laws. Totals, Service and ServicePromise are demands 1 and 2.
+-- the arithmetic with its laws. Totals, Service and ServicePromise are demands 1 and 2. Weighed and KeyParts are what a key is made from.
 pub mod Limits
 pub mod Lists
 pub mod Scheme
