@@ -58,14 +58,10 @@ mul-out : tie.Need-mul-out Inv-loop μ-loop
 mul-out c = search needs
 
 slice-write-out : tie.Need-slice-write-out Inv-loop μ-loop
-slice-write-out c =
-    let t = c .before .before .before .before in
-    omega (arith, long (t .before))
+slice-write-out c = let t = c .before .before .before .before in omega (arith, long (t .before))
 
 add-from : tie.Need-add-from Inv-loop μ-loop
-add-from c =
-    let t = c .before .before .before .before in
-    omega (arith, inside t, begun (t .before) .good)
+add-from c = let t = c .before .before .before .before in omega (arith, inside t, begun (t .before) .good)
 
 add-b : tie.Need-add-b Inv-loop μ-loop
 add-b c = search needs
