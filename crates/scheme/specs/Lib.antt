@@ -1,6 +1,6 @@
 -- Read Scheme, then Promise: the definitions of document 01 and the promise of demand 3. Laws and Delta serve its proof, and Modular is
 -- the arithmetic with its laws. Totals, Service and ServicePromise are demands 1 and 2. Weighed and Solve are what key maker and solver
--- compute.
+-- compute, and KeyParts the parts of a key.
 pub mod Limits
 pub mod Lists
 pub mod Scheme
