@@ -17,10 +17,10 @@ use Rattle.scheme.specs.Totals.{explains-all, Choice, One-choice}
 use Rattle.scheme.specs.Service.{has-plan, replied, refusal, values, explained-by}
 use Rattle.scheme.proofs.Tests.{holds}
 use Rattle.scheme.proofs.Good.{good-back}
-use Rattle.scheme.proofs.Refusals.{unless-zero}
+use Rattle.scheme.proofs.Refusals.{then-zero, unless-zero}
 use Rattle.scheme.proofs.Sums.{row-value-small}
 use Rattle.scheme.proofs.Totals.{Explained, explained, explained-back, one-choice}
-use Rattle.scheme.proofs.Well.{test-held, finishing}
+use Rattle.scheme.proofs.Well.{plan-here, gathers, replies, finishing}
 use Rattle.scheme.proofs.Choices as Choices
 use Rattle.scheme.proofs.Modular.{sixteen-laws}
 use Rattle.document03.specs.Ours.{our-plan, our-held, our-state, our-record}
@@ -77,12 +77,12 @@ has-plan-here s h = eqb-false (s .phase) 0 (planned-same (s .phase) ∙ ap not h
 
 changed-sound : (r : S.Record) (s : S.State) → Sound s → S.record-refusal r s ≡ 0 → Sound (S.changed r s)
 unfolding S.changed S.planned S.gathered S.with-first S.closed S.with-reply S.idle-again our-record refusal
-changed-sound (S.a-plan p) s h e = λ z. plan-good-same p ∙ unless-zero _ 0 (test-held _ 10 _ (sym (refusal-same (S.a-plan p) s) ∙ e) .1)
-changed-sound (S.open-round r) s h e = λ z. h (has-plan-here s (test-held _ 10 _ (sym (refusal-same (S.open-round r) s) ∙ e) .0))
+changed-sound (S.a-plan p) s h e = λ z. plan-good-same p ∙ unless-zero _ _ (then-zero _ _ (sym (refusal-same (S.a-plan p) s) ∙ e) .1)
+changed-sound (S.open-round r) s h e = λ z. h (has-plan-here s (plan-here _ (then-zero _ _ (sym (refusal-same (S.open-round r) s) ∙ e) .0)))
 changed-sound (S.first-element k i x) s h e = h
-changed-sound S.close-round s h e = λ z. h (has-plan-here s (test-held _ 10 _ (sym (refusal-same S.close-round s) ∙ e) .0))
+changed-sound S.close-round s h e = λ z. h (has-plan-here s (gathers _ (then-zero _ _ (sym (refusal-same S.close-round s) ∙ e) .0) .0))
 changed-sound (S.reply-element k b x) s h e = h
-changed-sound S.finish-round s h e = λ z. h (has-plan-here s (test-held _ 10 _ (sym (refusal-same S.finish-round s) ∙ e) .0))
+changed-sound S.finish-round s h e = λ z. h (has-plan-here s (replies _ (then-zero _ _ (sym (refusal-same S.finish-round s) ∙ e) .0) .0))
 
 steps-sound : (r : S.Record) (s t : S.State) (l : S.Line) → Sound s → S.Steps r s l t → Sound t
 unfolding S.record-refusal S.changed
@@ -102,9 +102,15 @@ finished s h e =
     let p = our-plan (s .plan-of) in
     let g = finish-good s h e in
     ⊎-elim
-    (λ c. record { line = S.told-total (s .round) (S.totals s (c .choice)); state = S.idle-again s; step = S.summed s (c .choice) e (explained-same s g (c .choice) ∙ c .right) })
+    (λ c.
+    record {
+      line = S.told-total (s .round) (S.totals s (c .choice));
+      state = S.idle-again s;
+      step = S.summed s (c .choice) e (explained-same s g (c .choice) ∙ c .right);
+    })
     (λ none. record { line = S.refused 16; state = s; step = S.unexplained s e (λ f d. none f (sym (explained-same s g f) ∙ d)) })
-    (decided p (sixteen-laws p (good-back p g)) (values (our-held (s .replies))) (replied (our-state s)) (finishing sixteen (our-state s) (finish-same s e) .many))
+    (decided p (sixteen-laws p (good-back p g)) (values (our-held (s .replies))) (replied (our-state s))
+    (finishing sixteen (our-state s) (finish-same s e) .many))
 
 pub always-answers : Always-answers
 unfolding Always-answers S.record-refusal S.quick

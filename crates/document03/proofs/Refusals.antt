@@ -13,6 +13,7 @@ use borrow.Author.Tests.{le-ltb, lt-ltb, le-leb, lt-leb, eq-eqb, ne-eqb}
 use lib.Dec.{ltb, leb, eqb, eqb·suc-zero, eqb·suc-suc}
 use lib.ListN.{length}
 use Rattle.scheme.specs.Scheme.{sixteen, plan-good, is-user, _then_, unless, is-fresh, open-to, start-refusal, key-refusal, message-refusal, reply-refusal}
+use Rattle.scheme.proofs.Refusals.{then-assoc}
 use Rattle.client.specs.Client.{stage-of-number}
 use Rattle.document03.specs.Ours.{our-plan}
 use Rattle.document03.specs.Scheme as D
@@ -38,11 +39,6 @@ refuse-start {a} {b} {x} {y} e d = rw (e, d) (go b)
     go : (b : ℕ) → cond (not (eqb b 0)) b y ≡ (b then y)
     go zero = refl
     go (suc b) = rw (eqb·suc-zero b)
-
-then-assoc : (a b c : ℕ) → ((a then b) then c) ≡ (a then b then c)
-unfolding _then_
-then-assoc zero b c = refl
-then-assoc (suc a) b c = refl
 
 then-nothing : (a : ℕ) → (a then 0) ≡ a
 unfolding _then_
@@ -75,18 +71,18 @@ open-same (suc (suc w)) v h =
 
 -- ---- the numbers
 pub refuse-user : (p : D.Plan) (k : ℕ) {x y : ℕ} → x ≡ y → cond (eqb k 0 || ltb (p .k) k) 4 x ≡ (unless (is-user (our-plan p) k) 4 then y)
-refuse-user p k {x} d = ap (λ (t : Bool). cond t 4 x) (is-user-same p k) ∙ refuse 3 refl d
+refuse-user p k {x} d = ap (λ (t : Bool). cond t 4 x) (is-user-same p k) ∙ refuse _ refl d
 
 pub start-refusal-same : (p : D.Plan) (k : ℕ) → E.start-refusal p k ≡ start-refusal (our-plan p) k
 unfolding E.start-refusal start-refusal
-start-refusal-same p k = refuse 0 (plan-good-same p) (refuse-user p k refl ∙ then-nothing (unless (is-user (our-plan p) k) 4))
+start-refusal-same p k = refuse _ (plan-good-same p) (refuse-user p k refl ∙ then-nothing (unless (is-user (our-plan p) k) 4))
 
 pub key-refusal-same : (p : D.Plan) (k : ℕ) (xs : List ℕ) (o : ℕ) → E.key-refusal p k xs o ≡ key-refusal sixteen (our-plan p) k xs o
 unfolding E.key-refusal key-refusal start-refusal
 key-refusal-same p k xs o =
-    refuse 0 (plan-good-same p)
+    refuse _ (plan-good-same p)
     (refuse-user p k
-    (refuse 1 (ap₂ (λ (m n : ℕ). eqb (length xs) m && eqb o n) (list-long-same p) (key-long-same p k)) (refuse-last 2 (elements-same xs))))
+    (refuse _ (ap₂ (λ (m n : ℕ). eqb (length xs) m && eqb o n) (list-long-same p) (key-long-same p k)) (refuse-last _ (elements-same xs))))
     ∙ sym (then-assoc (unless (plan-good (our-plan p)) 1) (unless (is-user (our-plan p) k) 4) _)
 
 pub message-refusal-same : (p : D.Plan) (k g : ℕ) (ks fs : List ℕ) (o : ℕ)
@@ -94,9 +90,9 @@ pub message-refusal-same : (p : D.Plan) (k g : ℕ) (ks fs : List ℕ) (o : ℕ)
 unfolding E.message-refusal message-refusal
 message-refusal-same p k g ks fs o =
     refuse-start (start-refusal-same p k)
-    (refuse 17 (fresh-same g)
-    (refuse 1 (ap₂ (λ (m n : ℕ). eqb (length ks) m && (eqb (length fs) n && eqb o n)) (key-long-same p k) (places-same p))
-    (refuse-last 2 (ap₂ (λ (a b : Bool). a && b) (elements-same ks) (elements-same fs)))))
+    (refuse _ (fresh-same g)
+    (refuse _ (ap₂ (λ (m n : ℕ). eqb (length ks) m && (eqb (length fs) n && eqb o n)) (key-long-same p k) (places-same p))
+    (refuse-last _ (ap₂ (λ (a b : Bool). a && b) (elements-same ks) (elements-same fs)))))
 
 -- a fresh end is refused before its set is looked at
 refuse-fresh : (g : ℕ) {x y : ℕ} → (1 ≤ g → x ≡ y) → cond (eqb g 0) 18 x ≡ (unless (not (is-fresh (stage-of-number g))) 18 then y)
@@ -111,5 +107,5 @@ unfolding E.part-refusal reply-refusal
 part-refusal-same p k g ks v =
     refuse-start (start-refusal-same p k)
     (refuse-fresh g (λ later.
-    refuse 1 (ap (eqb (length ks)) (key-long-same p k))
-    (refuse 2 (elements-same ks) (refuse 4 (usable-same p v) (refuse 5 (in-set-same v k) (refuse-last 18 (open-same g v later)))))))
+    refuse _ (ap (eqb (length ks)) (key-long-same p k))
+    (refuse _ (elements-same ks) (refuse _ (usable-same p v) (refuse _ (in-set-same v k) (refuse-last _ (open-same g v later)))))))

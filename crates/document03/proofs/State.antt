@@ -14,9 +14,10 @@ use native.Mathlib.Omega.{arith}
 use borrow.Author.Tests.{le-ltb, lt-ltb, le-leb, lt-leb, eq-eqb, ne-eqb}
 use lib.Dec.{ltb, leb, eqb}
 use Rattle.scheme.specs.Lists.{span, all-of}
-use Rattle.scheme.specs.Scheme.{q, sixteen, places, ones, _then_, unless}
-use Rattle.scheme.specs.Service.{has-plan, is-gathering, is-replying, is-held, element-of, with-element, set-of, complete-set, gathered, replied, refusal}
+use Rattle.scheme.specs.Scheme.{q, sixteen, places, is-user, ones, _then_, unless}
+use Rattle.scheme.specs.Service.{has-plan, is-gathering, is-replying, plan-missing, second-plan, not-gathering, not-replying, is-held, element-of, with-element, set-of, complete-set, gathered, replied, element-refusal, refusal}
 use Rattle.scheme.proofs.Tests.{not-not}
+use Rattle.scheme.proofs.Refusals.{then-assoc}
 use Rattle.document03.specs.Ours.{our-plan, our-phase, our-held, our-state, our-record}
 use Rattle.document03.specs.Scheme as D
 use Rattle.document03.specs.Service as S
@@ -47,13 +48,15 @@ element-cond false x o = refl
 pub held-same : (k i : ℕ) (hs : List S.Held) → S.held k i hs ≡ is-held (our-held hs k i)
 unfolding S.held our-held is-held with-element
 held-same k i [] = refl
-held-same k i (h ∷ hs) = ap₂ (λ (a b : Bool). a || b) (here-same h k i) (held-same k i hs) ∙ sym (is-held-cond (eqb k (h .k) && eqb i (h .at)) (h .value) (our-held hs k i))
+held-same k i (h ∷ hs) =
+    ap₂ (λ (a b : Bool). a || b) (here-same h k i) (held-same k i hs) ∙ sym (is-held-cond (eqb k (h .k) && eqb i (h .at)) (h .value) (our-held hs k i))
 
 pub held-value-same : (k i : ℕ) (hs : List S.Held) → S.held-value k i hs ≡ element-of (our-held hs k i)
 unfolding S.held-value our-held element-of with-element
 held-value-same k i [] = refl
 held-value-same k i (h ∷ hs) =
-    ap₂ (λ (a : Bool) (x : ℕ). cond a (h .value) x) (here-same h k i) (held-value-same k i hs) ∙ sym (element-cond (eqb k (h .k) && eqb i (h .at)) (h .value) (our-held hs k i))
+    ap₂ (λ (a : Bool) (x : ℕ). cond a (h .value) x) (here-same h k i) (held-value-same k i hs)
+    ∙ sym (element-cond (eqb k (h .k) && eqb i (h .at)) (h .value) (our-held hs k i))
 
 -- ---- the airfields with all their elements held
 all-held-same : (n i k : ℕ) (hs : List S.Held) → S.all-held n i k hs ≡ all-of (λ j. is-held (our-held hs k j)) (span n i)
@@ -74,7 +77,8 @@ complete-same p e hs = complete-from-same (p .k) 1 e hs
 pub gathered-same : (s : S.State) → S.complete-from (s .plan-of .k) 1 (D.places (s .plan-of)) (s .firsts) ≡ gathered (our-state s)
 unfolding gathered
 gathered-same s =
-    ap (λ (n : ℕ). S.complete-from (s .plan-of .k) 1 n (s .firsts)) (places-same (s .plan-of)) ∙ complete-same (s .plan-of) (places (our-plan (s .plan-of))) (s .firsts)
+    ap (λ (n : ℕ). S.complete-from (s .plan-of .k) 1 n (s .firsts)) (places-same (s .plan-of))
+    ∙ complete-same (s .plan-of) (places (our-plan (s .plan-of))) (s .firsts)
 
 pub replied-same : (s : S.State) → S.replied s ≡ replied (our-state s)
 unfolding S.replied replied
@@ -128,25 +132,35 @@ few-same : (n u : ℕ) {v w : ℕ} → v ≡ w → ltb (D.ones n v) u ≡ not (l
 few-same n u {v} e = ap (λ (x : ℕ). ltb x u) (ones-same n v ∙ ap (ones n) e) ∙ ltb-not _ u
 
 -- ---- refusals
+refuse-missing : (n : ℕ) {x y : ℕ} → x ≡ y → cond (eqb n 0) 11 x ≡ (plan-missing (our-phase n) then y)
+unfolding plan-missing
+refuse-missing n d = refuse-if _ _ (planned-same n) d
+
+refuse-gathering : (n : ℕ) {x y : ℕ} → x ≡ y → cond (eqb n 0) 11 (cond (not (eqb n 2)) 12 x) ≡ (not-gathering (our-phase n) then y)
+unfolding not-gathering
+refuse-gathering n d = refuse-missing n (refuse _ (gathering-same n) d) ∙ sym (then-assoc _ _ _)
+
+refuse-replying : (n : ℕ) {x y : ℕ} → x ≡ y → cond (eqb n 0) 11 (cond (not (eqb n 3)) 12 x) ≡ (not-replying (our-phase n) then y)
+unfolding not-replying
+refuse-replying n d = refuse-missing n (refuse _ (replying-same n) d) ∙ sym (then-assoc _ _ _)
+
+refuse-element :
+    (p : D.Plan) (k i v : ℕ) {l m x y : ℕ} → l ≡ m → x ≡ y →
+    cond (eqb k 0 || ltb (p .k) k) 4 (cond (leb l i) 8 (cond (leb q v) 3 x)) ≡ (element-refusal sixteen (p .k) m k i v then y)
+unfolding element-refusal is-user
+refuse-element p k i v {m} e d =
+    simp then-assoc (refuse-user p k (refuse-if _ _ (ap (λ (n : ℕ). leb n i) e ∙ leb-not m i) (refuse-if _ _ (leb-not q v) d)))
+
 pub refusal-same : (r : S.Record) (s : S.State) → S.record-refusal r s ≡ refusal sixteen (our-record r) (our-state s)
-unfolding S.record-refusal S.plan-refusal S.open-refusal S.first-refusal S.close-refusal S.reply-refusal S.finish-refusal refusal our-record
-refusal-same (S.a-plan p) s = refuse 10 (planned-same (s .phase)) (refuse-last 0 (plan-good-same p))
-refusal-same (S.open-round r) s = refuse-if 10 _ (planned-same (s .phase)) (refuse-if-last 16 _ (leb-not r (s .round)))
+unfolding S.record-refusal S.plan-refusal S.open-refusal S.first-refusal S.close-refusal S.reply-refusal S.finish-refusal refusal second-plan our-record
+refusal-same (S.a-plan p) s = refuse _ (planned-same (s .phase)) (refuse-last _ (plan-good-same p))
+refusal-same (S.open-round r) s = refuse-missing (s .phase) (refuse-if-last _ _ (leb-not r (s .round)))
 refusal-same (S.first-element k i x) s =
-    refuse-if 10 _ (planned-same (s .phase))
-    (refuse 11 (gathering-same (s .phase))
-    (refuse-user (s .plan-of) k
-    (refuse-if 7 _ (ap (λ (n : ℕ). leb n i) (places-same (s .plan-of)) ∙ leb-not _ i)
-    (refuse-if 2 _ (leb-not q x) (refuse-if-last 12 _ (held-same k i (s .firsts) ∙ sym (not-not _)))))))
-refusal-same S.close-round s =
-    refuse-if 10 _ (planned-same (s .phase))
-    (refuse 11 (gathering-same (s .phase)) (refuse-if-last 14 _ (few-same (s .plan-of .k) (s .plan-of .u) (gathered-same s))))
+    refuse-gathering (s .phase)
+    (refuse-element (s .plan-of) k i x (places-same (s .plan-of)) (refuse-if-last _ _ (held-same k i (s .firsts) ∙ sym (not-not _))))
+refusal-same S.close-round s = refuse-gathering (s .phase) (refuse-if-last _ _ (few-same (s .plan-of .k) (s .plan-of .u) (gathered-same s)))
 refusal-same (S.reply-element k b x) s =
-    refuse-if 10 _ (planned-same (s .phase))
-    (refuse 11 (replying-same (s .phase))
-    (refuse-user (s .plan-of) k
-    (refuse-if 7 _ (leb-not (s .plan-of .m) b)
-    (refuse-if 2 _ (leb-not q x) (refuse 13 (in-set-same (s .survivors) k) (refuse-if-last 12 _ (held-same k b (s .replies) ∙ sym (not-not _))))))))
-refusal-same S.finish-round s =
-    refuse-if 10 _ (planned-same (s .phase))
-    (refuse 11 (replying-same (s .phase)) (refuse-if-last 14 _ (few-same (s .plan-of .k) (s .plan-of .u) (replied-same s))))
+    refuse-replying (s .phase)
+    (refuse-element (s .plan-of) k b x refl
+    (refuse _ (in-set-same (s .survivors) k) (refuse-if-last _ _ (held-same k b (s .replies) ∙ sym (not-not _)))))
+refusal-same S.finish-round s = refuse-replying (s .phase) (refuse-if-last _ _ (few-same (s .plan-of .k) (s .plan-of .u) (replied-same s)))

@@ -4,16 +4,17 @@
 --   steps-ours               a step of ours, from a state that stands for one of document 03's, is a step there
 -- Assumes nothing.
 use mathlib.Core.Path.{_≡_, refl, sym, ap, ap₂, _∙_, subst}
+use mathlib.Core.Logic.{_≢_}
 use mathlib.Core.Bool.{true, not}
 use mathlib.Core.List.{List}
-use Prim.Native.Nat.{ℕ, suc}
+use Prim.Native.Nat.{ℕ, zero, suc}
 use native.Mathlib.Omega.{arith}
 use borrow.Author.Tests.{not-true, eqb-true}
 use Rattle.scheme.specs.Scheme.{sixteen}
 use Rattle.scheme.specs.Good.{Good}
 use Rattle.scheme.specs.Service.{replying, State, nothing, Record, finish-record, Answer, closed, totalled, refused, refusal, planned-state, opened-state, idle-state, next-state, answer-of, is-finish, explained-by, totals-by, Steps, refuses, accepts, totals-up, disagrees}
 use Rattle.scheme.proofs.Good.{good}
-use Rattle.scheme.proofs.Well.{finishing}
+use Rattle.scheme.proofs.Well.{finishing, refuses-as}
 use Rattle.document03.specs.Ours.{our-plan, our-phase, our-held, our-state, our-record, our-answer}
 use Rattle.document03.specs.Service as S
 use Rattle.document03.specs.Conform.{Sound, Steps-same, Stepped, Steps-ours}
@@ -69,7 +70,7 @@ finish-back s e = refusal-same S.finish-round s ∙ e
 -- ---- document 03's steps are ours
 pub steps-same : Steps-same
 unfolding Steps-same our-record our-answer our-phase our-held S.idle-again idle-state
-steps-same _ _ _ _ h (S.turned-away r s n e) = refuses (our-record r) (our-state s) n (sym (refusal-same r s) ∙ e)
+steps-same _ _ _ _ h (S.turned-away r s n e) = refuses-as sixteen (our-record r) (our-state s) (λ z. omega arith) (sym (refusal-same r s) ∙ e)
 steps-same _ _ _ _ h (S.taken r s quick e) =
     rw (line-same r s, changed-same r s) (accepts (our-record r) (our-state s) (not-true _ (sym (quick-same r) ∙ quick)) (sym (refusal-same r s) ∙ e))
 steps-same _ _ _ _ h (S.summed s f e d) =
@@ -91,9 +92,13 @@ pub steps-ours : Steps-ours
 unfolding Steps-ours our-answer our-phase our-held S.idle-again idle-state
 steps-ours r s a t h st = go (our-record r) (our-state s) a t refl refl st
   where
+    turned : (n : ℕ) → n ≢ 0 → S.record-refusal r s ≡ n → S.Steps r s (S.refused n) s
+    turned zero h e = absurd (h refl)
+    turned (suc n) h e = S.turned-away r s n e
+
     go : (o : Record) (u : State) (a : Answer) (t : State) → our-record r ≡ o → our-state s ≡ u → Steps sixteen o u a t → Stepped r s a t
-    go _ _ _ _ d c (refuses o u n e) =
-        record { line = S.refused (suc n); state = s; step = S.turned-away r s n (refusal-same r s ∙ ap₂ (refusal sixteen) d c ∙ e); says = refl; leads = c }
+    go _ _ _ _ d c (refuses o u e) =
+        record { line = S.refused (refusal sixteen o u); state = s; step = turned _ e (refusal-same r s ∙ ap₂ (refusal sixteen) d c); says = refl; leads = c }
     go _ _ _ _ d c (accepts o u f e) =
         record {
           line = S.line-of r s;

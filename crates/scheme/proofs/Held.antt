@@ -89,16 +89,23 @@ unfolding ones
 part zero v u h = record { set = v; size = omega arith; inside = λ k lo e. e }
 part (suc n) v u h = pick (decLe u (ones n (v / 2))) (part n (v / 2) u)
   where
-    inside : (w : ℕ) → ((k : ℕ) → 1 ≤ k → in-set w k ≡ true → in-set (v / 2) k ≡ true) → (k : ℕ) → 1 ≤ k → in-set (w * 2 + bit false) k ≡ true → in-set v k ≡ true
+    inside : (w : ℕ) → ((k : ℕ) → 1 ≤ k → in-set w k ≡ true → in-set (v / 2) k ≡ true)
+        → (k : ℕ) → 1 ≤ k → in-set (w * 2 + bit false) k ≡ true → in-set v k ≡ true
     inside w h zero lo e = absurd (omega arith)
     inside w h (suc zero) lo e = absurd (holds (sym (in-first false w) ∙ e))
     inside w h (suc (suc k)) lo e =
-        in-half v k ∙ h (suc k) (omega arith) (ap (λ (x : ℕ). in-set x (suc k)) (sym (high w (bit false) 2 (bit-lt false))) ∙ sym (in-half (w * 2 + bit false) k) ∙ e)
+        in-half v k
+        ∙ h (suc k) (omega arith) (ap (λ (x : ℕ). in-set x (suc k)) (sym (high w (bit false) 2 (bit-lt false))) ∙ sym (in-half (w * 2 + bit false) k) ∙ e)
 
     pick : Dec (u ≤ ones n (v / 2)) → (u ≤ ones n (v / 2) → Part n (v / 2) u) → Part (suc n) v u
     pick (yes l) rest =
         let r = rest l in
-        record { set = r .set * 2 + bit false; size = ap₂ _+_ (low (r .set) (bit false) 2 (bit-lt false)) (ap (ones n) (high (r .set) (bit false) 2 (bit-lt false)) ∙ r .size) ∙ zero-add u; inside = inside (r .set) (r .inside) }
+        let half = high (r .set) (bit false) 2 (bit-lt false) in
+        record {
+          set = r .set * 2 + bit false;
+          size = ap₂ _+_ (low (r .set) (bit false) 2 (bit-lt false)) (ap (ones n) half ∙ r .size) ∙ zero-add u;
+          inside = inside (r .set) (r .inside);
+        }
     pick (no l) rest = record { set = v; size = omega (arith, mod-lt v (zero-lt-suc 1)); inside = λ k lo e. e }
 
 -- ---- what is held

@@ -1,12 +1,17 @@
 -- Refusals: what `then`, `unless` and `after` come to.
 --   then-taken, then-refused         the first of two refusals
+--   then-stops                       the first has answered, and not 0
 --   then-zero                        both are 0
+--   then-same                        refusals that agree once the first is passed
+--   then-assoc                       three in a row
 --   unless-held, unless-failed       one test
 --   unless-zero                      the number is not 0, so the test held
---   after-taken, after-refused   what a call leaves
+--   test-held                        the same of a test that others follow
+--   after-taken, after-refused       what a call leaves
+--   after-in                         and what it leaves of a part leaves the whole
 --   start-taken                      a call that start's tests let pass has a good plan and one of its users
 -- Assumes nothing.
-use mathlib.Core.Path.{_≡_, refl, ap}
+use mathlib.Core.Path.{_≡_, refl, sym, ap, ap₂, _∙_}
 use mathlib.Core.Bool.{Bool, true, false}
 use mathlib.Core.List.{List}
 use Prim.Native.Nat.{ℕ, zero, suc, _≤_}
@@ -26,10 +31,23 @@ unfolding _then_
 then-refused {a = zero} h b = absurd (h refl)
 then-refused {a = suc a} h b = refl
 
+pub then-stops : {a n : ℕ} → n ≡ a → (n ≡ 0 → ⊥) → (b : ℕ) → n ≡ (a then b)
+then-stops e h b = e ∙ sym (then-refused (λ z. h (e ∙ z)) b)
+
 pub then-zero : (a b : ℕ) → (a then b) ≡ 0 → (a ≡ 0) × (b ≡ 0)
 unfolding _then_
 then-zero zero b e = (refl, e)
 then-zero (suc a) b e = absurd (omega arith)
+
+pub then-same : {a b c d : ℕ} → a ≡ b → (b ≡ 0 → c ≡ d) → (a then c) ≡ (b then d)
+unfolding _then_
+then-same {b = zero} e h = ap₂ _then_ e (h refl)
+then-same {b = suc b} {c} e h = ap (λ (n : ℕ). n then c) e
+
+pub then-assoc : (a b c : ℕ) → ((a then b) then c) ≡ (a then b then c)
+unfolding _then_
+then-assoc zero b c = refl
+then-assoc (suc a) b c = refl
 
 pub unless-held : {b : Bool} → b ≡ true → (n : ℕ) → unless b n ≡ 0
 unfolding unless
@@ -44,6 +62,9 @@ unfolding unless
 unless-zero true n e = refl
 unless-zero false n e = absurd (omega arith)
 
+pub test-held : (b : Bool) (n m : ℕ) → (unless b (suc n) then m) ≡ 0 → (b ≡ true) × (m ≡ 0)
+test-held b n m e = let s = then-zero (unless b (suc n)) m e in (unless-zero b n (s .0), s .1)
+
 pub after-taken : {A : Type 0} {n : ℕ} → n ≡ 0 → (new old : A) → after n new old ≡ new
 unfolding after
 after-taken e new old = ap (λ (n : ℕ). after n new old) e
@@ -52,6 +73,11 @@ pub after-refused : {A : Type 0} {n : ℕ} → (n ≡ 0 → ⊥) → (new old : 
 unfolding after
 after-refused {n = zero} h new old = absurd (h refl)
 after-refused {n = suc n} h new old = refl
+
+pub after-in : {A B : Type 0} (f : A → B) (n : ℕ) (new old : A) → f (after n new old) ≡ after n (f new) (f old)
+unfolding after
+after-in f zero new old = refl
+after-in f (suc n) new old = refl
 
 pub start-taken : (p : Plan) (k : ℕ) → start-refusal p k ≡ 0 → Good p × (1 ≤ k) × (k ≤ p .users)
 unfolding start-refusal is-user

@@ -15,12 +15,12 @@ use borrow.Author.Tests.{lt-ltb, ltb-true, eqb-false}
 use Rattle.scheme.specs.Lists.{span}
 use Rattle.scheme.specs.Scheme.{Arithmetic, sixteen, Plan, plan-good, places, total-at, _then_, unless}
 use Rattle.scheme.specs.Totals.{One-choice, Some-choice, Rules-explain, Totals-right}
-use Rattle.scheme.specs.Service.{has-plan, State, replied, Record, plan-record, open-record, first-record, close-record, reply-record, finish-record, Answer, opened, totalled, refused, refusal, planned-state, opened-state, next-state, answer-of, is-finish, values, explained-by, totals-by, Steps, refuses, accepts, totals-up, disagrees, Runs, more, Well}
+use Rattle.scheme.specs.Service.{has-plan, plan-missing, second-plan, not-gathering, not-replying, State, replied, Record, plan-record, open-record, first-record, close-record, reply-record, finish-record, Answer, opened, totalled, refused, element-refusal, refusal, planned-state, opened-state, next-state, answer-of, is-finish, values, explained-by, totals-by, Steps, refuses, accepts, totals-up, disagrees, Runs, more, Well}
 use Rattle.scheme.specs.ServicePromise.{One-answer, Answered, Always-answers, Refused-unchanged, As-new, Finish-right, Unexplained, Sixteen-exactly, Never-sixteen, Demand-2}
 use Rattle.scheme.specs.Laws.{Laws}
 use Rattle.scheme.proofs.Tests.{holds}
-use Rattle.scheme.proofs.Refusals.{then-taken, unless-held, unless-zero}
-use Rattle.scheme.proofs.Well.{test-held, finishing, steps-well, stays-well}
+use Rattle.scheme.proofs.Refusals.{then-taken, then-zero, unless-held, unless-zero}
+use Rattle.scheme.proofs.Well.{finishing, steps-well, stays-well}
 use Rattle.scheme.proofs.Choices.{totals-same, decided}
 use Rattle.scheme.proofs.Modular.{sixteen-laws}
 use Rattle.scheme.proofs.Totals.{one-choice, some-choice, rules-explain, totals-right}
@@ -35,31 +35,32 @@ answer-not-refused (reply-record k b x) s n e = let z : _≡_ {A = ℕ} 0 1 = cc
 answer-not-refused finish-record s n e = let z : _≡_ {A = ℕ} 0 1 = cc in omega arith
 
 -- only finish is refused 16, and not by its tests
-test-not : (b : Bool) (n m : ℕ) → eqb n 16 ≡ false → m ≢ 16 → (unless b n then m) ≢ 16
-unfolding unless _then_
-test-not true n m h l = l
-test-not false zero m h l = l
-test-not false (suc n) m h l = eqb-false (suc n) 16 h
+then-not : {a b : ℕ} → a ≢ 16 → b ≢ 16 → (a then b) ≢ 16
+unfolding _then_
+then-not {a = zero} h l = l
+then-not {a = suc a} h l = h
 
-last-not : (b : Bool) (n : ℕ) → eqb n 16 ≡ false → unless b n ≢ 16
+test-not : (b : Bool) (n : ℕ) → eqb n 16 ≡ false → unless b n ≢ 16
 unfolding unless
-last-not true n h = λ e. omega arith
-last-not false n h = eqb-false n 16 h
+test-not true n h = λ e. omega arith
+test-not false n h = eqb-false n 16 h
 
 module _ (A : Arithmetic) where
   not-sixteen : (r : Record) (s : State) → refusal A r s ≢ 16
-  unfolding refusal
-  not-sixteen (plan-record p) s = test-not _ 11 _ refl (last-not _ 1 refl)
-  not-sixteen (open-record r) s = test-not _ 11 _ refl (last-not _ 17 refl)
+  unfolding refusal plan-missing second-plan not-gathering not-replying element-refusal
+  not-sixteen (plan-record p) s = then-not (test-not _ 11 refl) (test-not _ 1 refl)
+  not-sixteen (open-record r) s = then-not (test-not _ 11 refl) (test-not _ 17 refl)
   not-sixteen (first-record k i x) s =
-      test-not _ 11 _ refl (test-not _ 12 _ refl (test-not _ 4 _ refl (test-not _ 8 _ refl (test-not _ 3 _ refl (last-not _ 13 refl)))))
-  not-sixteen close-record s = test-not _ 11 _ refl (test-not _ 12 _ refl (last-not _ 15 refl))
+      then-not (then-not (test-not _ 11 refl) (test-not _ 12 refl))
+      (then-not (then-not (test-not _ 4 refl) (then-not (test-not _ 8 refl) (test-not _ 3 refl))) (test-not _ 13 refl))
+  not-sixteen close-record s = then-not (then-not (test-not _ 11 refl) (test-not _ 12 refl)) (test-not _ 15 refl)
   not-sixteen (reply-record k b x) s =
-      test-not _ 11 _ refl (test-not _ 12 _ refl (test-not _ 4 _ refl (test-not _ 8 _ refl (test-not _ 3 _ refl (test-not _ 14 _ refl (last-not _ 13 refl))))))
-  not-sixteen finish-record s = test-not _ 11 _ refl (test-not _ 12 _ refl (last-not _ 15 refl))
+      then-not (then-not (test-not _ 11 refl) (test-not _ 12 refl))
+      (then-not (then-not (test-not _ 4 refl) (then-not (test-not _ 8 refl) (test-not _ 3 refl))) (then-not (test-not _ 14 refl) (test-not _ 13 refl)))
+  not-sixteen finish-record s = then-not (then-not (test-not _ 11 refl) (test-not _ 12 refl)) (test-not _ 15 refl)
 
   refused-step : (r : Record) (s t : State) (a : Answer) (n : ℕ) → a ≡ refused n → Steps A r s a t → t ≡ s
-  refused-step _ _ _ _ n d (refuses r s m e) = refl
+  refused-step _ _ _ _ n d (refuses r s e) = refl
   refused-step _ _ _ _ n d (accepts r s f e) = absurd (answer-not-refused r s n d)
   refused-step _ _ _ _ n d (totals-up s f e h) = let z : _≡_ {A = ℕ} 0 1 = cc in absurd (omega arith)
   refused-step _ _ _ _ n d (disagrees s e h) = refl
@@ -68,15 +69,16 @@ module _ (A : Arithmetic) where
   unfolding Refused-unchanged
   refused-unchanged r s t n h = refused-step r s t (refused n) n refl h
 
-  opened-step : (r : ℕ) (s t : State) (a : Answer) → a ≡ opened r → Steps A (open-record r) s a t → (refusal A (open-record r) s ≡ 0) × (t ≡ opened-state r s)
+  opened-step : (r : ℕ) (s t : State) (a : Answer) → a ≡ opened r → Steps A (open-record r) s a t
+      → (refusal A (open-record r) s ≡ 0) × (t ≡ opened-state r s)
   unfolding next-state
-  opened-step r s t a d (refuses _ _ n e) = let z : _≡_ {A = ℕ} 0 1 = cc in absurd (omega arith)
+  opened-step r s t a d (refuses _ _ e) = let z : _≡_ {A = ℕ} 0 1 = cc in absurd (omega arith)
   opened-step r s t a d (accepts _ _ f e) = (e, refl)
 
   opens-as-new : (r : ℕ) (s : State) → refusal A (open-record r) s ≡ 0 → refusal A (open-record r) (planned-state (s .plan)) ≡ 0
-  unfolding refusal planned-state has-plan
+  unfolding refusal plan-missing planned-state has-plan
   opens-as-new r s e =
-      let late : s .round < r = ltb-true _ _ (unless-zero _ 16 (test-held _ 10 _ e .1)) in
+      let late : s .round < r = ltb-true _ _ (unless-zero _ _ (then-zero _ _ e .1)) in
       then-taken (unless-held refl 11) _ ∙ unless-held (lt-ltb 0 r (omega arith)) 17
 
   pub as-new : As-new A
@@ -88,7 +90,7 @@ module _ (A : Arithmetic) where
       (subst (λ (u : State). Runs A rs u l t) (o .1) rest)
 
   sixteen-step : (r : Record) (s t : State) (a : Answer) → a ≡ refused 16 → Steps A r s a t → Unexplained A r s t
-  sixteen-step _ _ _ _ d (refuses r s n e) = absurd (not-sixteen r s (e ∙ cc))
+  sixteen-step _ _ _ _ d (refuses r s e) = absurd (not-sixteen r s cc)
   sixteen-step _ _ _ _ d (accepts r s f e) = absurd (answer-not-refused r s 16 d)
   sixteen-step _ _ _ _ d (totals-up s f e h) = let z : _≡_ {A = ℕ} 0 1 = cc in absurd (omega arith)
   sixteen-step _ _ _ _ d (disagrees s e h) = record { finish = refl; unchanged = refl; enough = e; no-choice = h }
@@ -106,8 +108,8 @@ module _ (A : Arithmetic) where
     laws-here : (s : State) → Well A s → refusal A finish-record s ≡ 0 → Laws A (s .plan .users) (s .plan .threshold)
     laws-here s w e = laws (s .plan) (w .good (finishing A s e .planned))
 
-    one-total : (s : State) (f g : (block : ℕ) → List ℕ) → Well A s → refusal A finish-record s ≡ 0 → explained-by A s f ≡ true → explained-by A s g ≡ true
-        → totals-by A s f ≡ totals-by A s g
+    one-total : (s : State) (f g : (block : ℕ) → List ℕ) → Well A s → refusal A finish-record s ≡ 0
+        → explained-by A s f ≡ true → explained-by A s g ≡ true → totals-by A s f ≡ totals-by A s g
     unfolding explained-by totals-by One-choice
     one-total s f g w e h l =
         totals-same A (s .plan) (values (s .replies)) (s .survivors) (values (s .firsts)) f g
@@ -115,19 +117,19 @@ module _ (A : Arithmetic) where
 
     pub one-answer : One-answer A
     unfolding One-answer is-finish
-    one-answer _ _ _ _ _ _ w (refuses r s n e) (refuses _ _ m d) = (ap refused (sym e ∙ d), refl)
-    one-answer _ _ _ _ _ _ w (refuses r s n e) (accepts _ _ f d) = absurd (omega arith)
-    one-answer _ _ _ _ _ _ w (refuses r s n e) (totals-up _ f d h) = absurd (omega arith)
-    one-answer _ _ _ _ _ _ w (refuses r s n e) (disagrees _ d h) = absurd (omega arith)
-    one-answer _ _ _ _ _ _ w (accepts r s f e) (refuses _ _ n d) = absurd (omega arith)
+    one-answer _ _ _ _ _ _ w (refuses r s e) (refuses _ _ d) = (refl, refl)
+    one-answer _ _ _ _ _ _ w (refuses r s e) (accepts _ _ f d) = absurd (e d)
+    one-answer _ _ _ _ _ _ w (refuses r s e) (totals-up _ f d h) = absurd (e d)
+    one-answer _ _ _ _ _ _ w (refuses r s e) (disagrees _ d h) = absurd (e d)
+    one-answer _ _ _ _ _ _ w (accepts r s f e) (refuses _ _ d) = absurd (d e)
     one-answer _ _ _ _ _ _ w (accepts r s f e) (accepts _ _ g d) = (refl, refl)
     one-answer _ _ _ _ _ _ w (accepts r s f e) (totals-up _ g d h) = absurd (holds (sym f))
     one-answer _ _ _ _ _ _ w (accepts r s f e) (disagrees _ d h) = absurd (holds (sym f))
-    one-answer _ _ _ _ _ _ w (totals-up s f e h) (refuses _ _ n d) = absurd (omega arith)
+    one-answer _ _ _ _ _ _ w (totals-up s f e h) (refuses _ _ d) = absurd (d e)
     one-answer _ _ _ _ _ _ w (totals-up s f e h) (accepts _ _ g d) = absurd (holds (sym g))
     one-answer _ _ _ _ _ _ w (totals-up s f e h) (totals-up _ g d l) = (ap (totalled (s .round)) (one-total s f g w e h l), refl)
     one-answer _ _ _ _ _ _ w (totals-up s f e h) (disagrees _ d l) = absurd (l f h)
-    one-answer _ _ _ _ _ _ w (disagrees s e h) (refuses _ _ n d) = absurd (omega arith)
+    one-answer _ _ _ _ _ _ w (disagrees s e h) (refuses _ _ d) = absurd (d e)
     one-answer _ _ _ _ _ _ w (disagrees s e h) (accepts _ _ g d) = absurd (holds (sym g))
     one-answer _ _ _ _ _ _ w (disagrees s e h) (totals-up _ f d l) = absurd (h f l)
     one-answer _ _ _ _ _ _ w (disagrees s e h) (disagrees _ d l) = (refl, refl)
@@ -152,17 +154,20 @@ module _ (A : Arithmetic) where
 
         go : (n : ℕ) → refusal A r s ≡ n → Answered A r s
         go zero e = taken r e
-        go (suc n) e = answered r s s _ w (refuses r s n e)
+        go (suc n) e = answered r s s _ w (refuses r s (λ z. omega arith))
 
     pub finish-right : Finish-right A
     unfolding Finish-right Rules-explain Totals-right explained-by totals-by is-finish
     finish-right s t a xs x w e ok ax rules h = told t a h
       where
-        told : (t : State) (a : Answer) → Steps A finish-record s a t → a ≡ totalled (s .round) (map (total-at A (s .plan) x (s .survivors)) (span (places (s .plan)) 0))
-        told _ _ (refuses _ _ n d) = absurd (omega arith)
+        told : (t : State) (a : Answer) → Steps A finish-record s a t
+            → a ≡ totalled (s .round) (map (total-at A (s .plan) x (s .survivors)) (span (places (s .plan)) 0))
+        told _ _ (refuses _ _ d) = absurd (d e)
         told _ _ (accepts _ _ f d) = absurd (holds (sym f))
         told _ _ (totals-up _ f d h) =
-            ap (totalled (s .round)) (totals-right A (s .plan) (laws-here s w e) xs x (s .survivors) (replied s) _ _ f ok ax (w .survive (finishing A s e .replying)) (finishing A s e .many) rules h)
+            let g = finishing A s e in
+            ap (totalled (s .round))
+            (totals-right A (s .plan) (laws-here s w e) xs x (s .survivors) (replied s) _ _ f ok ax (w .survive (g .replying)) (g .many) rules h)
         told _ _ (disagrees _ d h) =
             let c = rules-explain A (s .plan) (laws-here s w e) xs x (s .survivors) (replied s) _ _ ok (w .survive (finishing A s e .replying)) rules in
             absurd (h (c .choice) (c .right))

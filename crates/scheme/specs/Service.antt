@@ -1,21 +1,24 @@
 -- The pooling service of document 01, record by record, over an arithmetic: refusals 1, 3, 4, 8 and 11 to 17, answers and states.
 --   Phase, State, new-state        what the service holds
 --   has-plan, is-gathering, is-replying     tests of a phase
+--   plan-missing, second-plan, not-gathering, not-replying     the refusals of a phase
 --   complete-set, gathered, replied         the users with all their elements held, as a set: of first messages, of replies
 --   Record, Answer                 what comes in, and what is answered
+--   element-refusal                the tests that both kinds of element share
 --   refusal                        0, or the earliest refusal that applies, but for 16
 --   next-state, answer-of          of an accepted record other than finish
 --   Steps, Runs                    one record, by a relation: finish goes by what explains the replies; and a list of records
 --   Well                           what holds of every state that records lead to
 -- Assumes nothing: these are definitions.
 use mathlib.Core.Path.{_≡_}
+use mathlib.Core.Logic.{_≢_}
 use mathlib.Core.Bool.{Bool, true, false, _&&_, not, cond}
 use mathlib.Core.List.{List, [], _∷_}
 use mathlib.Core.Option.{Option, none, some}
 use Prim.Native.Nat.{ℕ, zero, suc, _+_, _-_, _^_, _<_}
 use lib.Dec.{ltb, leb, eqb}
 use Rattle.scheme.specs.Lists.{span, all-of}
-use Rattle.scheme.specs.Scheme.{Arithmetic, Plan, plan-good, is-user, places, in-set, ones, usable, _then_, unless}
+use Rattle.scheme.specs.Scheme.{Arithmetic, Plan, plan-good, places, in-set, ones, usable, _then_, unless}
 use Rattle.scheme.specs.Totals.{explains-all, totals}
 
 -- no plan yet; idle, gathering, replying
@@ -42,6 +45,19 @@ is-replying unplanned = false
 is-replying idle = false
 is-replying gathering = false
 is-replying replying = true
+
+-- 11 before a plan; 11 after one; 11, 12 of a record that is for the gathering phase, and for the replying phase
+unfoldable pub plan-missing : Phase → ℕ
+plan-missing g = unless (has-plan g) 11
+
+unfoldable pub second-plan : Phase → ℕ
+second-plan g = unless (not (has-plan g)) 11
+
+unfoldable pub not-gathering : Phase → ℕ
+not-gathering g = plan-missing g then unless (is-gathering g) 12
+
+unfoldable pub not-replying : Phase → ℕ
+not-replying g = plan-missing g then unless (is-replying g) 12
 
 -- the elements held: of a user's place, of a user's block
 pub record State : Type 0 where
@@ -111,21 +127,21 @@ pub data Answer : Type 0 where
   totalled : (round : ℕ) → (totals : List ℕ) → Answer
   refused : (number : ℕ) → Answer
 
+-- 4, 8, 3 of an element that one of `users` sends for one of `limit` places or blocks
+unfoldable pub element-refusal : Arithmetic → (users limit k at element : ℕ) → ℕ
+element-refusal A n l k i x = unless (leb 1 k && leb k n) 4 then unless (ltb i l) 8 then unless (ltb x (A .size)) 3
+
 -- plan 11, 1; open 11, 17; elements 11, 12, 4, 8, 3, 14, 13; close 11, 12, 15; finish 11, 12, 15, and then perhaps 16
 unfoldable pub refusal : Arithmetic → Record → State → ℕ
-refusal A (plan-record p) s = unless (not (has-plan (s .phase))) 11 then unless (plan-good p) 1
-refusal A (open-record r) s = unless (has-plan (s .phase)) 11 then unless (ltb (s .round) r) 17
+refusal A (plan-record p) s = second-plan (s .phase) then unless (plan-good p) 1
+refusal A (open-record r) s = plan-missing (s .phase) then unless (ltb (s .round) r) 17
 refusal A (first-record k i x) s =
-    unless (has-plan (s .phase)) 11 then unless (is-gathering (s .phase)) 12 then unless (is-user (s .plan) k) 4
-    then unless (ltb i (places (s .plan))) 8 then unless (ltb x (A .size)) 3 then unless (not (is-held (s .firsts k i))) 13
-refusal A close-record s =
-    unless (has-plan (s .phase)) 11 then unless (is-gathering (s .phase)) 12 then unless (leb (s .plan .threshold) (ones (s .plan .users) (gathered s))) 15
+    not-gathering (s .phase) then element-refusal A (s .plan .users) (places (s .plan)) k i x then unless (not (is-held (s .firsts k i))) 13
+refusal A close-record s = not-gathering (s .phase) then unless (leb (s .plan .threshold) (ones (s .plan .users) (gathered s))) 15
 refusal A (reply-record k b x) s =
-    unless (has-plan (s .phase)) 11 then unless (is-replying (s .phase)) 12 then unless (is-user (s .plan) k) 4
-    then unless (ltb b (s .plan .blocks)) 8 then unless (ltb x (A .size)) 3 then unless (in-set (s .survivors) k) 14
+    not-replying (s .phase) then element-refusal A (s .plan .users) (s .plan .blocks) k b x then unless (in-set (s .survivors) k) 14
     then unless (not (is-held (s .replies k b))) 13
-refusal A finish-record s =
-    unless (has-plan (s .phase)) 11 then unless (is-replying (s .phase)) 12 then unless (leb (s .plan .threshold) (ones (s .plan .users) (replied s))) 15
+refusal A finish-record s = not-replying (s .phase) then unless (leb (s .plan .threshold) (ones (s .plan .users) (replied s))) 15
 
 -- ---- the states that records lead to
 unfoldable pub planned-state : Plan → State
@@ -175,7 +191,7 @@ unfoldable pub totals-by : Arithmetic → State → (choice : (block : ℕ) → 
 totals-by A s f = totals A (s .plan) (s .survivors) (values (s .firsts)) f
 
 pub data Steps (A : Arithmetic) : Record → State → Answer → State → Type 0 where
-  refuses : (r : Record) (s : State) (n : ℕ) → refusal A r s ≡ suc n → Steps A r s (refused (suc n)) s
+  refuses : (r : Record) (s : State) → refusal A r s ≢ 0 → Steps A r s (refused (refusal A r s)) s
   accepts : (r : Record) (s : State) → is-finish r ≡ false → refusal A r s ≡ 0 → Steps A r s (answer-of r s) (next-state r s)
   totals-up : (s : State) (f : (block : ℕ) → List ℕ) → refusal A finish-record s ≡ 0 → explained-by A s f ≡ true →
       Steps A finish-record s (totalled (s .round) (totals-by A s f)) (idle-state s)

@@ -1,4 +1,4 @@
--- Refused: what the numbers of the calls tell. View: laws of the view. Complete: who is complete.
+-- Refused: what the calls hand back, refused and taken. View: laws of the view. Complete: who is complete.
 -- Same: on a well-formed state the calls refuse and leave what document 01 says. Steps: the promises.
 pub mod Refused
 pub mod View

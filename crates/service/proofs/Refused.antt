@@ -1,86 +1,71 @@
--- What the numbers of the calls tell.
---   under               two chains of tests that agree once the first is passed
---   past-phase          neither 11 nor 12: the phase is right
---   unless-not-zero     the number is answered, so the test failed
---   Fit, fit, unfit     what element-refusal tells
---   stopped             the first tests answer, whatever follows
---   turned, taken       an array after a refusal, and after none
---   close-refused, close-taken     what close hands back
+-- What the calls hand back, refused and taken.
+--   passed, test-passed, test-refused     refusals before others: two that are 0, a test that held, one that failed
+--   beyond, within, not-free, is-free     tests of a place in an array, where the code has found it
+--   array-refused, array-taken      the number and the array, of an element
+--   step-refused, step-taken        the number and the state, of a plan or an open
+--   close-refused, close-taken      what close hands back
 -- Assumes nothing.
-use mathlib.Core.Path.{_≡_, refl, sym, _∙_}
-use mathlib.Core.Bool.{Bool, true, false, _&&_}
+use mathlib.Core.Path.{_≡_, sym, ap, _∙_}
+use mathlib.Core.Bool.{Bool, true, false}
 use mathlib.Core.List.{List}
-use Prim.Native.Nat.{ℕ, zero, suc, _≤_}
-use lib.Dec.{ltb, leb}
-use borrow.Author.Tests.{leb-true}
-use Rattle.scheme.specs.Scheme.{q, _then_, unless, after}
+use Prim.Native.Nat.{ℕ, suc, _≤_, _<_}
+use native.Mathlib.Omega.{arith}
+use lib.Dec.{ltb, eqb}
+use lib.ListN.{getD}
+use borrow.Author.Tests.{lt-ltb, le-ltb, eq-eqb, ne-eqb}
+use Rattle.scheme.specs.Scheme.{_then_, unless, after}
 use Rattle.scheme.specs.Service.{gathered}
-use Rattle.scheme.proofs.Tests.{holds, both}
-use Rattle.scheme.proofs.Refusals.{then-refused, unless-zero, after-taken, after-refused}
-use Rattle.scheme.proofs.Well.{test-held}
+use Rattle.scheme.proofs.Refusals.{then-taken, then-stops, unless-held, unless-failed, after-taken, after-refused}
 use Rattle.service.specs.declared.Service.{Service}
 use Rattle.service.specs.View.{view}
-use Rattle.service.specs.Calls.{element-refusal, close-refusal, closed, close-answer, close-step}
+use Rattle.service.specs.Calls.{by-refusal, close-refusal, closed, close-step}
 
-pub under : (b c : Bool) (n : ℕ) {l m : ℕ} → b ≡ c → (b ≡ true → l ≡ m) → (unless b (suc n) then l) ≡ (unless c (suc n) then m)
-unfolding unless _then_
-under true true n e h = h refl
-under false false n e h = refl
-under true false n e h = absurd (holds (sym e))
-under false true n e h = absurd (holds e)
+pub passed : {a b : ℕ} → a ≡ 0 → b ≡ 0 → (c : ℕ) → c ≡ (a then b then c)
+passed e f c = sym (then-taken e _ ∙ then-taken f c)
 
-pub past-phase : (a b : Bool) → (unless a 11 then unless b 12) ≡ 0 → (a ≡ true) × (b ≡ true)
-past-phase a b e =
-    let s = test-held a 10 (unless b 12) e in
-    (s .0, unless-zero b 11 (s .1))
+pub test-passed : {b : Bool} → b ≡ true → (n m : ℕ) → m ≡ (unless b n then m)
+test-passed e n m = sym (then-taken (unless-held e n) m)
 
-pub unless-not-zero : (b : Bool) (n : ℕ) → (unless b n ≡ 0 → ⊥) → b ≡ false
-unfolding unless
-unless-not-zero true n h = absurd (h refl)
-unless-not-zero false n h = refl
+pub test-refused : {b : Bool} → b ≡ false → (n m : ℕ) → suc n ≡ (unless b (suc n) then m)
+test-refused e n m = then-stops (sym (unless-failed e (suc n))) (λ z. omega arith) m
 
--- users, places or blocks, and elements, of the tests that both kinds of element share
-pub record Fit (n l k i x : ℕ) : Type 0 where
-  pub user : leb 1 k && leb k n ≡ true
-  pub low : 1 ≤ k
-  pub place : ltb i l ≡ true
-  pub small : ltb x q ≡ true
+module _ {at place : ℕ} (e : at ≡ place) where
+  pub beyond : {n : ℕ} → n ≤ at → ltb place n ≡ false
+  beyond {n} h = le-ltb place n (omega arith)
 
-pub fit : (n l k i x : ℕ) → element-refusal n l k i x ≡ 0 → Fit n l k i x
-unfolding element-refusal
-fit n l k i x e =
-    let a = test-held (leb 1 k && leb k n) 3 (unless (ltb i l) 8 then unless (ltb x q) 3) e in
-    let b = test-held (ltb i l) 7 (unless (ltb x q) 3) (a .1) in
-    record { user = a .0; low = leb-true 1 k (both (leb 1 k) (leb k n) (a .0) .0); place = b .0; small = unless-zero (ltb x q) 2 (b .1) }
+  pub within : {n : ℕ} → at < n → ltb place n ≡ true
+  within {n} h = lt-ltb place n (omega arith)
 
-pub unfit : (n l k i x m c : ℕ) → m ≡ element-refusal n l k i x → (m ≡ 0 → ⊥) →
-    (unless (leb 1 k && leb k n) 4 then unless (ltb i l) 8 then unless (ltb x q) 3 then c) ≡ m
-unfolding element-refusal unless _then_
-unfit n l k i x m c e h = either (leb 1 k && leb k n) (ltb i l) (ltb x q) e
-  where
-    either : (a b d : Bool) → m ≡ (unless a 4 then unless b 8 then unless d 3) → (unless a 4 then unless b 8 then unless d 3 then c) ≡ m
-    either false b d e = sym e
-    either true false d e = sym e
-    either true true false e = sym e
-    either true true true e = absurd (h e)
+  pub not-free : (xs : List ℕ) → (getD xs at 0 ≡ 0 → ⊥) → eqb (getD xs place 0) 0 ≡ false
+  not-free xs h = ne-eqb _ _ (λ z. h (ap (λ (n : ℕ). getD xs n 0) e ∙ z))
 
-pub stopped : (a b c n : ℕ) → n ≡ (a then b) → (n ≡ 0 → ⊥) → (a then b then c) ≡ n
-unfolding _then_
-stopped zero b c n e h = then-refused (λ z. h (e ∙ z)) c ∙ sym e
-stopped (suc a) b c n e h = sym e
+  pub is-free : (xs : List ℕ) → getD xs at 0 ≡ 0 → eqb (getD xs place 0) 0 ≡ true
+  is-free xs h = eq-eqb _ _ (sym (ap (λ (n : ℕ). getD xs n 0) e) ∙ h)
 
-pub turned : {r n : ℕ} → (n ≡ 0 → ⊥) → r ≡ n → (new old : List ℕ) → (n ≡ r) × (old ≡ after r new old)
-turned h e new old = (sym e, sym (after-refused (λ z. h (sym e ∙ z)) new old))
+-- ---- the old value after a refusal n, and the new one after none
+kept : {X : Type 0} {n m : ℕ} → (n ≡ 0 → ⊥) → n ≡ m → (new old : X) → old ≡ after m new old
+kept h e new old = sym (after-refused (λ z. h (e ∙ z)) new old)
 
-pub taken : {r : ℕ} → r ≡ 0 → (new old : List ℕ) → (0 ≡ r) × (new ≡ after r new old)
-taken e new old = (sym e, sym (after-taken e new old))
+moved : {X : Type 0} {m : ℕ} {x new : X} → 0 ≡ m → x ≡ new → (old : X) → x ≡ after m new old
+moved {new = new} e d old = d ∙ sym (after-taken (sym e) new old)
+
+pub array-refused : {n m : ℕ} → (n ≡ 0 → ⊥) → n ≡ m → (new old : List ℕ) → (n ≡ m) × (old ≡ after m new old)
+array-refused h e new old = (e, kept h e new old)
+
+pub array-taken : {m : ℕ} {xs new : List ℕ} → 0 ≡ m → xs ≡ new → (old : List ℕ) → (0 ≡ m) × (xs ≡ after m new old)
+array-taken e d old = (e, moved e d old)
+
+pub step-refused : {n m : ℕ} → (n ≡ 0 → ⊥) → n ≡ m → (new old : Service) → record { number = n; service = old } ≡ by-refusal m new old
+step-refused h e new old = λ t. record { number = e t; service = kept h e new old t }
+
+pub step-taken : {m : ℕ} {s new : Service} → 0 ≡ m → s ≡ new → (old : Service) → record { number = 0; service = s } ≡ by-refusal m new old
+step-taken e d old = λ t. record { number = e t; service = moved e d old t }
 
 -- ---- close
-pub close-refused : (s : Service) {n : ℕ} → (n ≡ 0 → ⊥) → close-refusal s ≡ n → record { number = n; set = 0; service = s } ≡ close-step s
-unfolding close-step close-answer
-close-refused s {n = zero} h e = absurd (h refl)
-close-refused s {n = suc n} h e = rw e
+pub close-refused : (s : Service) {n : ℕ} → (n ≡ 0 → ⊥) → n ≡ close-refusal s → record { number = n; set = 0; service = s } ≡ close-step s
+unfolding close-step
+close-refused s h e = λ t. record { number = e t; set = kept h e (gathered (view s)) 0 t; service = kept h e (closed s (gathered (view s))) s t }
 
-pub close-taken : (s : Service) {v : ℕ} → close-refusal s ≡ 0 → v ≡ gathered (view s) → record { number = 0; set = v; service = closed s v } ≡ close-step s
-unfolding close-step close-answer
-close-taken s h e = rw (h, e)
+pub close-taken : (s : Service) {v : ℕ} → 0 ≡ close-refusal s → v ≡ gathered (view s) → record { number = 0; set = v; service = closed s v } ≡ close-step s
+unfolding close-step
+close-taken s e d = λ t. record { number = e t; set = moved e d 0 t; service = moved e (ap (closed s) d) s t }

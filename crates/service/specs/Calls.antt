@@ -1,17 +1,18 @@
 -- What each call of the service answers and leaves, for every state value.
 --   new-service                            before any record
 --   plan-step, open-step, first-step, close-step, reply-step     the calls, one for each kind of record
---   lent, stepped, closing                 the same where head and arrays stand apart
---   element-refusal, first-refusal, first-left, reply-refusal, reply-left     what their leaves on the arrays answer and leave
+--   by-refusal                             what a call hands back of its refusal and of the state that it leads to
+--   lent, stepped, closing, not-closed     the same where head and arrays stand apart
+--   first-refusal, first-left, reply-refusal, reply-left     what the leaves of elements answer and leave, over an arithmetic
 -- On a well-formed state no guard ever acts: a state whose plan is not good, or an index past an array, is none that calls make.
 -- Assumes nothing: these are definitions.
-use mathlib.Core.Bool.{_&&_, not}
 use mathlib.Core.List.{List}
-use Prim.Native.Nat.{ℕ, zero, suc, _+_}
+use Prim.Native.Nat.{ℕ}
 use lib.Dec.{ltb, leb, eqb}
-use lib.ListN.{getD, set, replicate}
-use Rattle.scheme.specs.Scheme.{q, plan-good, is-user, places, in-set, ones, _then_, unless, after}
-use Rattle.scheme.specs.Service.{has-plan, is-gathering, is-replying, gathered}
+use lib.ListN.{getD, replicate}
+use Rattle.scheme.specs.Limits.{most-blocks, most-places, firsts, cells}
+use Rattle.scheme.specs.Scheme.{Arithmetic, plan-good, places, in-set, ones, _then_, unless, after}
+use Rattle.scheme.specs.Service.{plan-missing, second-plan, not-gathering, not-replying, element-refusal, gathered}
 use Rattle.plan.specs.declared.Plan.{Plan}
 use Rattle.plan.specs.Plan.{plan-of}
 use Rattle.service.specs.declared.Phase.the-variants.{Unplanned, Idle, Gathering, Replying}
@@ -21,13 +22,13 @@ use Rattle.service.specs.declared.Stepped.{Stepped}
 use Rattle.service.specs.declared.Closed.{Closed}
 use Rattle.service.specs.declared.SteppedHead.{SteppedHead}
 use Rattle.service.specs.declared.ClosedHead.{ClosedHead}
-use Rattle.service.specs.View.{phase-of, slot, view}
+use Rattle.service.specs.View.{phase-of, slot, put, view}
 
 unfoldable pub nothing-first : List ℕ
-nothing-first = replicate 768 0
+nothing-first = replicate firsts 0
 
 unfoldable pub nothing-reply : List ℕ
-nothing-reply = replicate 128 0
+nothing-reply = replicate cells 0
 
 -- the leaves of the calls take head and arrays apart, and hand back the head
 abbrev pub lent : Head → (first reply : List ℕ) → Service
@@ -38,6 +39,12 @@ stepped r xs ys = record { number = r .number; service = lent (r .head) xs ys }
 
 abbrev pub closing : ClosedHead → (first reply : List ℕ) → Closed
 closing r xs ys = record { number = r .number; set = r .set; service = lent (r .head) xs ys }
+
+abbrev pub not-closed : (number : ℕ) → Head → ClosedHead
+not-closed n h = record { number = n; set = 0; head = h }
+
+abbrev pub by-refusal : (refusal : ℕ) → (new old : Service) → Stepped
+by-refusal n new old = record { number = n; service = after n new old }
 
 abbrev pub no-plan : Plan
 no-plan = record { users = 0; threshold = 0; collusion = 0; blocks = 0 }
@@ -52,7 +59,7 @@ new-service =
 
 -- ---- plan: 11, 1
 unfoldable pub plan-refusal : Head → Plan → ℕ
-plan-refusal h p = unless (not (has-plan (phase-of (h .phase)))) 11 then unless (plan-good (plan-of p)) 1
+plan-refusal h p = second-plan (phase-of (h .phase)) then unless (plan-good (plan-of p)) 1
 
 unfoldable pub planned : Plan → Service
 planned p =
@@ -63,11 +70,11 @@ planned p =
     }
 
 unfoldable pub plan-step : Service → Plan → Stepped
-plan-step s p = record { number = plan-refusal (s .head) p; service = after (plan-refusal (s .head) p) (planned p) s }
+plan-step s p = by-refusal (plan-refusal (s .head) p) (planned p) s
 
 -- ---- open: 11, 17
 unfoldable pub open-refusal : Head → (round : ℕ) → ℕ
-open-refusal h r = unless (has-plan (phase-of (h .phase))) 11 then unless (ltb (h .round) r) 17
+open-refusal h r = plan-missing (phase-of (h .phase)) then unless (ltb (h .round) r) 17
 
 unfoldable pub opened : Head → (round : ℕ) → Service
 opened h r =
@@ -78,50 +85,45 @@ opened h r =
     }
 
 unfoldable pub open-step : Service → (round : ℕ) → Stepped
-open-step s r = record { number = open-refusal (s .head) r; service = after (open-refusal (s .head) r) (opened (s .head) r) s }
-
--- ---- elements: 4, 8, 3, of a plan's users and places or blocks
-unfoldable pub element-refusal : (users limit k at element : ℕ) → ℕ
-element-refusal n l k i x = unless (leb 1 k && leb k n) 4 then unless (ltb i l) 8 then unless (ltb x q) 3
+open-step s r = by-refusal (open-refusal (s .head) r) (opened (s .head) r) s
 
 -- ---- first element: 11, 12, 4, 8, 3, 13
-unfoldable pub first-refusal : Head → (first : List ℕ) → (k place element : ℕ) → ℕ
-first-refusal h xs k i x =
-    unless (has-plan (phase-of (h .phase))) 11 then unless (is-gathering (phase-of (h .phase))) 12 then unless (is-user (plan-of (h .plan)) k) 4
-    then unless (ltb i (h .places)) 8 then unless (ltb x q) 3 then unless (ltb (slot 96 k i) 768) 8 then unless (eqb (getD xs (slot 96 k i) 0) 0) 13
+unfoldable pub first-refusal : Arithmetic → Head → (first : List ℕ) → (k place element : ℕ) → ℕ
+first-refusal A h xs k i x =
+    not-gathering (phase-of (h .phase)) then element-refusal A (h .plan .users) (h .places) k i x
+    then unless (ltb (slot most-places k i) firsts) 8 then unless (eqb (getD xs (slot most-places k i) 0) 0) 13
 
-unfoldable pub first-left : Head → (first : List ℕ) → (k place element : ℕ) → List ℕ
-first-left h xs k i x = after (first-refusal h xs k i x) (set xs (slot 96 k i) (x + 1)) xs
+unfoldable pub first-left : Arithmetic → Head → (first : List ℕ) → (k place element : ℕ) → List ℕ
+first-left A h xs k i x = after (first-refusal A h xs k i x) (put most-places xs k i x) xs
 
-unfoldable pub first-step : Service → (k place element : ℕ) → Stepped
-first-step s k i x =
+unfoldable pub first-step : Arithmetic → Service → (k place element : ℕ) → Stepped
+first-step A s k i x =
     record {
-      number = first-refusal (s .head) (s .first) k i x;
-      service = record { head = s .head; first = first-left (s .head) (s .first) k i x; reply = s .reply };
+      number = first-refusal A (s .head) (s .first) k i x;
+      service = record { head = s .head; first = first-left A (s .head) (s .first) k i x; reply = s .reply };
     }
 
 -- ---- reply element: 11, 12, 4, 8, 3, 14, 13
-unfoldable pub reply-refusal : Head → (reply : List ℕ) → (k block element : ℕ) → ℕ
-reply-refusal h ys k b x =
-    unless (has-plan (phase-of (h .phase))) 11 then unless (is-replying (phase-of (h .phase))) 12 then unless (is-user (plan-of (h .plan)) k) 4
-    then unless (ltb b (h .plan .blocks)) 8 then unless (ltb x q) 3 then unless (ltb (slot 16 k b) 128) 8
-    then unless (in-set (h .survivors) k) 14 then unless (eqb (getD ys (slot 16 k b) 0) 0) 13
+unfoldable pub reply-refusal : Arithmetic → Head → (reply : List ℕ) → (k block element : ℕ) → ℕ
+reply-refusal A h ys k b x =
+    not-replying (phase-of (h .phase)) then element-refusal A (h .plan .users) (h .plan .blocks) k b x
+    then unless (ltb (slot most-blocks k b) cells) 8 then unless (in-set (h .survivors) k) 14
+    then unless (eqb (getD ys (slot most-blocks k b) 0) 0) 13
 
-unfoldable pub reply-left : Head → (reply : List ℕ) → (k block element : ℕ) → List ℕ
-reply-left h ys k b x = after (reply-refusal h ys k b x) (set ys (slot 16 k b) (x + 1)) ys
+unfoldable pub reply-left : Arithmetic → Head → (reply : List ℕ) → (k block element : ℕ) → List ℕ
+reply-left A h ys k b x = after (reply-refusal A h ys k b x) (put most-blocks ys k b x) ys
 
-unfoldable pub reply-step : Service → (k block element : ℕ) → Stepped
-reply-step s k b x =
+unfoldable pub reply-step : Arithmetic → Service → (k block element : ℕ) → Stepped
+reply-step A s k b x =
     record {
-      number = reply-refusal (s .head) (s .reply) k b x;
-      service = record { head = s .head; first = s .first; reply = reply-left (s .head) (s .reply) k b x };
+      number = reply-refusal A (s .head) (s .reply) k b x;
+      service = record { head = s .head; first = s .first; reply = reply-left A (s .head) (s .reply) k b x };
     }
 
 -- ---- close: 11, 12, 15
 unfoldable pub close-refusal : Service → ℕ
 close-refusal s =
-    unless (has-plan (phase-of (s .head .phase))) 11 then unless (is-gathering (phase-of (s .head .phase))) 12
-    then unless (plan-good (plan-of (s .head .plan))) 15
+    not-gathering (phase-of (s .head .phase)) then unless (plan-good (plan-of (s .head .plan))) 15
     then unless (leb (s .head .plan .threshold) (ones (s .head .plan .users) (gathered (view s)))) 15
 
 unfoldable pub closed : Service → (survivors : ℕ) → Service
@@ -132,10 +134,11 @@ closed s v =
       reply = nothing-reply;
     }
 
--- a refused close hands back its number alone: the set is 0
-unfoldable pub close-answer : (refusal : ℕ) → Service → Closed
-close-answer zero s = record { number = 0; set = gathered (view s); service = closed s (gathered (view s)) }
-close-answer (suc n) s = record { number = suc n; set = 0; service = s }
-
+-- a refused close names no set
 unfoldable pub close-step : Service → Closed
-close-step s = close-answer (close-refusal s) s
+close-step s =
+    record {
+      number = close-refusal s;
+      set = after (close-refusal s) (gathered (view s)) 0;
+      service = after (close-refusal s) (closed s (gathered (view s))) s;
+    }

@@ -1,6 +1,9 @@
 -- What a service's state stands for in scheme/specs/Service.antt.
 --   phase-of           document 01's phase of the enum
---   stored, slot, look an element is held as itself plus 1, and 0 where none is held; user k's elements start at (k - 1) * stride
+--   held-as, stored    an element is held as itself plus 1, and 0 stands where none is held
+--   row-start, slot    user k's elements stand together, from (k - 1) * stride on
+--   put                an array with one element more
+--   look, held-in      what an array holds of a user; the element, or 0 where none is held
 --   row-held           the n elements from one on are all held
 --   view               the state
 --   Formed             well-formed states: those that calls make
@@ -11,9 +14,10 @@ use mathlib.Core.List.{List}
 use mathlib.Core.Option.{Option, none, some}
 use Prim.Native.Nat.{ℕ, zero, suc, _+_, _*_, _-_}
 use lib.Dec.{ltb, leb, eqb}
-use lib.ListN.{length, getD}
+use lib.ListN.{length, getD, set}
+use Rattle.scheme.specs.Limits.{most-users, most-blocks, most-places, firsts, cells}
 use Rattle.scheme.specs.Lists.{span, all-of}
-use Rattle.scheme.specs.Scheme.{sixteen, places}
+use Rattle.scheme.specs.Scheme.{Arithmetic, places}
 use Rattle.scheme.specs.Service as scheme
 use Rattle.plan.specs.Plan.{plan-of}
 use Rattle.service.specs.declared.Phase.{Phase}
@@ -26,19 +30,33 @@ phase-of Idle = scheme.idle
 phase-of Gathering = scheme.gathering
 phase-of Replying = scheme.replying
 
+-- ---- an element in an array, there and back
+abbrev pub held-as : (element : ℕ) → ℕ
+held-as x = x + 1
+
 unfoldable pub stored : ℕ → Option ℕ
 stored zero = none
 stored (suc x) = some x
 
+abbrev pub row-start : (stride k : ℕ) → ℕ
+row-start w k = (k - 1) * w
+
 abbrev pub slot : (stride k at : ℕ) → ℕ
-slot w k i = (k - 1) * w + i
+slot w k i = row-start w k + i
+
+abbrev pub put : (stride : ℕ) → List ℕ → (k at element : ℕ) → List ℕ
+put w xs k i x = set xs (slot w k i) (held-as x)
 
 unfoldable pub look : (stride : ℕ) → List ℕ → (k at : ℕ) → Option ℕ
-look w xs k i = cond (leb 1 k && (leb k 8 && ltb i w)) (stored (getD xs (slot w k i) 0)) none
+look w xs k i = cond (leb 1 k && (leb k most-users && ltb i w)) (stored (getD xs (slot w k i) 0)) none
+
+abbrev pub held-in : (stride : ℕ) → List ℕ → (k at : ℕ) → ℕ
+held-in w xs = scheme.values (look w xs)
 
 unfoldable pub row-held : List ℕ → (start n : ℕ) → Bool
 row-held xs start n = all-of (λ i. not (eqb (getD xs (start + i) 0) 0)) (span n 0)
 
+-- ---- the state
 unfoldable pub view : Service → scheme.State
 view s =
     record {
@@ -46,13 +64,13 @@ view s =
       plan = plan-of (s .head .plan);
       round = s .head .round;
       survivors = s .head .survivors;
-      firsts = look 96 (s .first);
-      replies = look 16 (s .reply);
+      firsts = look most-places (s .first);
+      replies = look most-blocks (s .reply);
     }
 
 -- the places of the plan stand ready, the arrays have their lengths, and the state is one that records lead to
-pub record Formed (s : Service) : Type 0 where
+pub record Formed (A : Arithmetic) (s : Service) : Type 0 where
   pub ready : scheme.has-plan (phase-of (s .head .phase)) ≡ true → s .head .places ≡ places (plan-of (s .head .plan))
-  pub first-length : length (s .first) ≡ 768
-  pub reply-length : length (s .reply) ≡ 128
-  pub well : scheme.Well sixteen (view s)
+  pub first-length : length (s .first) ≡ firsts
+  pub reply-length : length (s .reply) ≡ cells
+  pub well : scheme.Well A (view s)

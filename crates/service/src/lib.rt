@@ -1,36 +1,31 @@
 // The pooling service of document 01: one call for each kind of record but finish, which needs a solver (crate finish). The state goes in by
 // value and is handed back.
 //   Phase, Head, Service         the state: its head, and the elements held
-//   ROW, FIRSTS, BLOCKS, REPLIES the lengths of rows and arrays
 //   Stepped, Closed              what the calls hand back: 0 or the refusal's number, and the state
 //   SteppedHead, ClosedHead      what their leaves hand back: the same, with the head alone
-//   second_plan, open_refusal, not_gathering, not_replying     the refusals that the head alone decides
+//   plan_missing, second_plan, open_refusal, not_gathering, not_replying     the refusals that the head alone decides
 //   element_refusal              the tests that both kinds of element share
+//   held_as, element_of, row_start     how an element is held, and where: there and back
 //   put_first, put_reply         the leaves that hold an element, on a lent array: the hot path
 //   complete_set                 the users with all their elements held
 //   nothing_first, nothing_reply, clear     no elements held; drops all
-//   plan_lent, open_lent, close_lent     the leaves of the other calls: they copy no array
+//   plan_lent, open_lent, close_refused, close_lent     the leaves of the other calls: they copy no array
 //   Service::new, plan, open, first_element, close, reply_element
 // After a refusal the state is as before.
 ghost use mathlib.Core.Path.{_≡_};
-ghost use mathlib.Core.Bool.{not};
-ghost use Prim.Native.Nat.{_+_, _*_, _≤_, _<_};
+ghost use Prim.Native.Nat.{_+_, _*_, _-_, _≤_, _<_};
 ghost use lib.ListN.{length};
-ghost use Rattle.scheme.specs.Service.{has-plan, is-gathering, is-replying, complete-set};
-ghost use Rattle.scheme.specs.Scheme.{_then_, unless};
+ghost use Rattle.scheme.specs.Limits.{most-users, most-places};
+ghost use Rattle.scheme.specs.Scheme.{q, sixteen};
+ghost use Rattle.scheme.specs.Service.{plan-missing, second-plan, not-gathering, not-replying, element-refusal, complete-set};
 ghost use Rattle.plan.specs.Plan.{plan-of};
-ghost use Rattle.service.specs.View.{phase-of, row-held, look};
-ghost use Rattle.service.specs.Calls.{nothing-first, nothing-reply, new-service, plan-step, open-refusal, open-step, element-refusal, first-refusal, first-left, first-step, reply-refusal, reply-left, reply-step, close-step, lent, stepped, closing};
+ghost use Rattle.service.specs.View.{phase-of, held-as, row-start, row-held, look};
+ghost use Rattle.service.specs.Calls.{nothing-first, nothing-reply, new-service, plan-step, open-refusal, open-step, first-refusal, first-left, first-step, reply-refusal, reply-left, reply-step, close-step, lent, stepped, closing, not-closed};
+use plan::BLOCKS;
+use plan::CELLS;
+use plan::FIRSTS;
+use plan::MOST_PLACES;
 use plan::Plan;
-
-// "At most 768 first elements are held": 8 rows of 96 places; and 8 rows of 16 blocks for the replies.
-pub const ROW: usize = 96;
-
-pub const FIRSTS: usize = 768;
-
-pub const BLOCKS: usize = 16;
-
-pub const REPLIES: usize = 128;
 
 pub enum Phase {
     Unplanned,
@@ -48,11 +43,11 @@ pub struct Head {
     pub survivors: u32,
 }
 
-// An element that is held stands as itself plus 1, and 0 where none is held; a user's elements stand together.
+// The elements held: `held_as` says how, and `row_start` where.
 pub struct Service {
     pub head: Head,
     pub first: [u16; FIRSTS],
-    pub reply: [u16; REPLIES],
+    pub reply: [u16; CELLS],
 }
 
 pub struct Stepped {
@@ -79,7 +74,7 @@ pub struct ClosedHead {
 
 // 11 before a plan, else 0.
 fn plan_missing(phase: Phase) -> u32
-    ensures { λ r. ⌜ r ≡ unless (has-plan (phase-of phase)) 11 ⌝ }
+    ensures { λ r. ⌜ r ≡ plan-missing (phase-of phase) ⌝ }
 {
     match phase {
         Phase::Unplanned => 11,
@@ -91,7 +86,7 @@ fn plan_missing(phase: Phase) -> u32
 
 // 11 of a plan after one was accepted, else 0.
 pub fn second_plan(phase: Phase) -> u32
-    ensures { λ r. ⌜ r ≡ unless (not (has-plan (phase-of phase))) 11 ⌝ }
+    ensures { λ r. ⌜ r ≡ second-plan (phase-of phase) ⌝ }
 {
     match phase {
         Phase::Unplanned => 0,
@@ -118,7 +113,7 @@ pub fn open_refusal(head: Head, round: u32) -> u32
 
 // 11, 12 of a record that is for the gathering phase.
 pub fn not_gathering(phase: Phase) -> u32
-    ensures { λ r. ⌜ r ≡ (unless (has-plan (phase-of phase)) 11 then unless (is-gathering (phase-of phase)) 12) ⌝ }
+    ensures { λ r. ⌜ r ≡ not-gathering (phase-of phase) ⌝ }
 {
     let number = plan_missing(phase);
     if number != 0 {
@@ -134,7 +129,7 @@ pub fn not_gathering(phase: Phase) -> u32
 
 // 11, 12 of a record that is for the replying phase.
 pub fn not_replying(phase: Phase) -> u32
-    ensures { λ r. ⌜ r ≡ (unless (has-plan (phase-of phase)) 11 then unless (is-replying (phase-of phase)) 12) ⌝ }
+    ensures { λ r. ⌜ r ≡ not-replying (phase-of phase) ⌝ }
 {
     let number = plan_missing(phase);
     if number != 0 {
@@ -150,7 +145,7 @@ pub fn not_replying(phase: Phase) -> u32
 
 // 4, 8, 3 of an element that a user sends for one of `limit` places or blocks.
 fn element_refusal(users: u32, limit: u32, user: u32, at: u32, element: u32) -> u32
-    ensures { λ r. ⌜ r ≡ element-refusal users limit user at element ⌝ }
+    ensures { λ r. ⌜ r ≡ element-refusal sixteen users limit user at element ⌝ }
 {
     if user == 0 {
         return 4;
@@ -167,10 +162,36 @@ fn element_refusal(users: u32, limit: u32, user: u32, at: u32, element: u32) -> 
     0
 }
 
+// An element is held as itself plus 1, and 0 stands where none is held.
+pub fn held_as(element: u16) -> u16
+    requires { ⌜ element < q ⌝ }
+    ensures { λ r. ⌜ r ≡ held-as element ⌝ }
+{
+    element + 1
+}
+
+// The element, or 0 where none is held.
+pub fn element_of(held: u16) -> u16
+    ensures { λ r. ⌜ r ≡ held - 1 ⌝ }
+{
+    if held == 0 {
+        return 0;
+    }
+    held - 1
+}
+
+// Where a user's elements start, which stand together: `stride` behind those of the user before.
+pub fn row_start(user: u32, stride: usize) -> usize
+    requires { ⌜ (1 ≤ user) × (stride ≤ most-places) ⌝ }
+    ensures { λ r. ⌜ r ≡ row-start stride user ⌝ }
+{
+    (user as usize - 1) * stride
+}
+
 // Holds a first element and answers 0, or answers why not: 11, 12, 4, 8, 3, 13.
 pub fn put_first(head: Head, first: &mut [u16; FIRSTS], user: u32, place: u32, element: u32) -> u32
-    ensures number { λ r. ⌜ r ≡ first-refusal head (now (first .entry)) user place element ⌝ }
-    ensures left { λ r. ⌜ now (first .exit) ≡ first-left head (now (first .entry)) user place element ⌝ }
+    ensures number { λ r. ⌜ r ≡ first-refusal sixteen head (now (first .entry)) user place element ⌝ }
+    ensures left { λ r. ⌜ now (first .exit) ≡ first-left sixteen head (now (first .entry)) user place element ⌝ }
 {
     let phase = head.phase;
     let number = not_gathering(phase);
@@ -181,7 +202,7 @@ pub fn put_first(head: Head, first: &mut [u16; FIRSTS], user: u32, place: u32, e
     if refusal != 0 {
         return refusal;
     }
-    let at = (user as usize - 1) * ROW + place as usize;
+    let at = row_start(user, MOST_PLACES) + place as usize;
     // never so in a state that calls have made
     if FIRSTS <= at {
         return 8;
@@ -189,14 +210,14 @@ pub fn put_first(head: Head, first: &mut [u16; FIRSTS], user: u32, place: u32, e
     if first[at] != 0 {
         return 13;
     }
-    first[at] = element as u16 + 1;
+    first[at] = held_as(element as u16);
     0
 }
 
 // Holds a reply element and answers 0, or answers why not: 11, 12, 4, 8, 3, 14, 13.
-pub fn put_reply(head: Head, reply: &mut [u16; REPLIES], user: u32, block: u32, element: u32) -> u32
-    ensures number { λ r. ⌜ r ≡ reply-refusal head (now (reply .entry)) user block element ⌝ }
-    ensures left { λ r. ⌜ now (reply .exit) ≡ reply-left head (now (reply .entry)) user block element ⌝ }
+pub fn put_reply(head: Head, reply: &mut [u16; CELLS], user: u32, block: u32, element: u32) -> u32
+    ensures number { λ r. ⌜ r ≡ reply-refusal sixteen head (now (reply .entry)) user block element ⌝ }
+    ensures left { λ r. ⌜ now (reply .exit) ≡ reply-left sixteen head (now (reply .entry)) user block element ⌝ }
 {
     let phase = head.phase;
     let number = not_replying(phase);
@@ -207,9 +228,9 @@ pub fn put_reply(head: Head, reply: &mut [u16; REPLIES], user: u32, block: u32, 
     if refusal != 0 {
         return refusal;
     }
-    let at = (user as usize - 1) * BLOCKS + block as usize;
+    let at = row_start(user, BLOCKS) + block as usize;
     // never so in a state that calls have made
-    if REPLIES <= at {
+    if CELLS <= at {
         return 8;
     }
     if !plan::holds(head.survivors, user) {
@@ -218,7 +239,7 @@ pub fn put_reply(head: Head, reply: &mut [u16; REPLIES], user: u32, block: u32, 
     if reply[at] != 0 {
         return 13;
     }
-    reply[at] = element as u16 + 1;
+    reply[at] = held_as(element as u16);
     0
 }
 
@@ -240,7 +261,7 @@ fn row_held(held: &[u16], start: usize, each: usize) -> bool
 
 // The set of the plan's users with `each` elements held; a user's elements start `stride` behind those of the one before.
 pub fn complete_set(held: &[u16], stride: usize, p: Plan, each: usize) -> u32
-    requires { ⌜ (p .users ≤ 8) × (p .users * stride ≤ length (now held)) × (each ≤ stride) × (stride ≤ 96) ⌝ }
+    requires { ⌜ (p .users ≤ most-users) × (p .users * stride ≤ length (now held)) × (each ≤ stride) × (stride ≤ most-places) ⌝ }
     ensures { λ r. ⌜ r ≡ complete-set (plan-of p) (look stride (now (held .entry))) each ⌝ }
 {
     let mut set: u32 = 0;
@@ -265,14 +286,14 @@ fn nothing_first() -> [u16; FIRSTS]
     [0; FIRSTS]
 }
 
-fn nothing_reply() -> [u16; REPLIES]
+fn nothing_reply() -> [u16; CELLS]
     ensures { λ r. ⌜ r ≡ nothing-reply ⌝ }
 {
-    [0; REPLIES]
+    [0; CELLS]
 }
 
 // Drops what was held.
-pub fn clear(first: &mut [u16; FIRSTS], reply: &mut [u16; REPLIES])
+pub fn clear(first: &mut [u16; FIRSTS], reply: &mut [u16; CELLS])
     ensures { λ r. ⌜ (now (first .exit) ≡ nothing-first) × (now (reply .exit) ≡ nothing-reply) ⌝ }
 {
     *first = nothing_first();
@@ -283,10 +304,11 @@ pub fn clear(first: &mut [u16; FIRSTS], reply: &mut [u16; REPLIES])
 pub fn plan_lent(
     head: Head,
     first: &mut [u16; FIRSTS],
-    reply: &mut [u16; REPLIES],
+    reply: &mut [u16; CELLS],
     plan: Plan,
 ) -> SteppedHead
-    ensures { λ r. ⌜ stepped r (now (first .exit)) (now (reply .exit)) ≡ plan-step (lent head (now (first .entry)) (now (reply .entry))) plan ⌝ }
+    ensures { λ r. ⌜ stepped r (now (first .exit)) (now (reply .exit))
+        ≡ plan-step (lent head (now (first .entry)) (now (reply .entry))) plan ⌝ }
 {
     let phase = head.phase;
     let number = second_plan(phase);
@@ -315,10 +337,11 @@ pub fn plan_lent(
 pub fn open_lent(
     head: Head,
     first: &mut [u16; FIRSTS],
-    reply: &mut [u16; REPLIES],
+    reply: &mut [u16; CELLS],
     round: u32,
 ) -> SteppedHead
-    ensures { λ r. ⌜ stepped r (now (first .exit)) (now (reply .exit)) ≡ open-step (lent head (now (first .entry)) (now (reply .entry))) round ⌝ }
+    ensures { λ r. ⌜ stepped r (now (first .exit)) (now (reply .exit))
+        ≡ open-step (lent head (now (first .entry)) (now (reply .entry))) round ⌝ }
 {
     let plan = head.plan;
     let number = open_refusal(head, round);
@@ -339,36 +362,36 @@ pub fn open_lent(
     }
 }
 
+// A refused close names no set.
+fn close_refused(number: u32, head: Head) -> ClosedHead
+    ensures { λ r. ⌜ r ≡ not-closed number head ⌝ }
+{
+    ClosedHead {
+        number,
+        set: 0,
+        head,
+    }
+}
+
 // 11, 12, 15, on lent arrays.
-pub fn close_lent(head: Head, first: &[u16; FIRSTS], reply: &mut [u16; REPLIES]) -> ClosedHead
-    ensures { λ r. ⌜ closing r (now (first .entry)) (now (reply .exit)) ≡ close-step (lent head (now (first .entry)) (now (reply .entry))) ⌝ }
+pub fn close_lent(head: Head, first: &[u16; FIRSTS], reply: &mut [u16; CELLS]) -> ClosedHead
+    ensures { λ r. ⌜ closing r (now (first .entry)) (now (reply .exit))
+        ≡ close-step (lent head (now (first .entry)) (now (reply .entry))) ⌝ }
 {
     let phase = head.phase;
     let number = not_gathering(phase);
     if number != 0 {
-        return ClosedHead {
-            number,
-            set: 0,
-            head,
-        };
+        return close_refused(number, head);
     }
     let plan = head.plan;
     // never so in a state that calls have made
     if !plan::is_good(plan) {
-        return ClosedHead {
-            number: 15,
-            set: 0,
-            head,
-        };
+        return close_refused(15, head);
     }
     let each = plan::places_of(plan);
-    let set = complete_set(first, ROW, plan, each);
+    let set = complete_set(first, MOST_PLACES, plan, each);
     if u32::count_ones(set) < plan.threshold {
-        return ClosedHead {
-            number: 15,
-            set: 0,
-            head,
-        };
+        return close_refused(15, head);
     }
     let replying = Head {
         phase: Phase::Replying,
@@ -448,7 +471,7 @@ impl Service {
 
     // 11, 12, 4, 8, 3, 13.
     pub fn first_element(mut self, user: u32, place: u32, element: u16) -> Stepped
-        ensures { λ r. ⌜ r ≡ first-step self user place element ⌝ }
+        ensures { λ r. ⌜ r ≡ first-step sixteen self user place element ⌝ }
     {
         let head = self.head;
         let number = put_first(head, &mut self.first, user, place, element as u32);
@@ -460,7 +483,7 @@ impl Service {
 
     // 11, 12, 4, 8, 3, 14, 13.
     pub fn reply_element(mut self, user: u32, block: u32, element: u16) -> Stepped
-        ensures { λ r. ⌜ r ≡ reply-step self user block element ⌝ }
+        ensures { λ r. ⌜ r ≡ reply-step sixteen self user block element ⌝ }
     {
         let head = self.head;
         let number = put_reply(head, &mut self.reply, user, block, element as u32);

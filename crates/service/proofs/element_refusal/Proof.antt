@@ -4,7 +4,7 @@ use Prim.Native.Nat.{_≤_, _<_}
 use native.Mathlib.Omega.{arith}
 use borrow.Author.Tests.{le-leb, lt-leb, lt-ltb, le-ltb}
 use Rattle.scheme.specs.Scheme.{unless, _then_}
-use Rattle.service.specs.Calls.{element-refusal}
+use Rattle.scheme.specs.Service.{element-refusal}
 use Rattle.service.proofs.element_refusal.Statement.{statement}
 use Rattle.service.proofs.element_refusal.Tie as tie
 

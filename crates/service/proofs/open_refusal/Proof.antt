@@ -1,28 +1,25 @@
 -- `service::open_refusal` meets its contract: the tests that led to each return decide the definition's.
 -- Assumes nothing.
 use mathlib.Core.Path.{_≡_, sym, _∙_}
-use mathlib.Core.Bool.{true}
 use borrow.Author.Needs.{needs}
 use borrow.Author.Tests.{lt-ltb, le-ltb}
 use Rattle.scheme.specs.Scheme.{unless, _then_}
-use Rattle.scheme.specs.Service.{has-plan}
-use Rattle.scheme.proofs.Refusals.{then-refused, unless-zero}
+use Rattle.scheme.specs.Service.{plan-missing}
+use Rattle.scheme.proofs.Refusals.{then-stops}
 use Rattle.service.specs.View.{phase-of}
 use Rattle.service.specs.Calls.{open-refusal}
 use Rattle.service.proofs.open_refusal.Statement.{statement}
 use Rattle.service.proofs.open_refusal.Tie as tie
 
-has-one : (c : tie.Else1) → has-plan (phase-of (c .before .before .args .head .phase)) ≡ true
-has-one c = unless-zero _ 10 (sym (c .before .plan-missing .ensures) ∙ c .if1 .left)
+has-one : (c : tie.Else1) → plan-missing (phase-of (c .before .before .args .head .phase)) ≡ 0
+has-one c = sym (c .before .plan-missing .ensures) ∙ c .if1 .left
 
 plan-missing-requires : tie.Need-plan-missing-requires
 plan-missing-requires c κs = search needs
 
 returns : tie.Need-returns
 unfolding open-refusal
-returns c =
-    let e = c .before .plan-missing .ensures in
-    e ∙ sym (then-refused (λ z. c .if1 .taken (e ∙ z)) _)
+returns c = then-stops (c .before .plan-missing .ensures) (c .if1 .taken) _
 
 returns-2 : tie.Need-returns-2
 unfolding open-refusal unless _then_

@@ -1,132 +1,124 @@
 -- `service::put_reply` meets its contract: the tests that led to each return decide the definition's.
 -- Assumes nothing.
-use mathlib.Core.Path.{_≡_, sym, _∙_}
+use mathlib.Core.Path.{_≡_, sym, ap, ap₂, _∙_}
 use mathlib.Core.Bool.{true}
-use Prim.Native.Nat.{_<_}
+use mathlib.Core.List.{List}
+use Prim.Native.Nat.{ℕ, _+_, _<_}
 use native.Mathlib.Omega.{arith}
+use lib.ListN.{set}
 use borrow.Author.Needs.{needs}
-use borrow.Author.Tests.{lt-ltb, le-ltb, ltb-true, eq-eqb, ne-eqb, not-true, not-false}
-use Rattle.scheme.specs.Scheme.{q, is-user, in-set, unless, _then_}
-use Rattle.scheme.specs.Service.{has-plan, is-replying}
-use Rattle.service.specs.View.{phase-of}
+use borrow.Author.Tests.{not-true, not-false}
+use Rattle.scheme.specs.Limits.{most-blocks}
+use Rattle.scheme.specs.Scheme.{q, sixteen, in-set}
+use Rattle.scheme.specs.Service.{not-replying, element-refusal}
+use Rattle.scheme.proofs.Refusals.{then-taken, then-stops, unless-held, unless-failed}
+use Rattle.scheme.proofs.Well.{Fits, fits}
+use Rattle.service.specs.View.{phase-of, slot}
 use Rattle.service.specs.Calls.{reply-refusal, reply-left}
-use Rattle.service.proofs.Refused.{past-phase, Fit, fit, unfit, stopped, turned, taken}
+use Rattle.service.proofs.Refused.{passed, test-passed, test-refused, beyond, within, not-free, is-free, array-refused, array-taken}
 use Rattle.service.proofs.put_reply.Statement.{statement}
 use Rattle.service.proofs.put_reply.Tie as tie
 
+abbrev array : (c : tie.Else2) → List ℕ
+array c = c .before .before .before .before .args .reply .now
+
 -- ---- what the tests that were passed tell
-phase-right : (c : tie.Else1) → let p = phase-of (c .before .before .args .head .phase) in (has-plan p ≡ true) × (is-replying p ≡ true)
-phase-right c = past-phase _ _ (sym (c .before .not-replying .ensures) ∙ c .if1 .left)
+phase-right : (c : tie.Else1) → not-replying (phase-of (c .before .before .args .head .phase)) ≡ 0
+phase-right c = sym (c .before .not-replying .ensures) ∙ c .if1 .left
 
-fits : (c : tie.Else2) → let a = c .before .before .before .before .args in Fit (a .head .plan .users) (a .head .plan .blocks) (a .user) (a .block) (a .element)
-fits c = fit _ _ _ _ _ (sym (c .before .element-refusal .ensures) ∙ c .if2 .left)
+element-right :
+    (c : tie.Else2) → let a = c .before .before .before .before .args in
+    element-refusal sixteen (a .head .plan .users) (a .head .plan .blocks) (a .user) (a .block) (a .element) ≡ 0
+element-right c = sym (c .before .element-refusal .ensures) ∙ c .if2 .left
 
-survives : (c : tie.Else4) → let a = c .before .before .before .before .before .before .before .args in in-set (a .head .survivors) (a .user) ≡ true
+fit :
+    (c : tie.Else2) → let a = c .before .before .before .before .args in
+    Fits sixteen (a .head .plan .users) (a .head .plan .blocks) (a .user) (a .block) (a .element)
+fit c = fits sixteen _ _ _ _ _ (element-right c)
+
+at-slot :
+    (c : tie.After-row-start) → let d = c .before in let a = d .before .before .before .before .args in
+    c .row-start .result + a .block ≡ slot most-blocks (a .user) (a .block)
+at-slot c =
+    let d = c .before in
+    ap (λ (n : ℕ). n + d .before .before .before .before .args .block) (c .row-start .ensures)
+
+survives :
+    (c : tie.Else4) → let d = c .before .before .before .before in let a = d .before .before .before .before .args in
+    in-set (a .head .survivors) (a .user) ≡ true
 survives c = sym (c .before .holds .ensures) ∙ not-false _ (c .if4 .left)
 
-below : (c : tie.Else5) → c .before .before .before .before .before .before .before .before .before .args .element < q
-below c = ltb-true _ _ (fits (c .before .before .before .before .before) .small)
-
 -- ---- the needs
-not-replying-requires : tie.Need-not-replying-requires
-not-replying-requires c κs = search needs
-
 returns : tie.Need-returns
 unfolding reply-refusal reply-left
-returns c = turned (c .if1 .taken) (stopped _ _ _ _ (c .before .not-replying .ensures) (c .if1 .taken)) _ _
-
-element-refusal-requires : tie.Need-element-refusal-requires
-element-refusal-requires c κs = search needs
+returns c = array-refused (c .if1 .taken) (then-stops (c .before .not-replying .ensures) (c .if1 .taken) _) _ _
 
 returns-2 : tie.Need-returns-2
-unfolding reply-refusal reply-left is-user unless _then_
+unfolding reply-refusal reply-left
 returns-2 c =
-    let p = phase-right (c .before .before) in
-    turned (c .if2 .taken) (simp (p .0, p .1) (unfit _ _ _ _ _ _ _ (c .before .element-refusal .ensures) (c .if2 .taken))) _ _
-
-sub-at : tie.Need-sub-at
-sub-at c = fits c .low
-
-mul-at : tie.Need-mul-at
-mul-at c = search needs
-
-add-at : tie.Need-add-at
-add-at c = search needs
+    array-refused (c .if2 .taken)
+    (then-stops (c .before .element-refusal .ensures) (c .if2 .taken) _ ∙ sym (then-taken (phase-right (c .before .before)) _)) _ _
 
 returns-3 : tie.Need-returns-3
-unfolding reply-refusal reply-left is-user unless _then_
+unfolding reply-refusal reply-left
 returns-3 c =
-    let p = phase-right (c .before .before .before) in
-    let f = fits (c .before) in
-    turned (λ z. omega arith) (simp (p .0, p .1, f .user, f .place, f .small, le-ltb _ _ (c .if3 .taken))) _ _
+    let d = c .before .before in
+    array-refused (λ z. omega arith)
+    (test-refused (beyond (at-slot (c .before)) (c .if3 .taken)) _ _ ∙ passed (phase-right (d .before .before)) (element-right d) _) _ _
 
 holds-requires : tie.Need-holds-requires
 holds-requires c κs =
-    let h = fits (c .before) .low in
+    let h = fit (c .before .before) .low in
     (h, omega arith)
 
 returns-4 : tie.Need-returns-4
-unfolding reply-refusal reply-left is-user unless _then_
+unfolding reply-refusal reply-left
 returns-4 c =
     let e = c .before .before in
-    let p = phase-right (e .before .before .before) in
-    let f = fits (e .before) in
-    let h = sym (c .before .holds .ensures) ∙ not-true _ (c .if4 .taken) in
-    turned (λ z. omega arith) (simp (p .0, p .1, f .user, f .place, f .small, lt-ltb _ _ (e .if3 .left), h)) _ _
-
-mul-if5 : tie.Need-mul-if5
-mul-if5 c = search needs
-
-element-copy-out-if5 : tie.Need-element-copy-out-if5
-element-copy-out-if5 c = search needs
+    let d = e .before .before in
+    let out = sym (c .before .holds .ensures) ∙ not-true _ (c .if4 .taken) in
+    array-refused (λ z. omega arith)
+    (test-refused out _ _ ∙ test-passed (within (at-slot (e .before)) (e .if3 .left)) 8 _
+    ∙ passed (phase-right (d .before .before)) (element-right d) _) _ _
 
 returns-5 : tie.Need-returns-5
-unfolding reply-refusal reply-left is-user unless _then_
+unfolding reply-refusal reply-left
 returns-5 c =
-    let e = c .before .before .before .before in
-    let p = phase-right (e .before .before .before) in
-    let f = fits (e .before) in
-    turned (λ z. omega arith) (simp (p .0, p .1, f .user, f .place, f .small, lt-ltb _ _ (e .if3 .left), survives (c .before .before), ne-eqb _ _ (c .if5 .taken))) _ _
+    let f = c .before .before in
+    let e = f .before .before in
+    let s = at-slot (e .before) in
+    let d = e .before .before in
+    array-refused (λ z. omega arith)
+    (sym (unless-failed (not-free s (array d) (c .if5 .taken)) 13) ∙ test-passed (survives f) 14 _ ∙ test-passed (within s (e .if3 .left)) 8 _
+    ∙ passed (phase-right (d .before .before)) (element-right d) _) _ _
 
-cast-reply : tie.Need-cast-reply
-cast-reply c = omega (arith, below c)
+small : (c : tie.Else5) → let d = c .before .before .before .before in let a = d .before .before .before .before in a .before .before .args .element < q
+small c =
+    let d = c .before .before .before .before in
+    fit (d .before .before) .small
 
-add-reply : tie.Need-add-reply
-add-reply c = omega (arith, below c)
+cast-held-as : tie.Need-cast-held-as
+cast-held-as c = omega (arith, small c)
 
-mul-reply : tie.Need-mul-reply
-mul-reply c = search needs
-
-element-write-reply : tie.Need-element-write-reply
-element-write-reply c = search needs
+held-as-requires : tie.Need-held-as-requires
+held-as-requires c κs = omega (arith, small c)
 
 returns-6 : tie.Need-returns-6
-unfolding reply-refusal reply-left is-user unless _then_
+unfolding reply-refusal reply-left
 returns-6 c =
-    let e = c .before .before .before .before in
-    let p = phase-right (e .before .before .before) in
-    let f = fits (e .before) in
-    taken (simp (p .0, p .1, f .user, f .place, f .small, lt-ltb _ _ (e .if3 .left), survives (c .before .before), eq-eqb _ _ (c .if5 .left))) _ _
+    let g = c .before in
+    let f = g .before .before in
+    let e = f .before .before in
+    let s = at-slot (e .before) in
+    let d = e .before .before in
+    array-taken
+    (sym (unless-held (is-free s (array d) (g .if5 .left)) 13) ∙ test-passed (survives f) 14 _ ∙ test-passed (within s (e .if3 .left)) 8 _
+    ∙ passed (phase-right (d .before .before)) (element-right d) _)
+    (ap₂ (λ (n x : ℕ). set (array d) n x) s (c .held-as .ensures)) (array d)
 
 pub put-reply-spec : {M : Type 1} → statement M
 put-reply-spec =
     tie.close
-    (tie.spec
-    not-replying-requires
-    returns
-    element-refusal-requires
-    returns-2
-    sub-at
-    mul-at
-    add-at
-    returns-3
-    holds-requires
-    returns-4
-    mul-if5
-    element-copy-out-if5
-    returns-5
-    cast-reply
-    add-reply
-    mul-reply
-    element-write-reply
+    (tie.spec (λ c κs. search needs) returns (λ c κs. search needs) returns-2 (λ c κs. (fit c .low, omega arith)) (λ c. search needs) returns-3
+    holds-requires returns-4 (λ c. search needs) (λ c. search needs) returns-5 cast-held-as held-as-requires (λ c. search needs) (λ c. search needs)
     returns-6)
