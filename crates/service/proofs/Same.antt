@@ -12,7 +12,7 @@ use native.Mathlib.Omega.{arith}
 use lib.Dec.{ltb, eqb}
 use lib.ListN.{getD}
 use borrow.Author.Tests.{lt-ltb}
-use Rattle.scheme.specs.Limits.{most-users, most-blocks, most-places, firsts, cells}
+use Rattle.scheme.specs.Limits.{most-blocks, most-places, firsts, cells}
 use Rattle.scheme.specs.Scheme.{Arithmetic, places, _then_, unless}
 use Rattle.scheme.specs.Scheme as basis
 use Rattle.scheme.specs.Good.{Good}
@@ -23,7 +23,7 @@ use Rattle.scheme.proofs.Refusals.{then-taken, then-zero, then-same, unless-hel
 use Rattle.scheme.proofs.Well.{gathers, replies, Fits, fits}
 use Rattle.plan.specs.declared.Plan.{Plan}
 use Rattle.plan.specs.Plan.{plan-of}
-use Rattle.scheme.proofs.PlanBounds.{places-le}
+use Rattle.plan.proofs.Laws.{places-le}
 use Rattle.service.specs.declared.Service.{Service}
 use Rattle.service.specs.View.{phase-of, slot, put, look, view, Formed}
 use Rattle.service.specs.Calls.{nothing-first, nothing-reply, new-service, plan-refusal, planned, open-refusal, opened, first-refusal, reply-refusal, close-refusal, closed}
@@ -94,29 +94,29 @@ unfolding nothing-reply
 reply-empty k b = look-nothing most-blocks cells k b
 
 pub state-same :
-    (g : scheme.Phase) (p : basis.Plan) (r v : ℕ) (xs xs′ ys ys′ : (k at : ℕ) → Option ℕ) →
+    {g : scheme.Phase} {p : basis.Plan} {r v : ℕ} {xs xs′ ys ys′ : (k at : ℕ) → Option ℕ} →
     ((k i : ℕ) → xs k i ≡ xs′ k i) → ((k b : ℕ) → ys k b ≡ ys′ k b) →
     _≡_ {A = scheme.State} (record { phase = g; plan = p; round = r; survivors = v; firsts = xs; replies = ys })
     (record { phase = g; plan = p; round = r; survivors = v; firsts = xs′; replies = ys′ })
-state-same g p r v xs xs′ ys ys′ e d = λ t.
+state-same {g} {p} {r} {v} e d = λ t.
     record { phase = g; plan = p; round = r; survivors = v; firsts = λ k i. e k i t; replies = λ k b. d k b t }
 
 pub new-view : view new-service ≡ scheme.new-state
 unfolding view new-service phase-of scheme.new-state
-new-view = state-same _ _ _ _ _ _ _ _ first-empty reply-empty
+new-view = state-same first-empty reply-empty
 
 module _ (s : Service) where
   pub planned-view : (p : Plan) → view (planned p) ≡ next-state (plan-record (plan-of p)) (view s)
   unfolding view planned phase-of next-state planned-state
-  planned-view p = state-same _ _ _ _ _ _ _ _ first-empty reply-empty
+  planned-view p = state-same first-empty reply-empty
 
   pub opened-view : (r : ℕ) → view (opened (s .head) r) ≡ next-state (open-record r) (view s)
   unfolding view opened phase-of next-state opened-state
-  opened-view r = state-same _ _ _ _ _ _ _ _ first-empty reply-empty
+  opened-view r = state-same first-empty reply-empty
 
   pub closed-view : view (closed s (gathered (view s))) ≡ next-state close-record (view s)
   unfolding view closed phase-of next-state
-  closed-view = state-same _ _ _ _ _ _ _ _ (λ k i. refl) reply-empty
+  closed-view = state-same (λ k i. refl) reply-empty
 
   abbrev pub put-first : (k i x : ℕ) → Service
   put-first k i x = record { head = s .head; first = put most-places (s .first) k i x; reply = s .reply }
@@ -130,11 +130,11 @@ module _ (s : Service) where
     first-view e =
         let t = then-zero _ _ e in
         let a = first-in A s w (gathers _ (t .0) .0) k i x (fits A _ _ _ _ _ (then-zero _ _ (t .1) .0)) in
-        state-same _ _ _ _ _ _ _ _ (look-put most-places (s .first) k i x a (omega (arith, w .first-length))) (λ k b. refl)
+        state-same (look-put most-places (s .first) k i x a (omega (arith, w .first-length))) (λ k b. refl)
 
     pub reply-view : refusal A (reply-record k i x) (view s) ≡ 0 → view (put-reply k i x) ≡ next-state (reply-record k i x) (view s)
     unfolding refusal view next-state
     reply-view e =
         let t = then-zero _ _ e in
         let a = reply-in A s w (replies _ (t .0) .0) k i x (fits A _ _ _ _ _ (then-zero _ _ (t .1) .0)) in
-        state-same _ _ _ _ _ _ _ _ (λ k i. refl) (look-put most-blocks (s .reply) k i x a (omega (arith, w .reply-length)))
+        state-same (λ k i. refl) (look-put most-blocks (s .reply) k i x a (omega (arith, w .reply-length)))
