@@ -23,7 +23,7 @@ use Rattle.scheme.proofs.Refusals.{then-taken, then-zero, then-same, unless-hel
 use Rattle.scheme.proofs.Well.{gathers, replies, Fits, fits}
 use Rattle.plan.specs.declared.Plan.{Plan}
 use Rattle.plan.specs.Plan.{plan-of}
-use Rattle.plan.proofs.Laws.{places-le}
+use Rattle.scheme.proofs.PlanBounds.{places-le}
 use Rattle.service.specs.declared.Service.{Service}
 use Rattle.service.specs.View.{phase-of, slot, put, look, view, Formed}
 use Rattle.service.specs.Calls.{nothing-first, nothing-reply, new-service, plan-refusal, planned, open-refusal, opened, first-refusal, reply-refusal, close-refusal, closed}
