@@ -115,8 +115,12 @@ pub fn open_refusal(head: Head, round: u32) -> u32
 pub fn not_gathering(phase: Phase) -> u32
     ensures { λ r. ⌜ r ≡ not-gathering (phase-of phase) ⌝ }
 {
+    let number = plan_missing(phase);
+    if number != 0 {
+        return number;
+    }
     match phase {
-        Phase::Unplanned => 11,
+        Phase::Unplanned => 12,
         Phase::Idle => 12,
         Phase::Gathering => 0,
         Phase::Replying => 12,
@@ -127,8 +131,12 @@ pub fn not_gathering(phase: Phase) -> u32
 pub fn not_replying(phase: Phase) -> u32
     ensures { λ r. ⌜ r ≡ not-replying (phase-of phase) ⌝ }
 {
+    let number = plan_missing(phase);
+    if number != 0 {
+        return number;
+    }
     match phase {
-        Phase::Unplanned => 11,
+        Phase::Unplanned => 12,
         Phase::Idle => 12,
         Phase::Gathering => 12,
         Phase::Replying => 0,
