@@ -14,7 +14,7 @@ use lib.ListN.{length, take, drop, set}
 use lib.Seq.{set-set}
 use borrow.Author.Tests.{eq-eqb, leb-true}
 use Rattle.scheme.specs.Scheme as scheme
-use Rattle.scheme.specs.Scheme.{places, is-user, usable, usable-with, sets-with, key-length, reply-start, reply, is-fresh, open-to, after}
+use Rattle.scheme.specs.Scheme.{sixteen, places, is-user, usable, usable-with, sets-with, key-length, reply-start, reply, is-fresh, open-to, after}
 use Rattle.scheme.proofs.Tests.{both}
 use Rattle.scheme.proofs.Good.{good}
 use Rattle.plan.specs.declared.Plan as code
@@ -25,7 +25,7 @@ use Rattle.plan.proofs.Lengths.{key-len-good}
 use Rattle.client.specs.declared.Stage.{Stage}
 use Rattle.client.specs.declared.Stage.the-variants.{Sent, Answered}
 use Rattle.client.specs.declared.Client.{Client}
-use Rattle.client.specs.declared.Answer.{Answer}
+use Rattle.client.specs.declared.Moved.{Moved}
 use Rattle.client.specs.Client.{stage-of, stage-of-number, stage-number, begun-with, moved, answer-refusal, reply-answer, part-of}
 use Rattle.client.proofs.Laws.{reply-answers, reply-taken, moved-number, moved-taken, part-given}
 use Rattle.client.proofs.Laws as client
@@ -67,11 +67,11 @@ pub ends-stand : Ends-stand
 unfolding Ends-stand
 ends-stand e l = end-stands e l
 
-part-shares : (c : Client) (ks : List ℕ) (v : ℕ) → let p = part-answer c ks v in take (p .count) (drop (p .start) ks) ≡ part-of c ks v
+part-shares : (c : Client) (ks : List ℕ) (v : ℕ) → let p = part-answer c ks v in take (p .count) (drop (p .start) ks) ≡ part-of sixteen c ks v
 unfolding reply
-part-shares c ks v = either (ℕ-discrete (answer-refusal c ks v) 0)
+part-shares c ks v = either (ℕ-discrete (answer-refusal sixteen c ks v) 0)
   where
-    either : Dec (answer-refusal c ks v ≡ 0) → let p = part-answer c ks v in take (p .count) (drop (p .start) ks) ≡ part-of c ks v
+    either : Dec (answer-refusal sixteen c ks v ≡ 0) → let p = part-answer c ks v in take (p .count) (drop (p .start) ks) ≡ part-of sixteen c ks v
     either (yes z) = rw (part-taken c v z) (sym (part-given c ks v z .0))
     either (no h) = rw (part-refused c v h) (sym (client.part-refused c ks v h .0))
 
@@ -81,22 +81,22 @@ part-is-reply c ks v = record { number = sym (moved-number _ c (Answered v)); sh
 
 -- a taken reply leaves the end that has answered the set
 module _ (e ks : List ℕ) (v : ℕ) (l : length e ≡ end-length) (z : part-answer (end-at e) ks v .number ≡ 0) where
-  taken : answer-refusal (end-at e) ks v ≡ 0
+  taken : answer-refusal sixteen (end-at e) ks v ≡ 0
   unfolding part-by
   taken = z
 
-  asked : end-at (kept (reply-answer (end-at e) ks v) e) ≡ record { plan = end-at e .plan; user = end-at e .user; stage = Answered v }
-  asked = moved-stands e l _ (Answered v) ∙ ap (λ (a : Answer). a .client) (moved-taken taken (end-at e) (Answered v))
+  asked : end-at (kept (reply-answer sixteen (end-at e) ks v) e) ≡ record { plan = end-at e .plan; user = end-at e .user; stage = Answered v }
+  asked = moved-stands e l _ (Answered v) ∙ ap (λ (a : Moved). a .client) (moved-taken taken (end-at e) (Answered v))
 
-  again : answer-refusal (end-at (kept (reply-answer (end-at e) ks v) e)) ks v ≡ 0
+  again : answer-refusal sixteen (end-at (kept (reply-answer sixteen (end-at e) ks v) e)) ks v ≡ 0
   unfolding stage-of is-fresh open-to
-  again = ap (λ (c : Client). answer-refusal c ks v) asked ∙ reply-taken (reply-answers _ taken) (scheme.answered v) refl (eq-eqb v v refl)
+  again = ap (λ (c : Client). answer-refusal sixteen c ks v) asked ∙ reply-taken (reply-answers _ taken) (scheme.answered v) refl (eq-eqb v v refl)
 
 pub same-part : Same-part
 unfolding Same-part
 same-part e ks v l z =
     let n = stage-number (stage-of (Answered v)) in
-    let moved : kept (reply-answer (end-at e) ks v) e ≡ set e 5 n = kept-taken _ _ e (taken e ks v l z) in (
+    let moved : kept (reply-answer sixteen (end-at e) ks v) e ≡ set e 5 n = kept-taken _ _ e (taken e ks v l z) in (
       part-taken _ v (again e ks v l z)
           ∙ ap (λ (c : Client). record { number = 0; start = reply-start (plan-of (c .plan)) (c .user) v; count = c .plan .blocks }) (asked e ks v l z)
           ∙ sym (part-taken _ v (taken e ks v l z)),

@@ -9,13 +9,13 @@ use mathlib.Core.List.{List, [], _∷_}
 use Prim.Native.Nat.{ℕ}
 use lib.ListN.{getD, set}
 use Rattle.scheme.specs.Scheme as scheme
-use Rattle.scheme.specs.Scheme.{reply-start, after}
+use Rattle.scheme.specs.Scheme.{sixteen, reply-start, after}
 use Rattle.plan.specs.declared.Plan.{Plan}
 use Rattle.plan.specs.Plan.{plan-of}
 use Rattle.client.specs.declared.Stage.{Stage}
 use Rattle.client.specs.declared.Stage.the-variants.{Fresh, Sent, Answered}
 use Rattle.client.specs.declared.Client.{Client}
-use Rattle.client.specs.declared.Answer.{Answer}
+use Rattle.client.specs.declared.Moved.{Moved}
 use Rattle.client.specs.Client.{stage-of, stage-of-number, stage-number, begun, answer-refusal}
 use Rattle.capi.specs.Plans.{code-plan}
 use Rattle.capi.specs.declared.ends.CutawhenoPart.{CutawhenoPart}
@@ -47,7 +47,7 @@ fresh-end p k = record { plan = p; user = k; stage = Fresh }
 unfoldable pub start-left : Plan → (user : ℕ) → (end : List ℕ) → List ℕ
 start-left p k e = after (begun p k .number) (end-numbers (fresh-end p k)) e
 
-unfoldable pub kept : Answer → (end : List ℕ) → List ℕ
+unfoldable pub kept : Moved → (end : List ℕ) → List ℕ
 kept a e = after (a .number) (set e 5 (stage-number (stage-of (a .client .stage)))) e
 
 -- the shares for the set are the `count` elements of the key from `start` on: none after a refusal
@@ -55,4 +55,4 @@ unfoldable pub part-by : (refusal : ℕ) → Client → (set : ℕ) → Cutawhen
 part-by n c v = record { number = n; start = after n (reply-start (plan-of (c .plan)) (c .user) v) 0; count = after n (c .plan .blocks) 0 }
 
 abbrev pub part-answer : Client → (key : List ℕ) → (set : ℕ) → CutawhenoPart
-part-answer c ks v = part-by (answer-refusal c ks v) c v
+part-answer c ks v = part-by (answer-refusal sixteen c ks v) c v

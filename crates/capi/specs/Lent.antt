@@ -10,7 +10,8 @@ use mathlib.Core.List.{List, [], _∷_}
 use Prim.Native.Nat.{ℕ, zero, suc}
 use lib.ListN.{getD, replicate}
 use Rattle.scheme.specs.Limits.{firsts, cells}
-use Rattle.scheme.specs.Scheme.{after}
+use Rattle.scheme.specs.Scheme.{sixteen, after}
+use Rattle.solve.specs.Solve.{laws16}
 use Rattle.plan.specs.declared.Plan.{Plan}
 use Rattle.service.specs.declared.Phase.{Phase}
 use Rattle.service.specs.declared.Phase.the-variants.{Unplanned, Idle, Gathering, Replying}
@@ -83,7 +84,7 @@ abbrev pub closed-answer : Closed → CutawhenoClosed
 closed-answer t = record { number = t .number; set = t .set }
 
 unfoldable pub finish-left : Arrays → Arrays
-finish-left a = let t = finish-step (state a) in after (t .number) (arrays-of (t .service)) a
+finish-left a = let t = finish-step sixteen laws16 (state a) in after (t .number) (arrays-of (t .service)) a
 
 unfoldable pub finish-totals : Arrays → (old : List ℕ) → List ℕ
-finish-totals a old = let t = finish-step (state a) in after (t .number) (t .totals) old
+finish-totals a old = let t = finish-step sixteen laws16 (state a) in after (t .number) (t .totals) old

@@ -14,7 +14,8 @@ use mathlib.Core.List.{List}
 use mathlib.Core.Option.{some}
 use Prim.Native.Nat.{ℕ}
 use lib.ListN.{length, take, drop}
-use Rattle.scheme.specs.Scheme.{Plan, plan-good, is-user, key-length}
+use Rattle.scheme.specs.Scheme.{sixteen, Plan, plan-good, is-user, key-length}
+use Rattle.solve.specs.Solve.{laws16}
 use Rattle.plan.specs.declared.Plan as code
 use Rattle.plan.specs.Lengths.{key-len}
 use Rattle.client.specs.declared.Client.{Client}
@@ -30,15 +31,15 @@ Same-length = (p : Plan) (k : ℕ) → plan-good p ≡ true → is-user p k ≡ 
 -- an end that stands in an array: start from any content, and the stage moved by the calls
 pub record End-stands (e : List ℕ) : Type 0 where
   pub start-stands : (p : code.Plan) (k : ℕ) → begun p k .number ≡ 0 → begun p k .client ≡ some (end-at (start-left p k e))
-  pub first-stands : (ks fs : List ℕ) (n : ℕ) → let a = first-answer (end-at e) ks fs n in end-at (kept a e) ≡ a .client
-  pub reply-stands : (ks : List ℕ) (v : ℕ) → let a = reply-answer (end-at e) ks v in end-at (kept a e) ≡ a .client
+  pub first-stands : (ks fs : List ℕ) (n : ℕ) → let a = first-answer sixteen (end-at e) ks fs n in end-at (kept a e) ≡ a .client
+  pub reply-stands : (ks : List ℕ) (v : ℕ) → let a = reply-answer sixteen (end-at e) ks v in end-at (kept a e) ≡ a .client
 
 unfoldable pub Ends-stand : Type 0
 Ends-stand = (e : List ℕ) → length e ≡ end-length → End-stands e
 
 pub record Part-given (c : Client) (ks : List ℕ) (v : ℕ) : Type 0 where
-  pub number : part-answer c ks v .number ≡ reply-answer c ks v .number
-  pub shares : let p = part-answer c ks v in take (p .count) (drop (p .start) ks) ≡ part-of c ks v
+  pub number : part-answer c ks v .number ≡ reply-answer sixteen c ks v .number
+  pub shares : let p = part-answer c ks v in take (p .count) (drop (p .start) ks) ≡ part-of sixteen c ks v
 
 unfoldable pub Part-is-reply : Type 0
 Part-is-reply = (c : Client) (ks : List ℕ) (v : ℕ) → Part-given c ks v
@@ -46,8 +47,8 @@ Part-is-reply = (c : Client) (ks : List ℕ) (v : ℕ) → Part-given c ks v
 unfoldable pub Same-part : Type 0
 Same-part =
     (e ks : List ℕ) (v : ℕ) → length e ≡ end-length → part-answer (end-at e) ks v .number ≡ 0 →
-    let asked = kept (reply-answer (end-at e) ks v) e in
-    (part-answer (end-at asked) ks v ≡ part-answer (end-at e) ks v) × (kept (reply-answer (end-at asked) ks v) asked ≡ asked)
+    let asked = kept (reply-answer sixteen (end-at e) ks v) e in
+    (part-answer (end-at asked) ks v ≡ part-answer (end-at e) ks v) × (kept (reply-answer sixteen (end-at asked) ks v) asked ≡ asked)
 
 unfoldable pub New-stands : Type 0
 New-stands = state zeros ≡ new-service
@@ -55,7 +56,7 @@ New-stands = state zeros ≡ new-service
 pub record Calls-stand (a : Arrays) : Type 0 where
   pub plan-stands : (p : code.Plan) → state (plan-left a p) ≡ plan-step (state a) p .service
   pub open-stands : (r : ℕ) → state (open-left a r) ≡ open-step (state a) r .service
-  pub first-stands : (k i x : ℕ) → state (arrays (a .head) (first-left (head-at (a .head)) (a .first) k i x) (a .reply)) ≡ first-step (state a) k i x .service
+  pub first-stands : (k i x : ℕ) → state (arrays (a .head) (first-left sixteen (head-at (a .head)) (a .first) k i x) (a .reply)) ≡ first-step sixteen (state a) k i x .service
   pub close-stands : state (close-left a) ≡ close-step (state a) .service
-  pub reply-stands : (k b x : ℕ) → state (arrays (a .head) (a .first) (reply-left (head-at (a .head)) (a .reply) k b x)) ≡ reply-step (state a) k b x .service
-  pub finish-stands : state (finish-left a) ≡ finish-step (state a) .service
+  pub reply-stands : (k b x : ℕ) → state (arrays (a .head) (a .first) (reply-left sixteen (head-at (a .head)) (a .reply) k b x)) ≡ reply-step sixteen (state a) k b x .service
+  pub finish-stands : state (finish-left a) ≡ finish-step sixteen laws16 (state a) .service

@@ -10,6 +10,7 @@
 ghost use mathlib.Core.Path.{_≡_};
 ghost use Prim.Native.Nat.{_+_, _≤_};
 ghost use lib.ListN.{length};
+ghost use Rattle.scheme.specs.Scheme.{sixteen};
 ghost use Rattle.client.specs.Client.{begun, first-answer, message-left, reply-answer};
 ghost use Rattle.capi.specs.Plans.{code-plan};
 ghost use Rattle.capi.specs.Ends.{end-at, start-left, kept, part-answer};
@@ -80,11 +81,11 @@ pub extern "C" fn cutawheno_end_first_message(
     end: &mut [u32; END],
 ) -> u32
     ensures number { λ r. ⌜ r
-        ≡ first-answer (end-at (now (end .entry))) (now (key .entry)) (now (figures .entry)) (length (now (message .entry))) .number ⌝ }
+        ≡ first-answer sixteen (end-at (now (end .entry))) (now (key .entry)) (now (figures .entry)) (length (now (message .entry))) .number ⌝ }
     ensures message { λ r. ⌜ now (message .exit)
-        ≡ message-left (end-at (now (end .entry))) (now (key .entry)) (now (figures .entry)) (now (message .entry)) ⌝ }
+        ≡ message-left sixteen (end-at (now (end .entry))) (now (key .entry)) (now (figures .entry)) (now (message .entry)) ⌝ }
     ensures left { λ r. ⌜ now (end .exit)
-        ≡ kept (first-answer (end-at (now (end .entry))) (now (key .entry)) (now (figures .entry)) (length (now (message .entry))))
+        ≡ kept (first-answer sixteen (end-at (now (end .entry))) (now (key .entry)) (now (figures .entry)) (length (now (message .entry))))
         (now (end .entry)) ⌝ }
 {
     let client = end_at(end);
@@ -102,7 +103,7 @@ pub extern "C" fn cutawheno_end_first_message(
 pub extern "C" fn cutawheno_end_reply(key: &[u16], end: &mut [u32; END], set: u32) -> CutawhenoPart
     ensures part { λ r. ⌜ r ≡ part-answer (end-at (now (end .entry))) (now (key .entry)) set ⌝ }
     ensures inside { λ r. ⌜ r .start + r .count ≤ length (now (key .entry)) ⌝ }
-    ensures left { λ r. ⌜ now (end .exit) ≡ kept (reply-answer (end-at (now (end .entry))) (now (key .entry)) set) (now (end .entry)) ⌝ }
+    ensures left { λ r. ⌜ now (end .exit) ≡ kept (reply-answer sixteen (end-at (now (end .entry))) (now (key .entry)) set) (now (end .entry)) ⌝ }
 {
     let client = end_at(end);
     let number = client.reply_refusal(key, set);

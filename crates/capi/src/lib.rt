@@ -74,7 +74,7 @@ pub extern "C" fn cutawheno_make_key(
     ensures number { λ r. ⌜ r
         ≡ key-refusal sixteen (plan-of (code-plan users threshold collusion blocks)) user (now (list .entry)) (length (now (out .entry))) ⌝ }
     ensures left { λ r. ⌜ now (out .exit)
-        ≡ key-left (plan-of (code-plan users threshold collusion blocks)) user (now (list .entry)) (now (out .entry)) ⌝ }
+        ≡ key-left sixteen (plan-of (code-plan users threshold collusion blocks)) user (now (list .entry)) (now (out .entry)) ⌝ }
 {
     let plan = Plan {
         users,

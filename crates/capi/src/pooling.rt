@@ -7,6 +7,8 @@
 // threshold, collusion, blocks, places, round and survivors; `first` and `reply` hold the elements as crate service does. A refused
 // call hands back its number and leaves every array as it came. No call copies a state.
 ghost use mathlib.Core.Path.{_≡_};
+ghost use Rattle.scheme.specs.Scheme.{sixteen};
+ghost use Rattle.solve.specs.Solve.{laws16};
 ghost use Rattle.service.specs.Calls.{plan-step, open-step, first-refusal, first-left, close-step, reply-refusal, reply-left};
 ghost use Rattle.finish.specs.Finish.{finish-step};
 ghost use Rattle.capi.specs.Plans.{code-plan};
@@ -157,8 +159,8 @@ pub extern "C" fn cutawheno_service_first_element(
     place: u32,
     element: u32,
 ) -> u32
-    ensures number { λ r. ⌜ r ≡ first-refusal (head-at (now (head .entry))) (now (first .entry)) user place element ⌝ }
-    ensures left { λ r. ⌜ now (first .exit) ≡ first-left (head-at (now (head .entry))) (now (first .entry)) user place element ⌝ }
+    ensures number { λ r. ⌜ r ≡ first-refusal sixteen (head-at (now (head .entry))) (now (first .entry)) user place element ⌝ }
+    ensures left { λ r. ⌜ now (first .exit) ≡ first-left sixteen (head-at (now (head .entry))) (now (first .entry)) user place element ⌝ }
 {
     let held = head_at(head);
     service::put_first(held, first, user, place, element)
@@ -196,8 +198,8 @@ pub extern "C" fn cutawheno_service_reply_element(
     block: u32,
     element: u32,
 ) -> u32
-    ensures number { λ r. ⌜ r ≡ reply-refusal (head-at (now (head .entry))) (now (reply .entry)) user block element ⌝ }
-    ensures left { λ r. ⌜ now (reply .exit) ≡ reply-left (head-at (now (head .entry))) (now (reply .entry)) user block element ⌝ }
+    ensures number { λ r. ⌜ r ≡ reply-refusal sixteen (head-at (now (head .entry))) (now (reply .entry)) user block element ⌝ }
+    ensures left { λ r. ⌜ now (reply .exit) ≡ reply-left sixteen (head-at (now (head .entry))) (now (reply .entry)) user block element ⌝ }
 {
     let held = head_at(head);
     service::put_reply(held, reply, user, block, element)
@@ -211,7 +213,7 @@ pub extern "C" fn cutawheno_service_finish(
     reply: &mut [u16; CELLS],
     totals: &mut [u16; MOST_PLACES],
 ) -> u32
-    ensures number { λ r. ⌜ r ≡ finish-step (state (arrays (now (head .entry)) (now (first .entry)) (now (reply .entry)))) .number ⌝ }
+    ensures number { λ r. ⌜ r ≡ finish-step sixteen laws16 (state (arrays (now (head .entry)) (now (first .entry)) (now (reply .entry)))) .number ⌝ }
     ensures left { λ r. ⌜ arrays (now (head .exit)) (now (first .exit)) (now (reply .exit))
         ≡ finish-left (arrays (now (head .entry)) (now (first .entry)) (now (reply .entry))) ⌝ }
     ensures totals { λ r. ⌜ now (totals .exit) ≡ finish-totals (arrays (now (head .entry)) (now (first .entry)) (now (reply .entry))) (now (totals .entry)) ⌝ }

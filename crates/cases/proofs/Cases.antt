@@ -15,7 +15,7 @@ use Rattle.scheme.specs.Totals as Totals
 use Rattle.scheme.specs.Delta as Delta
 use Rattle.scheme.specs.Service as Service
 use Rattle.scheme.specs.Modular.{modular-laws}
-use Rattle.solve.specs.Solve.{laws16, point, unknown-at}
+use Rattle.scheme.specs.Solve.{unknown-at}
 use Rattle.client.specs.Client as Client
 use Rattle.service.specs.View as View
 use Rattle.service.specs.Calls as Calls
@@ -24,7 +24,7 @@ use Rattle.cases.specs.Cases.{key-from, key-of, message, asked, tried, p
 
 pub cases : Cases
 unfolding key-from key-of message asked tried planned opened firsts replies pooled told told-5 told-7
-    sub inverse inverse-from modular-laws laws16 point padded unknown-at shown
+    sub inverse inverse-from modular-laws padded unknown-at shown
     Lists.rank Scheme.elements Scheme.sum Scheme.plan-good Scheme.items Scheme.places Scheme.is-user Scheme.in-set Scheme.ones Scheme.usable Scheme.usable-with
     Scheme.users-in Scheme.usable-sets Scheme.sets-with Scheme.list-length Scheme.mask Scheme.noise-start Scheme.noise Scheme.column Scheme.row-value
     Scheme.share Scheme.shares Scheme.key Scheme.key-length Scheme.first-message Scheme.reply-start Scheme.reply Scheme._then_ unless

@@ -18,12 +18,13 @@ use Rattle.scheme.specs.Scheme.{q, sixteen, plan-good, list-length, key, key-le
 use Rattle.scheme.specs.Promise.{Table, shown}
 use Rattle.scheme.specs.Delta as Delta
 use Rattle.scheme.specs.Modular.{sixteen-field}
+use Rattle.solve.specs.Solve.{laws16}
 use Rattle.plan.specs.declared.Plan.{Plan}
 use Rattle.plan.specs.Plan.{plan-of}
 use Rattle.client.specs.declared.Stage.{Stage}
 use Rattle.client.specs.declared.Stage.the-variants.{Fresh, Sent, Answered}
 use Rattle.client.specs.declared.Client.{Client}
-use Rattle.client.specs.declared.Answer.{Answer}
+use Rattle.client.specs.declared.Moved.{Moved}
 use Rattle.client.specs.Client.{first-answer, message-left, reply-answer, part-of}
 use Rattle.service.specs.declared.Service.{Service}
 use Rattle.service.specs.Calls.{new-service, plan-step, open-step, first-step, close-step, reply-step}
@@ -63,14 +64,14 @@ end-of k g = record { plan = plan; user = k; stage = g }
 
 -- what a fresh end leaves in a buffer that held 1
 unfoldable pub message : (k : ℕ) → (key figures : List ℕ) → List ℕ
-message k ks fs = message-left (end-of k Fresh) ks fs (1 ∷ [])
+message k ks fs = message-left sixteen (end-of k Fresh) ks fs (1 ∷ [])
 
-abbrev pub handed : (number : ℕ) → Client → Answer
+abbrev pub handed : (number : ℕ) → Client → Moved
 handed n c = record { number = n; client = c }
 
 -- what a reply to the set hands back: number and end, and the part
-unfoldable pub asked : (set : ℕ) → Client → Answer × List ℕ
-asked v c = (reply-answer c (key-of (c .user)) v, part-of c (key-of (c .user)) v)
+unfoldable pub asked : (set : ℕ) → Client → Moved × List ℕ
+asked v c = (reply-answer sixteen c (key-of (c .user)) v, part-of sixteen c (key-of (c .user)) v)
 
 -- the part, of an end that has sent
 abbrev pub part : (set k : ℕ) → List ℕ
@@ -89,11 +90,11 @@ opened r = open-step planned r .service
 -- users and their elements, of the one place and the one block
 unfoldable pub firsts : List (ℕ × ℕ) → Service → Service
 firsts [] s = s
-firsts ((k, x) ∷ l) s = firsts l (first-step s k 0 x .service)
+firsts ((k, x) ∷ l) s = firsts l (first-step sixteen s k 0 x .service)
 
 unfoldable pub replies : List (ℕ × ℕ) → Service → Service
 replies [] s = s
-replies ((k, y) ∷ l) s = replies l (reply-step s k 0 y .service)
+replies ((k, y) ∷ l) s = replies l (reply-step sixteen s k 0 y .service)
 
 unfoldable pub pooled : (sent answered : List (ℕ × ℕ)) → Service
 pooled xs ys = replies ys (close-step (firsts xs (opened 7)) .service)
@@ -104,10 +105,10 @@ told f = f .number ∷ take 1 (f .totals)
 
 -- survivors 1 and 3, with their replies; survivors 1, 2 and 3, with the replies that came
 unfoldable pub told-5 : (a c : ℕ) → List ℕ
-told-5 a c = told (finish-step (pooled ((1, 110) ∷ (3, 330) ∷ []) ((1, a) ∷ (3, c) ∷ [])))
+told-5 a c = told (finish-step sixteen laws16 (pooled ((1, 110) ∷ (3, 330) ∷ []) ((1, a) ∷ (3, c) ∷ [])))
 
 unfoldable pub told-7 : (answered : List (ℕ × ℕ)) → List ℕ
-told-7 ys = told (finish-step (pooled ((1, 110) ∷ (2, 220) ∷ (3, 330) ∷ []) ys))
+told-7 ys = told (finish-step sixteen laws16 (pooled ((1, 110) ∷ (2, 220) ∷ (3, 330) ∷ []) ys))
 
 -- ---- THE TABLE
 pub record Cases : Type 0 where
@@ -137,8 +138,8 @@ pub record Cases : Type 0 where
   pub sum-wraps : message 1 (1 ∷ 154 ∷ 220 ∷ 340 ∷ []) (65520 ∷ []) ≡ 0 ∷ []
   pub list-3 : key-refusal sixteen (plan-of plan) 1 bad-list 4 ≡ 3
   pub list-3-left : key-from bad-list 1 ≡ replicate 4 0
-  pub figure-3 : first-answer (end-of 1 Fresh) (key-of 1) (65521 ∷ []) 1 ≡ handed 3 (end-of 1 Fresh)
-  pub first-3 : first-step (opened 7) 1 0 65521 .number ≡ 3
+  pub figure-3 : first-answer sixteen (end-of 1 Fresh) (key-of 1) (65521 ∷ []) 1 ≡ handed 3 (end-of 1 Fresh)
+  pub first-3 : first-step sixteen (opened 7) 1 0 65521 .number ≡ 3
   -- plans
   pub sixteen-blocks : tried (plan-with 3 2 1 16) ≡ 0 ∷ 0 ∷ []
   pub seventeen-blocks : tried (plan-with 3 2 1 17) ≡ 1 ∷ 1 ∷ []

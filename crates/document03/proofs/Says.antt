@@ -59,8 +59,8 @@ sent-says (suc n) {m} ws {us} g r o z e h f taken refused d =
     (f ∙ sym e, refused no, d ∙ after-refused no us o)
 
 pub first-says : {k u t m a g : ℕ} {x : Client} → Client-of k u t m a g x → (ks fs : List ℕ) (r : Sent) (o z : List ℕ)
-    → let n = first-refusal x ks fs (length o) in
-    r .number ≡ n → (n ≡ 0 → r .stage ≡ 1) → (n ≢ 0 → r .stage ≡ g) → z ≡ message-left x ks fs o → E.First-says k u t m a g ks fs r o z
+    → let n = first-refusal sixteen x ks fs (length o) in
+    r .number ≡ n → (n ≡ 0 → r .stage ≡ 1) → (n ≢ 0 → r .stage ≡ g) → z ≡ message-left sixteen x ks fs o → E.First-says k u t m a g ks fs r o z
 unfolding E.First-says D.plan message-refusal key-length
 first-says {k} {u} {t} {m} {a} {g} w ks fs r o z f taken refused d =
     let p = plan-of-numbers k u t m in
@@ -85,7 +85,7 @@ part-says (suc n) {m} s c v g r e h f taken refused =
     (f ∙ sym e, t .0, t .1, t .2)
 
 pub reply-says : {k u t m a g : ℕ} {x : Client} → Client-of k u t m a g x → (ks : List ℕ) (v : ℕ) (r : Part)
-    → let n = answer-refusal x ks v in
+    → let n = answer-refusal sixteen x ks v in
     r .number ≡ n → (n ≡ 0 → (r .start ≡ reply-start (plan-of (x .plan)) (x .user) v) × (r .count ≡ m) × (r .stage ≡ 2 + v))
     → (n ≢ 0 → (r .start ≡ 0) × (r .count ≡ 0) × (r .stage ≡ g)) → E.Reply-says k u t m a g ks v r
 unfolding E.Reply-says D.plan reply-refusal

@@ -106,7 +106,7 @@ module _ (A : Arithmetic) where
 
 -- ---- lists of calls
 pub run-keeps : (P : State → Type 0) (Q : Record → Type 0) → ((r : Record) (s t : State) (a : Answer) → Steps sixteen r s a t → Q r → P s → P t)
-    → (cs : List Call) (a : Arrays) → Formed (state a) → Each-taken Q cs a → P (view (state a)) → P (view (state (run cs a)))
+    → (cs : List Call) (a : Arrays) → Formed sixteen (state a) → Each-taken Q cs a → P (view (state a)) → P (view (state (run cs a)))
 unfolding run Each-taken
 run-keeps P Q keeps [] a w h p = p
 run-keeps P Q keeps (c ∷ cs) a w h p = run-keeps P Q keeps cs (leaves c a) (step-right a w c .formed) (h .1) (either (ℕ-discrete (number-of c a) 0))

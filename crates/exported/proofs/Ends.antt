@@ -15,13 +15,13 @@ use native.Mathlib.Decide.{ℕ-discrete}
 use lib.ListN.{length, length-set}
 use borrow.Author.Tests.{eqb-true, eq-eqb, ne-eqb}
 use Rattle.scheme.specs.Scheme as scheme
-use Rattle.scheme.specs.Scheme.{Arithmetic, is-fresh, open-to, message-refusal, reply-refusal}
+use Rattle.scheme.specs.Scheme.{sixteen, Arithmetic, is-fresh, open-to, message-refusal, reply-refusal}
 use Rattle.scheme.proofs.Tests.{holds}
 use Rattle.scheme.proofs.Refusals.{then-zero, unless-zero}
 use Rattle.client.specs.declared.Stage.{Stage}
 use Rattle.client.specs.declared.Stage.the-variants.{Sent, Answered}
 use Rattle.client.specs.declared.Client.{Client}
-use Rattle.client.specs.declared.Answer.{Answer}
+use Rattle.client.specs.declared.Moved.{Moved}
 use Rattle.client.specs.Client.{stage-of, answer-refusal}
 use Rattle.client.proofs.Laws.{moved-number, moved-taken}
 use Rattle.capi.specs.declared.ends.CutawhenoPart.{CutawhenoPart}
@@ -46,7 +46,7 @@ record Leaves-of (c : End-call) (e : List ℕ) : Type 0 where
   refused : end-number c e ≢ 0 → end-leaves c e ≡ e
   part : (v : ℕ) → part-by 0 (end-at (end-leaves c e)) v ≡ part-by 0 (end-at e) v
 
-answer-taken : (e ks : List ℕ) (v : ℕ) → part-answer (end-at e) ks v .number ≡ 0 → answer-refusal (end-at e) ks v ≡ 0
+answer-taken : (e ks : List ℕ) (v : ℕ) → part-answer (end-at e) ks v .number ≡ 0 → answer-refusal sixteen (end-at e) ks v ≡ 0
 unfolding Part-is-reply
 answer-taken e ks v z = sym (moved-number _ (end-at e) (Answered v)) ∙ sym (part-is-reply (end-at e) ks v .number) ∙ z
 
@@ -65,9 +65,9 @@ module _ (e : List ℕ) (l : length e ≡ end-length) where
   unfolding end-number end-leaves next Ends-stand
   taken-at (message-call ks fs o) z =
       ends-stand e l .first-stands ks fs (length o)
-      ∙ ap (λ (a : Answer). a .client) (moved-taken (sym (moved-number _ (end-at e) Sent) ∙ z) (end-at e) Sent)
+      ∙ ap (λ (a : Moved). a .client) (moved-taken (sym (moved-number _ (end-at e) Sent) ∙ z) (end-at e) Sent)
   taken-at (answer-call ks v) z =
-      ends-stand e l .reply-stands ks v ∙ ap (λ (a : Answer). a .client) (moved-taken (answer-taken e ks v z) (end-at e) (Answered v))
+      ends-stand e l .reply-stands ks v ∙ ap (λ (a : Moved). a .client) (moved-taken (answer-taken e ks v z) (end-at e) (Answered v))
 
   leaves-of : (c : End-call) → Leaves-of c e
   unfolding part-by

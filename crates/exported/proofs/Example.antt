@@ -10,7 +10,7 @@ use Rattle.scheme.specs.Scheme.{unless}
 use Rattle.scheme.specs.Totals as Totals
 use Rattle.scheme.specs.Service as Service
 use Rattle.scheme.specs.Modular.{modular-laws}
-use Rattle.solve.specs.Solve.{laws16, point, unknown-at}
+use Rattle.scheme.specs.Solve.{unknown-at}
 use Rattle.client.specs.Client as Client
 use Rattle.service.specs.View as View
 use Rattle.service.specs.Calls as Calls
@@ -23,7 +23,7 @@ use Rattle.exported.specs.Shown.{end-calls, calls}
 use Rattle.exported.specs.Example.{example-given, example-calls, Example-right}
 
 pub example-right : Example-right
-unfolding inverse inverse-from modular-laws laws16 point padded unknown-at
+unfolding inverse inverse-from modular-laws padded unknown-at
     Lists.rank Scheme.elements Scheme.sum Scheme.plan-good Scheme.items Scheme.places Scheme.is-user Scheme.in-set Scheme.ones Scheme.usable Scheme.usable-with
     Scheme.users-in Scheme.usable-sets Scheme.sets-with Scheme.list-length Scheme.mask Scheme.noise-start Scheme.noise Scheme.column Scheme.row-value
     Scheme.share Scheme.shares Scheme.key Scheme.key-length Scheme.first-message Scheme.reply-start Scheme._then_ unless

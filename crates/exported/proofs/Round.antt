@@ -19,9 +19,10 @@ use Rattle.scheme.specs.Service.{has-plan, is-replying, State, gathered, replie
 use Rattle.scheme.proofs.Tests.{holds}
 use Rattle.scheme.proofs.Refusals.{after-taken}
 use Rattle.scheme.proofs.Held.{complete-held}
+use Rattle.solve.specs.Solve.{laws16}
 use Rattle.plan.specs.Plan.{plan-of}
 use Rattle.client.specs.Shown as client
-use Rattle.client.specs.Shown.{Given}
+use Rattle.client.specs.Shown.{Handed}
 use Rattle.service.specs.declared.Service.{Service}
 use Rattle.service.specs.View.{phase-of, view, Formed}
 use Rattle.service.specs.Calls.{opened, open-step}
@@ -50,10 +51,10 @@ record Finishes (s : Service) : Type 0 where
   replying : is-replying (view s .phase) ≡ true
   untested : refusal sixteen finish-record (view s) ≡ 0
 
-finishes : (s : Service) → finish-step s .number ≢ 11 → finish-step s .number ≢ 12 → finish-step s .number ≢ 15 → Finishes s
+finishes : (s : Service) → finish-step sixteen laws16 s .number ≢ 11 → finish-step sixteen laws16 s .number ≢ 12 → finish-step sixteen laws16 s .number ≢ 15 → Finishes s
 unfolding finish-step finish-refusal refusal view unless _then_
 finishes s n11 n12 n15 =
-    let e = answer-number (finish-refusal s) s in
+    let e = answer-number (finish-refusal sixteen laws16 s) s in
     let a = passes (has-plan (phase-of (s .head .phase))) 11 _ (omega arith) (λ z. n11 (e ∙ z)) in
     let b = passes (is-replying (phase-of (s .head .phase))) 12 _ (omega arith) (λ z. n12 (e ∙ a .1 ∙ z)) in
     let c = passes (plan-good (plan-of (s .head .plan))) 15 _ (omega arith) (λ z. n15 (e ∙ a .1 ∙ b .1 ∙ z)) in
@@ -62,11 +63,11 @@ finishes s n11 n12 n15 =
     record { replying = b .0; untested = simp (a .0, b .0, d .0) }
 
 -- the totals that a taken finish gives are its first L places, and 0 behind them
-totals-padded : (s : Service) (n : ℕ) → finish-answer n s .number ≡ 0 → let ts = finish-answer n s .totals in
+totals-padded : (s : Service) (n : ℕ) → finish-answer sixteen laws16 n s .number ≡ 0 → let ts = finish-answer sixteen laws16 n s .totals in
     ts ≡ padded most-places (take (places (plan-of (s .head .plan))) ts)
 unfolding finish-answer totals-by totals view
 totals-padded s zero z =
-    let t = total-of sixteen (plan-of (s .head .plan)) (s .head .survivors) (values (view s .firsts)) (choice s) in
+    let t = total-of sixteen (plan-of (s .head .plan)) (s .head .survivors) (values (view s .firsts)) (choice sixteen laws16 s) in
     sym (ap (padded most-places) (round-proved.first-places most-places (places (plan-of (s .head .plan))) t))
 totals-padded s (suc n) z = absurd (omega arith)
 
@@ -76,12 +77,12 @@ unfolding Each-taken
 every [] a = tt
 every (c ∷ cs) a = (λ z. tt, every cs (leaves c a))
 
-module _ (a : Arrays) (w : Formed (state a)) (r : ℕ) (e : number-of (open-call r) a ≡ 0) (cs : List Call) where
+module _ (a : Arrays) (w : Formed sixteen (state a)) (r : ℕ) (e : number-of (open-call r) a ≡ 0) (cs : List Call) where
   opens : view (state (leaves (open-call r) a)) ≡ next-state (open-record r) (view (state a))
   unfolding number-of leaves open-step after
   opens = ap view (calls-stand a .open-stands r ∙ ap (λ (n : ℕ). after n (opened (state a .head) r) (state a)) e) ∙ opened-view (state a) r
 
-  end-formed : Formed (state (run cs (leaves (open-call r) a)))
+  end-formed : Formed sixteen (state (run cs (leaves (open-call r) a)))
   end-formed = run-formed cs (leaves (open-call r) a) (step-right a w (open-call r) .formed)
 
   keeps : (P : State → Type 0) (Q : Record → Type 0) → ((r : Record) (s t : State) (a : Answer) → Steps sixteen r s a t → Q r → P s → P t)
@@ -111,7 +112,7 @@ round-right before cs r xs x lent o e n11 n12 n15 ok rows room sent =
     start : Arrays
     start = run before zeros
 
-    begun : Formed (state start)
+    begun : Formed sixteen (state start)
     begun = run-formed before zeros zeros-formed
 
     a : Arrays
@@ -120,7 +121,7 @@ round-right before cs r xs x lent o e n11 n12 n15 ok rows room sent =
     s : Service
     s = state a
 
-    formed : Formed s
+    formed : Formed sixteen s
     formed = end-formed start begun r e cs
 
     f : Finishes s
@@ -129,7 +130,7 @@ round-right before cs r xs x lent o e n11 n12 n15 ok rows room sent =
     v : ℕ
     v = s .head .survivors
 
-    same : (k : ℕ) → calls (plan-in a) xs (x k) v k (lent k) ≡ client.calls (plan-in a) xs (x k) v k (lent k .key-buffer) (lent k .buffer)
+    same : (k : ℕ) → calls (plan-in a) xs (x k) v k (lent k) ≡ client.calls sixteen (plan-in a) xs (x k) v k (lent k .key-buffer) (lent k .buffer)
     same k = same-given (plan-in a) xs (x k) v k (lent k)
 
     survivor : (k : ℕ) → in-set v k ≡ true → in-set (gathered (view s)) k ≡ true
@@ -141,9 +142,9 @@ round-right before cs r xs x lent o e n11 n12 n15 ok rows room sent =
           first = λ k i lo hi m h.
               first-carried start begun r e cs k _ (sent .first k lo hi m) .right i
               (complete-held (plan-of (plan-in a)) (view s .firsts) (places (plan-of (plan-in a))) k lo hi (survivor k m) i h)
-              ∙ ap (λ (g : Given). getD (g .message) i 0) (same k);
+              ∙ ap (λ (g : Handed). getD (g .message) i 0) (same k);
           answer = λ k b lo hi m h.
               reply-carried start begun r e cs k _ (sent .answer k lo hi m) .right b
               (complete-held (plan-of (plan-in a)) (view s .replies) (plan-in a .blocks) k lo hi m b h)
-              ∙ ap (λ (g : Given). getD (g .part) b 0) (same k);
+              ∙ ap (λ (g : Handed). getD (g .part) b 0) (same k);
         }

@@ -12,6 +12,7 @@ use Rattle.scheme.specs.Scheme.{sixteen, plan-good, places, after, unless, _the
 use Rattle.scheme.specs.Service.{State, has-plan, Answer, totalled, Record, finish-record, Runs, done, more}
 use Rattle.scheme.proofs.Refusals.{after-taken}
 use Rattle.scheme.proofs.Well.{test-held}
+use Rattle.solve.specs.Solve.{laws16}
 use Rattle.plan.specs.declared.Plan.{Plan}
 use Rattle.plan.specs.Plan.{plan-of}
 use Rattle.service.specs.declared.Service.{Service}
@@ -31,9 +32,9 @@ use Rattle.capi.proofs.Stands.{new-stands, calls-stand}
 use Rattle.exported.specs.Runs.{Call, plan-call, open-call, first-call, close-call, reply-call, finish-call, record-of, plan-in, number-of, leaves, handed, answer-to, run, answers, Runs-right, Opens-as-new}
 
 -- the state that the service's own call hands back is the one that the arrays stand for
-module _ (a : Arrays) (w : Formed (state a)) where
-  stands : {r : Record} {b : Answer} {s t : Service} → t ≡ s → Is-step r (state a) b s → Is-step r (state a) b t
-  stands {r} {b} e h = subst (Is-step r (state a) b) (sym e) h
+module _ (a : Arrays) (w : Formed sixteen (state a)) where
+  stands : {r : Record} {b : Answer} {s t : Service} → t ≡ s → Is-step sixteen r (state a) b s → Is-step sixteen r (state a) b t
+  stands {r} {b} e h = subst (Is-step sixteen r (state a) b) (sym e) h
 
   -- the lent buffer has the totals where finish is taken
   totals-told : (n : ℕ) (ts o : List ℕ) → let say : List ℕ → Answer = λ l. told n (totalled (state a .head .round) (take (places (plan-of (plan-in a))) l)) in
@@ -42,7 +43,7 @@ module _ (a : Arrays) (w : Formed (state a)) where
   totals-told zero ts o = refl
   totals-told (suc n) ts o = refl
 
-  pub step-right : (c : Call) → Is-step (record-of c) (state a) (answer-to c a) (state (leaves c a))
+  pub step-right : (c : Call) → Is-step sixteen (record-of c) (state a) (answer-to c a) (state (leaves c a))
   unfolding record-of number-of leaves handed first-step reply-step finish-totals Plan-steps Open-steps First-steps Reply-steps Close-steps Finish-steps
   step-right (plan-call p) = stands (calls-stand a .plan-stands p) (plan-steps (state a) p w)
   step-right (open-call r) = stands (calls-stand a .open-stands r) (open-steps (state a) r w)
@@ -50,24 +51,24 @@ module _ (a : Arrays) (w : Formed (state a)) where
   step-right close-call = stands (calls-stand a .close-stands) (close-steps (state a) w)
   step-right (reply-call k b x) = stands (calls-stand a .reply-stands k b x) (reply-steps (state a) k b x w)
   step-right (finish-call o) =
-      let t = finish-step (state a) in
+      let t = finish-step sixteen laws16 (state a) in
       stands (calls-stand a .finish-stands)
-      (subst (λ (b : Answer). Is-step finish-record (state a) b (t .service)) (totals-told (t .number) (t .totals) o) (finish-steps (state a) w))
+      (subst (λ (b : Answer). Is-step sixteen finish-record (state a) b (t .service)) (totals-told (t .number) (t .totals) o) (finish-steps (state a) w))
 
-pub run-formed : (cs : List Call) (a : Arrays) → Formed (state a) → Formed (state (run cs a))
+pub run-formed : (cs : List Call) (a : Arrays) → Formed sixteen (state a) → Formed sixteen (state (run cs a))
 unfolding run
 run-formed [] a w = w
 run-formed (c ∷ cs) a w = run-formed cs (leaves c a) (step-right a w c .formed)
 
-run-steps : (cs : List Call) (a : Arrays) → Formed (state a) → Runs sixteen (map record-of cs) (view (state a)) (answers cs a) (view (state (run cs a)))
+run-steps : (cs : List Call) (a : Arrays) → Formed sixteen (state a) → Runs sixteen (map record-of cs) (view (state a)) (answers cs a) (view (state (run cs a)))
 unfolding run answers
 run-steps [] a w = done _
 run-steps (c ∷ cs) a w = let h = step-right a w c in more _ _ _ _ _ _ _ (h .step) (run-steps cs (leaves c a) (h .formed))
 
 -- ---- from zeros
-pub zeros-formed : Formed (state zeros)
+pub zeros-formed : Formed sixteen (state zeros)
 unfolding New-formed New-stands
-zeros-formed = subst Formed (sym new-stands) (new-formed .1)
+zeros-formed = subst Formed sixteen (sym new-stands) (new-formed .1)
 
 pub runs-right : Runs-right
 unfolding Runs-right New-formed New-stands

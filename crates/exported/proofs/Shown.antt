@@ -6,7 +6,7 @@ use mathlib.Core.List.{List, map}
 use Prim.Native.Nat.{ℕ, zero, suc}
 use lib.ListN.{length}
 use Rattle.scheme.specs.Lists.{span}
-use Rattle.scheme.specs.Scheme.{users-in, after}
+use Rattle.scheme.specs.Scheme.{sixteen, users-in, after}
 use Rattle.plan.specs.declared.Plan.{Plan}
 use Rattle.plan.specs.Plan.{plan-of}
 use Rattle.client.specs.declared.Client.{Client}
@@ -21,15 +21,15 @@ use Rattle.exported.specs.Shown.{end-calls, calls, Same-given, Shown-is-
 
 -- from the array that start leaves
 end-given : (n : ℕ) (p : Plan) (k : ℕ) (e ks fs : List ℕ) (v : ℕ) (o : List ℕ) → let b = begun-with n p k in
-    end-calls (b .number) (after (b .number) (end-numbers (fresh-end p k)) e) ks fs v o ≡ client-calls (b .client) ks fs v o
+    end-calls (b .number) (after (b .number) (end-numbers (fresh-end p k)) e) ks fs v o ≡ client-calls sixteen (b .client) ks fs v o
 unfolding begun-with after end-calls client-calls end-numbers end-at code-stage stage-of stage-number stage-of-number Ends-stand Part-is-reply
 end-given zero p k e ks fs v o =
     let same = ends-stand (end-numbers (fresh-end p k)) refl .first-stands ks fs (length o) in
     λ i.
     record {
-      key-given = ks;
-      message = message-left (fresh-end p k) ks fs o;
-      part = (part-is-reply _ ks v .shares ∙ ap (λ (d : Client). part-of d ks v) same) i;
+      key = ks;
+      message = message-left sixteen (fresh-end p k) ks fs o;
+      part = (part-is-reply _ ks v .shares ∙ ap (λ (d : Client). part-of sixteen d ks v) same) i;
     }
 end-given (suc n) p k e ks fs v o = refl
 
@@ -40,12 +40,12 @@ same-given p xs fs v k l = end-given _ p k (l .end) _ fs v (l .buffer)
 pub shown-is-sent : Shown-is-sent
 unfolding Shown-is-sent client.Shown-is-sent Same-given
 shown-is-sent p v c xs x lent good u ok rows room =
-    let same : (k : ℕ) → client.calls p xs (x k) v k (lent k .key-buffer) (lent k .buffer) ≡ calls p xs (x k) v k (lent k) = λ k.
+    let same : (k : ℕ) → client.calls sixteen p xs (x k) v k (lent k .key-buffer) (lent k .buffer) ≡ calls p xs (x k) v k (lent k) = λ k.
     sym (same-given p xs (x k) v k (lent k)) in
     proved.shown-is-sent p v c xs x (λ k. lent k .key-buffer) (λ k. lent k .buffer) good u ok rows room
     ∙ (λ i.
     record {
       firsts = map (λ k. same k i .message) (span (p .users) 1);
       replies = map (λ k. same k i .part) (users-in (plan-of p) v);
-      keys = map (λ k. same k i .key-given) (users-in (plan-of p) c);
+      keys = map (λ k. same k i .key) (users-in (plan-of p) c);
     })

@@ -11,6 +11,7 @@ use mathlib.Core.List.{List, [], _∷_}
 use Prim.Native.Nat.{ℕ, suc, _≤_}
 use lib.Dec.{eqb}
 use lib.ListN.{length}
+use Rattle.scheme.specs.Scheme.{sixteen}
 use Rattle.client.specs.Client.{first-answer, reply-answer}
 use Rattle.capi.specs.declared.ends.CutawhenoPart.{CutawhenoPart}
 use Rattle.capi.specs.Ends.{end-length, end-at, kept, part-by, part-answer}
@@ -20,12 +21,12 @@ pub data End-call : Type 0 where
   answer-call : (key : List ℕ) → (set : ℕ) → End-call
 
 unfoldable pub end-number : End-call → (end : List ℕ) → ℕ
-end-number (message-call ks fs o) e = first-answer (end-at e) ks fs (length o) .number
+end-number (message-call ks fs o) e = first-answer sixteen (end-at e) ks fs (length o) .number
 end-number (answer-call ks v) e = part-answer (end-at e) ks v .number
 
 unfoldable pub end-leaves : End-call → (end : List ℕ) → List ℕ
-end-leaves (message-call ks fs o) e = kept (first-answer (end-at e) ks fs (length o)) e
-end-leaves (answer-call ks v) e = kept (reply-answer (end-at e) ks v) e
+end-leaves (message-call ks fs o) e = kept (first-answer sixteen (end-at e) ks fs (length o)) e
+end-leaves (answer-call ks v) e = kept (reply-answer sixteen (end-at e) ks v) e
 
 unfoldable pub messages : List End-call → (end : List ℕ) → ℕ
 messages [] e = 0

@@ -12,7 +12,7 @@ use Rattle.scheme.specs.Limits.{most-places}
 use Rattle.scheme.specs.Service.{silent, planned, opened, closed, totalled, refused}
 use Rattle.plan.specs.declared.Plan.{Plan}
 use Rattle.plan.specs.Plan.{plan-of}
-use Rattle.client.specs.Shown.{Given}
+use Rattle.client.specs.Shown.{Handed}
 use Rattle.capi.specs.Ends.{end-length}
 use Rattle.capi.specs.Lent.{zeros}
 use Rattle.exported.specs.Runs.{Call, plan-call, open-call, first-call, close-call, reply-call, finish-call, answers}
@@ -25,7 +25,7 @@ abbrev pub example-list : List ℕ
 example-list = 100 ∷ 200 ∷ 300 ∷ 12 ∷ 60 ∷ 40 ∷ 120 ∷ []
 
 -- whatever the buffers and the array held before
-unfoldable pub example-given : (k : ℕ) → Given
+unfoldable pub example-given : (k : ℕ) → Handed
 example-given k =
     calls example-plan example-list (k * 10 ∷ []) 5 k (record { key-buffer = replicate 4 7; buffer = 7 ∷ []; end = replicate end-length 7 })
 
@@ -41,8 +41,8 @@ example-calls =
     ∷ first-call 2 0 (message-of 2) ∷ reply-call 1 0 (share-of 1) ∷ reply-call 3 0 (share-of 3) ∷ finish-call (replicate most-places 7) ∷ []
 
 pub record Example-right : Type 0 where
-  pub user-1 : example-given 1 ≡ record { key-given = 100 ∷ 154 ∷ 220 ∷ 340 ∷ []; message = 110 ∷ []; part = 220 ∷ [] }
-  pub user-2 : example-given 2 ≡ record { key-given = 200 ∷ 103 ∷ 22017 ∷ 230 ∷ []; message = 220 ∷ []; part = [] }
-  pub user-3 : example-given 3 ≡ record { key-given = 300 ∷ 112 ∷ 133 ∷ 174 ∷ []; message = 330 ∷ []; part = 112 ∷ [] }
+  pub user-1 : example-given 1 ≡ record { key = 100 ∷ 154 ∷ 220 ∷ 340 ∷ []; message = 110 ∷ []; part = 220 ∷ [] }
+  pub user-2 : example-given 2 ≡ record { key = 200 ∷ 103 ∷ 22017 ∷ 230 ∷ []; message = 220 ∷ []; part = [] }
+  pub user-3 : example-given 3 ≡ record { key = 300 ∷ 112 ∷ 133 ∷ 174 ∷ []; message = 330 ∷ []; part = 112 ∷ [] }
   pub answered : answers example-calls zeros
       ≡ planned (plan-of example-plan) ∷ opened 7 ∷ silent ∷ silent ∷ closed 7 5 ∷ refused 12 ∷ silent ∷ silent ∷ totalled 7 (40 ∷ []) ∷ []

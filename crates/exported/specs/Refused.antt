@@ -19,9 +19,9 @@ pub record Refused-unchanged : Type 0 where
   pub key-kept : (p : Plan) (k : ℕ) (xs o : List ℕ) → let n = key-refusal sixteen (plan-of p) k xs (length o) in n ≢ 0 →
       after n (key sixteen (plan-of p) xs k) o ≡ o
   pub start-kept : (p : Plan) (k : ℕ) (e : List ℕ) → begun p k .number ≢ 0 → start-left p k e ≡ e
-  pub first-kept : (e ks fs o : List ℕ) → let a = first-answer (end-at e) ks fs (length o) in a .number ≢ 0 →
-      (kept a e ≡ e) × (message-left (end-at e) ks fs o ≡ o)
+  pub first-kept : (e ks fs o : List ℕ) → let a = first-answer sixteen (end-at e) ks fs (length o) in a .number ≢ 0 →
+      (kept a e ≡ e) × (message-left sixteen (end-at e) ks fs o ≡ o)
   pub reply-kept : (e ks : List ℕ) (v : ℕ) → let p = part-answer (end-at e) ks v in p .number ≢ 0 →
-      (kept (reply-answer (end-at e) ks v) e ≡ e) × (p .start ≡ 0) × (p .count ≡ 0)
+      (kept (reply-answer sixteen (end-at e) ks v) e ≡ e) × (p .start ≡ 0) × (p .count ≡ 0)
   pub arrays-kept : (c : Call) (a : Arrays) → number-of c a ≢ 0 → leaves c a ≡ a
   pub totals-kept : (a : Arrays) (o : List ℕ) → number-of (finish-call o) a ≢ 0 → finish-totals a o ≡ o

@@ -18,7 +18,7 @@ use Rattle.scheme.specs.Scheme.{sixteen, places, in-set, total-at}
 use Rattle.scheme.specs.Promise.{Table, admissible, list-good}
 use Rattle.scheme.specs.Service.{Record, plan-record, open-record, first-record, close-record, reply-record, finish-record, replied}
 use Rattle.plan.specs.Plan.{plan-of}
-use Rattle.client.specs.Shown.{Given}
+use Rattle.client.specs.Shown.{Handed}
 use Rattle.service.specs.View.{view}
 use Rattle.capi.specs.Lent.{Arrays, zeros, state, finish-totals}
 use Rattle.exported.specs.Runs.{Call, open-call, finish-call, record-of, plan-in, number-of, leaves, run}
@@ -45,7 +45,7 @@ Reply-of k s close-record = Unit {0}
 Reply-of k s finish-record = Unit {0}
 
 -- of the calls since an open, and the arrays that the open left
-pub record Sent-in (round : List Call) (opened : Arrays) (given : (k : ℕ) → Given) : Type 0 where
+pub record Sent-in (round : List Call) (opened : Arrays) (given : (k : ℕ) → Handed) : Type 0 where
   pub first : let a = run round opened in (k : ℕ) → 1 ≤ k → k ≤ plan-in a .users → in-set (state a .head .survivors) k ≡ true →
       Each-taken (First-of k (given k .message)) round opened
   pub answer : let a = run round opened in (k : ℕ) → 1 ≤ k → k ≤ plan-in a .users → in-set (replied (view (state a))) k ≡ true →

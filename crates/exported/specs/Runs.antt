@@ -13,6 +13,7 @@ use Prim.Native.Nat.{ℕ}
 use lib.ListN.{take}
 use Rattle.scheme.specs.Scheme.{sixteen, places}
 use Rattle.scheme.specs.Service.{new-state, Record, plan-record, open-record, first-record, close-record, reply-record, finish-record, Answer, silent, planned, opened, closed, totalled, Runs}
+use Rattle.solve.specs.Solve.{laws16}
 use Rattle.plan.specs.declared.Plan.{Plan}
 use Rattle.plan.specs.Plan.{plan-of}
 use Rattle.service.specs.View.{view, Formed}
@@ -44,17 +45,17 @@ plan-in a = state a .head .plan
 unfoldable pub number-of : Call → Arrays → ℕ
 number-of (plan-call p) a = plan-step (state a) p .number
 number-of (open-call r) a = open-step (state a) r .number
-number-of (first-call k i x) a = first-refusal (head-at (a .head)) (a .first) k i x
+number-of (first-call k i x) a = first-refusal sixteen (head-at (a .head)) (a .first) k i x
 number-of close-call a = closed-answer (close-step (state a)) .number
-number-of (reply-call k b x) a = reply-refusal (head-at (a .head)) (a .reply) k b x
-number-of (finish-call o) a = finish-step (state a) .number
+number-of (reply-call k b x) a = reply-refusal sixteen (head-at (a .head)) (a .reply) k b x
+number-of (finish-call o) a = finish-step sixteen laws16 (state a) .number
 
 unfoldable pub leaves : Call → Arrays → Arrays
 leaves (plan-call p) a = plan-left a p
 leaves (open-call r) a = open-left a r
-leaves (first-call k i x) a = arrays (a .head) (first-left (head-at (a .head)) (a .first) k i x) (a .reply)
+leaves (first-call k i x) a = arrays (a .head) (first-left sixteen (head-at (a .head)) (a .first) k i x) (a .reply)
 leaves close-call a = close-left a
-leaves (reply-call k b x) a = arrays (a .head) (a .first) (reply-left (head-at (a .head)) (a .reply) k b x)
+leaves (reply-call k b x) a = arrays (a .head) (a .first) (reply-left sixteen (head-at (a .head)) (a .reply) k b x)
 leaves (finish-call o) a = finish-left a
 
 -- of a taken call: the set that close hands back; the totals are the first L of the lent buffer as finish leaves it
@@ -80,7 +81,7 @@ answers (c ∷ cs) a = answer-to c a ∷ answers cs (leaves c a)
 -- what document 01 promises of every run (Demand-2 of scheme/specs/ServicePromise.antt) is so promised of the calls
 pub record Run-right (cs : List Call) : Type 0 where
   pub runs : Runs sixteen (map record-of cs) new-state (answers cs zeros) (view (state (run cs zeros)))
-  pub formed : Formed (state (run cs zeros))
+  pub formed : Formed sixteen (state (run cs zeros))
 
 unfoldable pub Runs-right : Type 0
 Runs-right = (cs : List Call) → Run-right cs

@@ -17,7 +17,7 @@ use Rattle.plan.specs.declared.Plan.{Plan}
 use Rattle.plan.specs.Plan.{plan-of}
 use Rattle.client.specs.Client.{begun, first-answer, message-left}
 use Rattle.client.specs.Shown as client
-use Rattle.client.specs.Shown.{Given}
+use Rattle.client.specs.Shown.{Handed}
 use Rattle.capi.specs.Ends.{end-at, start-left, kept, part-answer}
 
 pub record Lent : Type 0 where
@@ -29,23 +29,23 @@ pub record Lent : Type 0 where
 abbrev pub Room : Plan → (k : ℕ) → Lent → Type 0
 Room p k l = (length (l .key-buffer) ≡ key-length (plan-of p) k) × (length (l .buffer) ≡ places (plan-of p))
 
-unfoldable pub end-calls : (refusal : ℕ) → (end key figures : List ℕ) → (set : ℕ) → (buffer : List ℕ) → Given
+unfoldable pub end-calls : (refusal : ℕ) → (end key figures : List ℕ) → (set : ℕ) → (buffer : List ℕ) → Handed
 end-calls n e ks fs v o =
-    let sent = kept (first-answer (end-at e) ks fs (length o)) e in
+    let sent = kept (first-answer sixteen (end-at e) ks fs (length o)) e in
     let part = part-answer (end-at sent) ks v in
     record {
-      key-given = ks;
-      message = after n (message-left (end-at e) ks fs o) o;
+      key = ks;
+      message = after n (message-left sixteen (end-at e) ks fs o) o;
       part = after n (take (part .count) (drop (part .start) ks)) [];
     }
 
-unfoldable pub calls : Plan → (list : List ℕ) → (figures : List ℕ) → (set user : ℕ) → Lent → Given
+unfoldable pub calls : Plan → (list : List ℕ) → (figures : List ℕ) → (set user : ℕ) → Lent → Handed
 calls p xs fs v k l =
     end-calls (begun p k .number) (start-left p k (l .end))
     (after (key-refusal sixteen (plan-of p) k xs (length (l .key-buffer))) (key sixteen (plan-of p) xs k) (l .key-buffer)) fs v (l .buffer)
 
 unfoldable pub Same-given : Type 0
-Same-given = (p : Plan) (xs fs : List ℕ) (v k : ℕ) (l : Lent) → calls p xs fs v k l ≡ client.calls p xs fs v k (l .key-buffer) (l .buffer)
+Same-given = (p : Plan) (xs fs : List ℕ) (v k : ℕ) (l : Lent) → calls p xs fs v k l ≡ client.calls sixteen p xs fs v k (l .key-buffer) (l .buffer)
 
 unfoldable pub Shown-is-sent : Type 0
 Shown-is-sent =
@@ -55,5 +55,5 @@ Shown-is-sent =
     record {
       firsts = map (λ k. calls p xs (x k) v k (lent k) .message) (span (p .users) 1);
       replies = map (λ k. calls p xs (x k) v k (lent k) .part) (users-in (plan-of p) v);
-      keys = map (λ k. calls p xs (x k) v k (lent k) .key-given) (users-in (plan-of p) c);
+      keys = map (λ k. calls p xs (x k) v k (lent k) .key) (users-in (plan-of p) c);
     }

@@ -19,7 +19,7 @@ use Rattle.scheme.proofs.Well.{Finishing, finishing, replied-survives}
 use Rattle.plan.specs.declared.Plan.{Plan}
 use Rattle.plan.specs.Plan.{plan-of}
 use Rattle.client.proofs.Shown.{Ready, message-is-sent, part-is-sent}
-use Rattle.solve.proofs.Filled.{padded-take}
+use Rattle.scheme.proofs.Padded.{padded-take}
 use Rattle.service.specs.View.{view}
 use Rattle.finish.specs.Promise.{Finish-right}
 use Rattle.finish.proofs.Steps.{finish-right}

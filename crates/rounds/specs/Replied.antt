@@ -6,11 +6,11 @@ use mathlib.Core.List.{List, _++_}
 use Prim.Native.Nat.{ℕ, _-_}
 use lib.ListN.{length, take, replicate}
 use Rattle.scheme.specs.Limits.{most-blocks}
-use Rattle.client.specs.declared.Answer.{Answer}
+use Rattle.client.specs.declared.Moved.{Moved}
 use Rattle.rounds.specs.declared.calls.ends.Copied.{Copied}
 
 abbrev pub shares-of : List ℕ → List ℕ
 shares-of l = take most-blocks l ++ replicate (most-blocks - length l) 0
 
-abbrev pub copied : Answer → (part : List ℕ) → Copied
+abbrev pub copied : Moved → (part : List ℕ) → Copied
 copied a l = record { number = a .number; client = a .client; count = length l; shares = shares-of l }

@@ -10,6 +10,7 @@ use native.Mathlib.Omega.{arith}
 use lib.ListN.{length, take, drop, take-append-drop}
 use lib.Seq.{length-take-le}
 use borrow.Author.Tests.{eq-eqb, ne-eqb, ltb-true, lt-ltb, le-leb, lt-leb, leb-false}
+use Rattle.scheme.specs.Scheme.{sixteen}
 use Rattle.scheme.specs.Service.{plan-record, open-record, first-record, close-record, reply-record, finish-record, refused, done, more}
 use Rattle.scheme.proofs.Tests.{holds, is-false}
 use Rattle.service.specs.declared.Service.{Service}
@@ -101,7 +102,7 @@ module _ (s : Service) (b : List ℕ) (o n : ℕ) where
         fits = h;
         whole = g .whole;
         state = g .state;
-        formed = λ f. subst Formed (sym (g .state)) (answers-run s (items o (take at b)) f (g .whole) .formed);
+        formed = λ f. subst Formed sixteen (sym (g .state)) (answers-run s (items o (take at b)) f (g .whole) .formed);
         written = g .written;
         same = λ rest.
             ap (λ (l : List ℕ). lines s o (l ++ rest)) (sym (take-append-drop at b)) ∙ ap (lines s o) (append-assoc (take at b) (drop at b) rest)

@@ -24,6 +24,7 @@ use Rattle.scheme.specs.Service.{Record, plan-record, open-record, first-record
 use Rattle.scheme.proofs.Good.{good}
 use Rattle.scheme.proofs.Lists.{map-span-length, span-length}
 use Rattle.scheme.proofs.Refusals.{then-zero, unless-zero}
+use Rattle.solve.specs.Solve.{laws16}
 use Rattle.plan.specs.Plan.{plan-of}
 use Rattle.scheme.proofs.PlanBounds.{places-le}
 use Rattle.service.specs.declared.Head.{Head}
@@ -33,7 +34,7 @@ use Rattle.service.specs.View.{view}
 use Rattle.service.specs.Promise.{told}
 use Rattle.finish.specs.Finish.{choice, finish-refusal, finish-answer, finish-step}
 use Rattle.finish.proofs.Answers.{answer-number}
-use Rattle.solve.proofs.Filled.{padded-take}
+use Rattle.scheme.proofs.Padded.{padded-take}
 use Rattle.lines.specs.Text.{decimal, numbers, line}
 use Rattle.lines.specs.Put.{number-room, room, Put}
 use Rattle.lines.proofs.Decimals.{decimal-twenty, decimal-most}
@@ -98,7 +99,7 @@ module _ (b : List ℕ) (at : ℕ) where
 -- ---- an element, held by the service's leaf
 module _ (b : List ℕ) (at : ℕ) {h : Head} {held held′ : List ℕ} {o k i x n : ℕ} {out out′ : List ℕ} {wrote next : ℕ} where
   pub turn-first : getD b at 0 ≡ 3 → k ≡ getD b (at + 1) 0 → i ≡ two-bytes b (at + 2) → x ≡ two-bytes b (at + 4)
-      → n ≡ first-refusal h held k i x → held′ ≡ first-left h held k i x → Put out out′ wrote next (line o (told n silent))
+      → n ≡ first-refusal sixteen h held k i x → held′ ≡ first-left sixteen h held k i x → Put out out′ wrote next (line o (told n silent))
       → (reply : List ℕ) → Turns (record-at b at) o (lent h held reply) (lent h held′ reply) out out′ wrote next
   unfolding step first-step
   turn-first kind ek ei ex en el p reply =
@@ -106,7 +107,7 @@ module _ (b : List ℕ) (at : ℕ) {h : Head} {held held′ : List ℕ} {o k i x
       turns-as e (record { state = ap (λ (l : List ℕ). lent h l reply) el; put = put-as p (ap (λ (m : ℕ). line o (told m silent)) en) })
 
   pub turn-reply : getD b at 0 ≡ 5 → k ≡ getD b (at + 1) 0 → i ≡ getD b (at + 2) 0 → x ≡ two-bytes b (at + 3)
-      → n ≡ reply-refusal h held k i x → held′ ≡ reply-left h held k i x → Put out out′ wrote next (line o (told n silent))
+      → n ≡ reply-refusal sixteen h held k i x → held′ ≡ reply-left sixteen h held k i x → Put out out′ wrote next (line o (told n silent))
       → (first : List ℕ) → Turns (record-at b at) o (lent h first held) (lent h first held′) out out′ wrote next
   unfolding step reply-step
   turn-reply kind ek ei ex en el p first =
@@ -114,10 +115,10 @@ module _ (b : List ℕ) (at : ℕ) {h : Head} {held held′ : List ℕ} {o k i x
       turns-as e (record { state = ap (lent h first) el; put = put-as p (ap (λ (m : ℕ). line o (told m silent)) en) })
 
 -- ---- a finish
-pub finish-good : (s : Service) → finish-step s .number ≡ 0 → Good (plan-of (s .head .plan))
+pub finish-good : (s : Service) → finish-step sixteen laws16 s .number ≡ 0 → Good (plan-of (s .head .plan))
 unfolding finish-step finish-refusal
 finish-good s e =
-    let a = then-zero _ _ (sym (answer-number (finish-refusal s) s) ∙ e) in
+    let a = then-zero _ _ (sym (answer-number (finish-refusal sixteen laws16 s) s) ∙ e) in
     let b = then-zero _ _ (a .1) in
     let c = then-zero _ _ (b .1) in
     good _ (unless-zero (plan-good (plan-of (s .head .plan))) 14 (c .0))
@@ -137,11 +138,11 @@ module _ (d : ℕ) (some : 1 ≤ d) (f : ℕ → ℕ) (small : (i : ℕ) → f i
       omega (arith, length-append (decimal (f i)) (numbers (map f l)), decimal-most d (f i) some (small i), numbers-most l, mul-suc (d + 1) (length l))
 
 -- the totals of an accepted finish
-given : (s : Service) (n : ℕ) → finish-answer n s .number ≡ 0
-    → take (places (plan-of (s .head .plan))) (finish-answer n s .totals) ≡ totals-by sixteen (view s) (choice s)
+given : (s : Service) (n : ℕ) → finish-answer sixteen laws16 n s .number ≡ 0
+    → take (places (plan-of (s .head .plan))) (finish-answer sixteen laws16 n s .totals) ≡ totals-by sixteen (view s) (choice sixteen laws16 s)
 unfolding finish-answer totals-by totals view
 given s zero e =
-    let ts = totals-by sixteen (view s) (choice s) in
+    let ts = totals-by sixteen (view s) (choice sixteen laws16 s) in
     subst (λ (n : ℕ). take n (padded most-places ts) ≡ ts) (map-span-length _ (places (plan-of (s .head .plan))) 0) (padded-take most-places ts)
 given s (suc n) e = absurd (omega arith)
 
@@ -172,12 +173,12 @@ module _ (o : ℕ) where
   unfolding line numbers
   total-short r f n h l = simp length-append (omega (arith, decimal-twenty r, numbers-most 5 (lit< tt) f h (span n 0), span-length n 0))
 
-  finish-short : (s : Service) → finish-step s .number ≡ 0
-      → length (line o (totalled (s .head .round) (take (places (plan-of (s .head .plan))) (finish-step s .totals)))) ≤ room
+  finish-short : (s : Service) → finish-step sixteen laws16 s .number ≡ 0
+      → length (line o (totalled (s .head .round) (take (places (plan-of (s .head .plan))) (finish-step sixteen laws16 s .totals)))) ≤ room
   unfolding finish-step totals-by totals total-of view
   finish-short s e =
       let p = plan-of (s .head .plan) in
-      rw (given s (finish-refusal s) e)
+      rw (given s (finish-refusal sixteen laws16 s) e)
       (total-short (s .head .round) _ (places p) (λ i. lt-trans (mod-lt _ (lit< tt)) (lit< tt)) (places-le p (finish-good s e)))
 
   pub line-short : (s : Service) (r : Record) → length (line o (step s r .answer)) ≤ room

@@ -30,7 +30,7 @@ use Rattle.stream.specs.declared.Fed.{Fed}
 use Rattle.stream.specs.Stream.{record-length, length-at, Item, taken, broken, items, step, Told, answers, text, lines, fed}
 
 unfoldable pub Step-right : Type 0
-Step-right = (s : Service) (r : Record) → Formed s → Is-step r s (step s r .answer) (step s r .service)
+Step-right = (s : Service) (r : Record) → Formed sixteen s → Is-step sixteen r s (step s r .answer) (step s r .service)
 
 -- ---- whole records
 unfoldable pub records-of : List Item → List Record
@@ -53,10 +53,10 @@ last-state s (broken o ∷ l) = s
 
 pub record Is-run (s : Service) (l : List Item) : Type 0 where
   pub run : Runs sixteen (records-of l) (view s) (answers-of (answers s l)) (view (last-state s l))
-  pub formed : Formed (last-state s l)
+  pub formed : Formed sixteen (last-state s l)
 
 unfoldable pub Answers-run : Type 0
-Answers-run = (s : Service) (l : List Item) → Formed s → all-taken l ≡ true → Is-run s l
+Answers-run = (s : Service) (l : List Item) → Formed sixteen s → all-taken l ≡ true → Is-run s l
 
 -- ---- any input
 unfoldable pub whole-of : List Item → List Item
@@ -74,7 +74,7 @@ pub record Says-run (s : Service) (o : ℕ) (b : List ℕ) : Type 0 where
   pub said : lines s o b ≡ text (answers s (whole-of (items o b))) ++ text (ending (items o b))
 
 unfoldable pub Lines-right : Type 0
-Lines-right = (s : Service) (o : ℕ) (b : List ℕ) → Formed s → Says-run s o b
+Lines-right = (s : Service) (o : ℕ) (b : List ℕ) → Formed sixteen s → Says-run s o b
 
 -- ---- the input cut in two after whole records
 unfoldable pub Cut-free : Type 0
@@ -98,7 +98,7 @@ pub record Fed-says (s : Service) (b : List ℕ) (o n : ℕ) (r : Fed) : Type 0 
   pub fits : r .wrote ≤ n
   pub whole : all-taken (items o (take (r .at) b)) ≡ true
   pub state : r .service ≡ last-state s (items o (take (r .at) b))
-  pub formed : Formed s → Formed (r .service)
+  pub formed : Formed sixteen s → Formed sixteen (r .service)
   pub written : r .wrote ≡ length (lines s o (take (r .at) b))
   pub same : (rest : List ℕ) → lines s o (b ++ rest) ≡ lines s o (take (r .at) b) ++ lines (r .service) (o + r .at) (drop (r .at) b ++ rest)
   pub why : Stops (r .stop) b o n (r .at) (r .wrote)
@@ -109,7 +109,7 @@ Fed-right = (s : Service) (b : List ℕ) (o n : ℕ) → Fed-says s b o n (fed s
 -- ---- a round keeps nothing of what was before
 unfoldable pub Opens-as-new : Type 0
 Opens-as-new =
-    (s : Service) (r o : ℕ) (b : List ℕ) → Formed s → open-step s r .number ≡ 0 →
+    (s : Service) (r o : ℕ) (b : List ℕ) → Formed sixteen s → open-step s r .number ≡ 0 →
     lines (open-step s r .service) o b ≡ lines (open-step (planned (s .head .plan)) r .service) o b
 
 -- ---- refusal 7

@@ -22,8 +22,9 @@ use lib.Dec.{ltb, leb, eqb}
 use lib.ListN.{length, getD, take, drop}
 use lib.Seq.{sets}
 use Rattle.scheme.specs.Scheme as scheme
-use Rattle.scheme.specs.Scheme.{places, unless, _then_}
+use Rattle.scheme.specs.Scheme.{sixteen, places, unless, _then_}
 use Rattle.scheme.specs.Service.{has-plan, is-gathering, is-replying, Record, plan-record, open-record, first-record, close-record, reply-record, finish-record, Answer, silent, planned, opened, closed, totalled, refused}
+use Rattle.solve.specs.Solve.{laws16}
 use Rattle.plan.specs.declared.Plan.{Plan}
 use Rattle.plan.specs.Plan.{plan-of}
 use Rattle.service.specs.declared.Head.{Head}
@@ -108,12 +109,12 @@ plan-from p = record { users = p .users; threshold = p .threshold; collusion = p
 unfoldable pub step : Service → Record → Outcome
 step s (plan-record p) = outcome (plan-step s (plan-from p) .number) (planned p) (plan-step s (plan-from p) .service)
 step s (open-record r) = outcome (open-step s r .number) (opened r) (open-step s r .service)
-step s (first-record k i x) = outcome (first-step s k i x .number) silent (first-step s k i x .service)
+step s (first-record k i x) = outcome (first-step sixteen s k i x .number) silent (first-step sixteen s k i x .service)
 step s close-record = outcome (close-step s .number) (closed (s .head .round) (close-step s .set)) (close-step s .service)
-step s (reply-record k b x) = outcome (reply-step s k b x .number) silent (reply-step s k b x .service)
+step s (reply-record k b x) = outcome (reply-step sixteen s k b x .number) silent (reply-step sixteen s k b x .service)
 step s finish-record =
-    outcome (finish-step s .number) (totalled (s .head .round) (take (places (plan-of (s .head .plan))) (finish-step s .totals)))
-    (finish-step s .service)
+    outcome (finish-step sixteen laws16 s .number) (totalled (s .head .round) (take (places (plan-of (s .head .plan))) (finish-step sixteen laws16 s .totals)))
+    (finish-step sixteen laws16 s .service)
 
 pub record Told : Type 0 where
   pub offset : ℕ

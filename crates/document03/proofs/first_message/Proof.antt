@@ -4,17 +4,17 @@ use mathlib.Core.Path.{_≡_, refl, sym, ap, _∙_}
 use lib.ListN.{length}
 use denote.Ref.{now}
 use borrow.Author.Needs.{needs}
-use Rattle.client.specs.declared.Answer.{Answer}
+use Rattle.scheme.specs.Scheme.{sixteen}
+use Rattle.client.specs.declared.Moved.{Moved}
 use Rattle.client.specs.Client.{first-refusal}
-use Rattle.client.proofs.Laws.{moved-number}
 use Rattle.document03.proofs.Says.{first-says}
 use Rattle.document03.proofs.first_message.Statement.{statement}
 use Rattle.document03.proofs.first_message.Tie as tie
 
 number : (c : tie.After-first-message) → let f = c .before .before in
     let a = f .before .before .before .before .args in
-    c .first-message .result .number ≡ first-refusal (f .client-of .result) (now (a .key)) (now (a .figures)) (length (now (a .output)))
-number c = ap (λ (r : Answer). r .number) (c .first-message .ensures .0) ∙ moved-number _ _ _
+    c .first-message .result .number ≡ first-refusal sixteen (f .client-of .result) (now (a .key)) (now (a .figures)) (length (now (a .output)))
+number c = ap (λ (r : Moved). r .number) (c .first-message .ensures .0)
 
 client-of-requires : tie.Need-client-of-requires
 client-of-requires c κs = search needs

@@ -6,6 +6,7 @@
 // Each line is the call, and every number of its answer compared.
 ghost use mathlib.Core.Path.{_≡_};
 ghost use lib.Dec.{eqb};
+ghost use Rattle.scheme.specs.Scheme.{sixteen};
 ghost use Rattle.client.specs.Client.{stage-of, stage-number, reply-answer, part-of};
 ghost use Rattle.rounds.specs.Judged.{started};
 ghost use Rattle.rounds.specs.Replied.{copied};
@@ -24,7 +25,7 @@ use crate::lists::marked;
 use crate::lists::marked_behind;
 use crate::lists::number_at;
 use crate::lists::rest;
-use client::Answer;
+use client::Moved;
 use client::Client;
 use client::Stage;
 use client::Start;
@@ -66,9 +67,9 @@ fn stage_is(stage: Stage, number: u32) -> bool
     }
 }
 
-fn send_part(end: Client, key: &[u16], figures: &[u16], out: &mut [u16], room: usize) -> Answer {
+fn send_part(end: Client, key: &[u16], figures: &[u16], out: &mut [u16], room: usize) -> Moved {
     if out.len() < room {
-        return Answer {
+        return Moved {
             number: NO_ROOM,
             client: end,
         };
@@ -83,7 +84,7 @@ fn send_into(
     figures: &[u16],
     out: &mut [u16; ROOM],
     room: usize,
-) -> Answer {
+) -> Moved {
     send_part(end, key, figures, out, room)
 }
 
@@ -151,7 +152,7 @@ fn copy_out(number: u32, client: Client, part: &[u16]) -> Copied
 
 // The only function here that holds a part of the key: what it hands back is plain.
 fn copied_reply(end: Client, key: &[u16], set: u32) -> Copied
-    ensures { λ r. ⌜ r ≡ copied (reply-answer end (now (key .entry)) set) (part-of end (now (key .entry)) set) ⌝ }
+    ensures { λ r. ⌜ r ≡ copied (reply-answer sixteen end (now (key .entry)) set) (part-of sixteen end (now (key .entry)) set) ⌝ }
 {
     let replied = end.reply(key, set);
     copy_out(replied.number, replied.client, replied.part)

@@ -2,7 +2,7 @@
 -- Assumes nothing.
 use mathlib.Core.Path.{sym, ap, _∙_}
 use borrow.Author.Needs.{needs}
-use Rattle.client.specs.declared.Answer.{Answer}
+use Rattle.client.specs.declared.Moved.{Moved}
 use Rattle.client.specs.Client.{stage-of, stage-number}
 use Rattle.client.proofs.Laws.{moved-number}
 use Rattle.capi.proofs.Laws.{kept-taken, kept-refused}
@@ -22,7 +22,7 @@ returns : tie.Need-returns
 returns c =
     let f = c .before .before .before in
     let said = rw (f .before .before .end-at .ensures) at (f .first-message .ensures) in
-    let n = ap (λ (r : Answer). r .number) (said .0) in
+    let n = ap (λ (r : Moved). r .number) (said .0) in
     (n, (said .1, sym (kept-refused _ _ _ (λ z. c .if1 .taken (n ∙ moved-number _ _ _ ∙ z)))))
 
 element-write-end : tie.Need-element-write-end
@@ -36,7 +36,7 @@ unfolding stage-number stage-of
 returns-2 c =
     let f = c .before .before .before in
     let said = rw (f .before .before .end-at .ensures) at (f .first-message .ensures) in
-    let n = ap (λ (r : Answer). r .number) (said .0) in
+    let n = ap (λ (r : Moved). r .number) (said .0) in
     (sym (c .if1 .left) ∙ n, (said .1, sym (kept-taken _ _ _ (sym (n ∙ moved-number _ _ _) ∙ c .if1 .left))))
 
 pub cutawheno-end-first-message-spec : {M : Type 1} → statement M

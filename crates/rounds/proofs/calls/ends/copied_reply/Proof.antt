@@ -43,6 +43,7 @@ use denote.Triple.Table.{entered, cited}
 use denote.Triple.Walked.{says, Stays, stay-none, stay-none-slice, walkOf, goes-none, goes-none-slice, Walks, ends-at, walked, walk-meets}
 use denote.Triple.Clauses.{ensured, lasts}
 use denote.Exit.{yes}
+use Rattle.scheme.specs.Scheme.{sixteen}
 use Rattle.client.specs.declared.Client.{Client}
 use Rattle.client.specs.declared.Replied.{Replied}
 use Rattle.client.specs.Client.{answer-of, reply-answer, part-of, part-start}
@@ -131,13 +132,13 @@ module _ {M : Type 1} (𝓤 : URA M) (H : Heap 𝓤) (A : Atoms 𝓤) (W : Given
       move ! (2 ∷ 0 ∷ []) $ use2 W (raw (Reply 𝓤 H A mem run .pre to-reply)) asked $ frame ! $ done !
 
   abbrev Answers : Replied → Type 0
-  Answers r = answer-of r ≡ reply-answer c (now s) set
+  Answers r = answer-of r ≡ reply-answer sixteen c (now s) set
 
   abbrev Shares : Replied → Type 0
-  Shares r = now (r .part) ≡ part-of c (now s) set
+  Shares r = now (r .part) ≡ part-of sixteen c (now s) set
 
   abbrev Place : Replied → Type 0
-  Place r = r .part .ptr ≡ (s .ptr .0, s .ptr .1 + part-start c (now s) set * 2)
+  Place r = r .part .ptr ≡ (s .ptr .0, s .ptr .1 + part-start sixteen c (now s) set * 2)
 
   abbrev reply-ends : Replied → SProp 𝓤
   reply-ends r = ensured 𝓤 H A reply.ended (reply.clauses 𝓤 H A mem run) (κ, tt) (c, (s, (set, tt))) tt r
@@ -192,7 +193,7 @@ module _ {M : Type 1} (𝓤 : URA M) (H : Heap 𝓤) (A : Atoms 𝓤) (W : Given
   copy-said : (r : Replied) (t : Copied) → ent 𝓤 (copy-ends r t) (fact 𝓤 (Told r t))
   copy-said r t = exE 𝓤 _ (λ ws. snd∗ 𝓤 (sem 𝓤 H A (lasts copy.ended (κ, tt) (r .number, (r .client, (r .part, tt))) ws)) (fact 𝓤 (Told r t)))
 
-  exits : (t : Copied) (u : Val) → t ≡ copied (reply-answer c (now s) set) (part-of c (now s) set)
+  exits : (t : Copied) (u : Val) → t ≡ copied (reply-answer sixteen c (now s) set) (part-of sixteen c (now s) set)
       → ent 𝓤 (⋆ 𝓤 H A (‵ (K.the-row .own t (u ∷ [])) ∷ (‵ (flft κ q) ⊛ ‵ ftrue) ∷ ‵ Key ∷ [])) (Post u)
   exits t u e =
       qed W (‵ (K.the-row .own t (u ∷ [])) ∷ (‵ (flft κ q) ⊛ ‵ ftrue) ∷ ‵ Key ∷ []) ∵
