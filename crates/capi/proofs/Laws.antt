@@ -1,25 +1,22 @@
 -- Laws of the airfield end on a lent array.
 --   stage-back                       a stage of the code, from that of the definitions
 --   stage-moved                      the array with another stage stands for the end at that stage
---   begun-number                     what start hands back
 --   kept-taken, kept-refused, part-taken, part-refused      what the calls leave, and the part
 -- Assumes nothing.
 use mathlib.Core.Path.{_≡_, refl, ap, _∙_}
 use mathlib.Core.List.{List}
-use Prim.Native.Nat.{ℕ, zero, suc, _+_, _<_}
+use Prim.Native.Nat.{ℕ, suc, _+_, _<_}
 use native.Mathlib.Omega.{arith}
 use lib.ListN.{length, getD, set}
 use lib.Seq.{getD-set-same, getD-set-other}
 use Rattle.scheme.specs.Scheme as scheme
-use Rattle.scheme.specs.Scheme.{reply-start}
+use Rattle.scheme.specs.Scheme.{reply-start, after}
 use Rattle.scheme.proofs.Refusals.{after-taken, after-refused}
-use Rattle.plan.specs.declared.Plan.{Plan}
 use Rattle.plan.specs.Plan.{plan-of}
 use Rattle.client.specs.declared.Stage.{Stage}
 use Rattle.client.specs.declared.Stage.the-variants.{Fresh, Sent, Answered}
 use Rattle.client.specs.declared.Client.{Client}
-use Rattle.client.specs.Client.{stage-of, stage-of-number, stage-number, begun-with, moved}
-use Rattle.client.proofs.Laws.{moved-taken, moved-refused}
+use Rattle.client.specs.Client.{stage-of, stage-of-number, stage-number, moved}
 use Rattle.capi.specs.Plans.{code-plan}
 use Rattle.capi.specs.Ends.{end-length, code-stage, end-at, kept, part-by}
 
@@ -54,19 +51,14 @@ stage-moved e l g =
     }
 
 -- ---- what the calls hand back and leave
-pub begun-number : (n : ℕ) (p : Plan) (k : ℕ) → begun-with n p k .number ≡ n
-unfolding begun-with
-begun-number zero p k = refl
-begun-number (suc n) p k = refl
-
 module _ {n : ℕ} (c : Client) (g : Stage) (e : List ℕ) where
   pub kept-taken : n ≡ 0 → kept (moved n c g) e ≡ set e 5 (stage-number (stage-of g))
-  unfolding kept
-  kept-taken z = rw (moved-taken z c g) (after-taken refl _ e)
+  unfolding kept after
+  kept-taken z = ap (λ (m : ℕ). kept (moved m c g) e) z
 
   pub kept-refused : (n ≡ 0 → ⊥) → kept (moved n c g) e ≡ e
   unfolding kept
-  kept-refused h = rw (moved-refused h c g) (after-refused h _ e)
+  kept-refused h = after-refused h _ e
 
 module _ {n : ℕ} (c : Client) (v : ℕ) where
   pub part-taken : n ≡ 0 → part-by n c v ≡ record { number = 0; start = reply-start (plan-of (c .plan)) (c .user) v; count = c .plan .blocks }

@@ -12,7 +12,7 @@ use Rattle.scheme.proofs.Refusals.{after-taken, after-refused}
 use Rattle.service.specs.declared.Phase.the-variants.{Replying}
 use Rattle.service.specs.declared.Head.{Head}
 use Rattle.service.specs.declared.Service.{Service}
-use Rattle.service.specs.Calls.{lent, close-refusal, close-answer, close-step}
+use Rattle.service.specs.Calls.{lent, close-step}
 use Rattle.capi.specs.Lent.{Arrays, arrays, state, arrays-of, phase-at}
 
 pub phase-replying : (n : ℕ) → (n ≡ 0 → ⊥) → (n ≡ 1 → ⊥) → (n ≡ 2 → ⊥) → phase-at n ≡ Replying
@@ -36,9 +36,5 @@ pub same-head : {g h xs ys : List ℕ} → g ≡ h → arrays g xs ys ≡ arrays
 same-head e = cc
 
 pub close-kept : (s : Service) → (close-step s .number ≡ 0 → ⊥) → close-step s .service ≡ s
-unfolding close-step close-answer
-close-kept s = either (close-refusal s)
-  where
-    either : (n : ℕ) → (close-answer n s .number ≡ 0 → ⊥) → close-answer n s .service ≡ s
-    either zero h = absurd (h refl)
-    either (suc n) h = refl
+unfolding close-step
+close-kept s h = after-refused h _ s

@@ -14,43 +14,41 @@ use lib.ListN.{length, take, drop, set}
 use lib.Seq.{set-set}
 use borrow.Author.Tests.{eq-eqb, leb-true}
 use Rattle.scheme.specs.Scheme as scheme
-use Rattle.scheme.specs.Scheme.{sixteen, places, is-user, usable, usable-with, sets-with, key-length, reply-start, reply, is-fresh, open-to, after}
+use Rattle.scheme.specs.Scheme.{sixteen, places, is-user, key-length, reply-start, reply, is-fresh, open-to, after}
 use Rattle.scheme.proofs.Tests.{both}
 use Rattle.scheme.proofs.Good.{good}
+use Rattle.scheme.proofs.Refusals.{after-taken, after-refused}
 use Rattle.plan.specs.declared.Plan as code
 use Rattle.plan.specs.Plan.{plan-of}
-use Rattle.plan.specs.Counts.{holding}
-use Rattle.plan.proofs.Counts.{holding-same}
+use Rattle.plan.proofs.Counts.{with-same}
 use Rattle.plan.proofs.Lengths.{key-len-good}
 use Rattle.client.specs.declared.Stage.{Stage}
 use Rattle.client.specs.declared.Stage.the-variants.{Sent, Answered}
 use Rattle.client.specs.declared.Client.{Client}
-use Rattle.client.specs.declared.Moved.{Moved}
 use Rattle.client.specs.Client.{stage-of, stage-of-number, stage-number, begun-with, moved, answer-refusal, reply-answer, part-of}
-use Rattle.client.proofs.Laws.{reply-answers, reply-taken, moved-number, moved-taken, part-given}
-use Rattle.client.proofs.Laws as client
+use Rattle.client.proofs.Laws.{reply-answers, reply-taken}
 use Rattle.capi.specs.Ends.{end-length, code-stage, end-at, end-numbers, fresh-end, start-left, kept, part-by, part-answer}
 use Rattle.capi.specs.Promise.{Same-length, End-stands, Ends-stand, Part-is-reply, Same-part}
 use Rattle.capi.proofs.Laws.{stage-moved, kept-taken, part-taken, part-refused}
 
 pub same-length : Same-length
-unfolding Same-length is-user key-length holding sets-with usable-with usable
+unfolding Same-length is-user key-length
 same-length p k g u =
     let f = good p g in
     let r = both _ _ u in
-    let e = holding-same (p .users) (p .threshold) k (omega arith) (omega arith) (leb-true _ _ (r .0)) (leb-true _ _ (r .1)) in
+    let e = sym (with-same p k (leb-true _ _ (r .0)) (leb-true _ _ (r .1))) ∙ with-same p 1 (omega arith) (omega (arith, f .users-low)) in
     ap (λ (n : ℕ). places p + n * p .blocks) e ∙ sym (key-len-good p 1 (f, omega arith, omega (arith, f .users-low)))
 
 -- ---- the airfield end on its array
 module _ (e : List ℕ) (l : length e ≡ end-length) where
   started-stands : (n : ℕ) (p : code.Plan) (k : ℕ) → let s = begun-with n p k in
       s .number ≡ 0 → s .client ≡ some (end-at (after (s .number) (end-numbers (fresh-end p k)) e))
-  unfolding begun-with after end-at end-numbers code-stage stage-of-number stage-number stage-of
+  unfolding after end-at end-numbers code-stage stage-of-number stage-number stage-of
   started-stands zero p k z = refl
   started-stands (suc n) p k z = absurd (omega arith)
 
   moved-stands : (n : ℕ) (g : Stage) → let a = moved n (end-at e) g in end-at (kept a e) ≡ a .client
-  unfolding moved kept after
+  unfolding kept after
   moved-stands zero g = stage-moved e l g
   moved-stands (suc n) g = refl
 
@@ -68,16 +66,16 @@ unfolding Ends-stand
 ends-stand e l = end-stands e l
 
 part-shares : (c : Client) (ks : List ℕ) (v : ℕ) → let p = part-answer c ks v in take (p .count) (drop (p .start) ks) ≡ part-of sixteen c ks v
-unfolding reply
+unfolding reply part-of
 part-shares c ks v = either (ℕ-discrete (answer-refusal sixteen c ks v) 0)
   where
     either : Dec (answer-refusal sixteen c ks v ≡ 0) → let p = part-answer c ks v in take (p .count) (drop (p .start) ks) ≡ part-of sixteen c ks v
-    either (yes z) = rw (part-taken c v z) (sym (part-given c ks v z .0))
-    either (no h) = rw (part-refused c v h) (sym (client.part-refused c ks v h .0))
+    either (yes z) = rw (part-taken c v z) (sym (after-taken z _ _))
+    either (no h) = rw (part-refused c v h) (sym (after-refused h _ _))
 
 pub part-is-reply : Part-is-reply
 unfolding Part-is-reply part-by
-part-is-reply c ks v = record { number = sym (moved-number _ c (Answered v)); shares = part-shares c ks v }
+part-is-reply c ks v = record { number = refl; shares = part-shares c ks v }
 
 -- a taken reply leaves the end that has answered the set
 module _ (e ks : List ℕ) (v : ℕ) (l : length e ≡ end-length) (z : part-answer (end-at e) ks v .number ≡ 0) where
@@ -86,7 +84,7 @@ module _ (e ks : List ℕ) (v : ℕ) (l : length e ≡ end-length) (z : part-ans
   taken = z
 
   asked : end-at (kept (reply-answer sixteen (end-at e) ks v) e) ≡ record { plan = end-at e .plan; user = end-at e .user; stage = Answered v }
-  asked = moved-stands e l _ (Answered v) ∙ ap (λ (a : Moved). a .client) (moved-taken taken (end-at e) (Answered v))
+  asked = moved-stands e l _ (Answered v) ∙ after-taken taken _ _
 
   again : answer-refusal sixteen (end-at (kept (reply-answer sixteen (end-at e) ks v) e)) ks v ≡ 0
   unfolding stage-of is-fresh open-to

@@ -5,12 +5,11 @@
 -- Assumes nothing.
 use mathlib.Core.Path.{_≡_, refl, ap}
 use Prim.Native.Nat.{ℕ, zero, suc}
-use Rattle.solve.specs.Solve.{laws16}
 use Rattle.service.specs.declared.Phase.{Phase}
 use Rattle.service.specs.declared.Phase.the-variants.{Unplanned, Idle, Gathering, Replying}
 use Rattle.service.specs.declared.Service.{Service}
-use Rattle.service.specs.Calls.{nothing-first, nothing-reply, new-service, plan-step, open-step, first-step, reply-step, close-answer, close-step}
-use Rattle.scheme.specs.Scheme.{sixteen, after}
+use Rattle.service.specs.Calls.{nothing-first, nothing-reply, new-service, plan-step, open-step, first-step, reply-step, close-step}
+use Rattle.scheme.specs.Scheme.{after}
 use Rattle.finish.specs.Finish.{finish-answer, finish-step}
 use Rattle.capi.specs.Lent.{Arrays, arrays-of, phase-at, phase-number, head-at, numbers, state, plan-left, open-left, close-left, finish-left}
 use Rattle.capi.specs.Promise.{New-stands, Calls-stand}
@@ -41,24 +40,14 @@ module _ (a : Arrays) where
   after-stands zero s = stands s
   after-stands (suc n) s = refl
 
-  close-stands : (n : ℕ) → let t = close-answer n (state a) in state (after (t .number) (arrays-of (t .service)) a) ≡ t .service
-  unfolding after close-answer
-  close-stands zero = stands _
-  close-stands (suc n) = refl
-
-  finish-stands : (n : ℕ) → let t = finish-answer sixteen laws16 n (state a) in state (after (t .number) (arrays-of (t .service)) a) ≡ t .service
-  unfolding after finish-answer
-  finish-stands zero = stands _
-  finish-stands (suc n) = refl
-
   pub calls-stand : Calls-stand a
-  unfolding plan-left open-left close-left finish-left plan-step open-step first-step close-step reply-step finish-step
+  unfolding plan-left open-left close-left finish-left plan-step open-step first-step close-step reply-step finish-step finish-answer
   calls-stand =
       record {
         plan-stands = λ p. after-stands _ _;
         open-stands = λ r. after-stands _ _;
         first-stands = λ k i x. refl;
-        close-stands = close-stands _;
+        close-stands = after-stands _ _;
         reply-stands = λ k b x. refl;
-        finish-stands = finish-stands _;
+        finish-stands = after-stands _ _;
       }

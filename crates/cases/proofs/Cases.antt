@@ -31,13 +31,14 @@ unfolding key-from key-of message asked tried planned opened firsts replies pool
     Scheme.is-fresh Scheme.open-to Scheme.start-refusal Scheme.key-refusal Scheme.message-refusal Scheme.reply-refusal Scheme.after
     Lists.all-of Totals.explains Totals.explains-all Totals.total-of Totals.totals
     Delta.colluders-in Delta.kept Delta.unsolved Delta.shift Delta.delta Delta.translation Delta.difference Delta.table-delta Delta.partner
-    Service.has-plan Service.is-gathering Service.is-replying Service.is-held Service.element-of Service.set-of Service.complete-set Service.gathered
+    Service.has-plan Service.is-gathering Service.is-replying Service.plan-missing Service.second-plan Service.not-gathering Service.not-replying Service.element-refusal
+    Service.is-held Service.element-of Service.set-of Service.complete-set Service.gathered
     Service.replied Service.explained-by Service.totals-by
-    Client.stage-of Client.moved Client.part-of
+    Client.stage-of Client.part-of
     View.phase-of View.stored View.look View.view
     Calls.nothing-first Calls.nothing-reply Calls.new-service Calls.plan-refusal Calls.planned Calls.plan-step Calls.open-refusal Calls.opened
     Calls.open-step Calls.first-refusal Calls.first-left Calls.first-step Calls.reply-refusal Calls.reply-left Calls.reply-step Calls.close-refusal
-    Calls.closed Calls.close-answer Calls.close-step
+    Calls.closed Calls.close-step
     Finish.rows-of Finish.values-of Finish.choice-of Finish.choice Finish.finish-refusal Finish.finish-answer Finish.finish-step
 cases = record {
   inverses = refl;

@@ -17,13 +17,11 @@ use borrow.Author.Tests.{eqb-true, eq-eqb, ne-eqb}
 use Rattle.scheme.specs.Scheme as scheme
 use Rattle.scheme.specs.Scheme.{sixteen, Arithmetic, is-fresh, open-to, message-refusal, reply-refusal}
 use Rattle.scheme.proofs.Tests.{holds}
-use Rattle.scheme.proofs.Refusals.{then-zero, unless-zero}
+use Rattle.scheme.proofs.Refusals.{then-zero, unless-zero, after-taken}
 use Rattle.client.specs.declared.Stage.{Stage}
 use Rattle.client.specs.declared.Stage.the-variants.{Sent, Answered}
 use Rattle.client.specs.declared.Client.{Client}
-use Rattle.client.specs.declared.Moved.{Moved}
 use Rattle.client.specs.Client.{stage-of, answer-refusal}
-use Rattle.client.proofs.Laws.{moved-number, moved-taken}
 use Rattle.capi.specs.declared.ends.CutawhenoPart.{CutawhenoPart}
 use Rattle.capi.specs.Ends.{end-length, end-at, part-by, part-answer}
 use Rattle.capi.specs.Promise.{Ends-stand, Part-is-reply}
@@ -48,7 +46,7 @@ record Leaves-of (c : End-call) (e : List ℕ) : Type 0 where
 
 answer-taken : (e ks : List ℕ) (v : ℕ) → part-answer (end-at e) ks v .number ≡ 0 → answer-refusal sixteen (end-at e) ks v ≡ 0
 unfolding Part-is-reply
-answer-taken e ks v z = sym (moved-number _ (end-at e) (Answered v)) ∙ sym (part-is-reply (end-at e) ks v .number) ∙ z
+answer-taken e ks v z = sym (part-is-reply (end-at e) ks v .number) ∙ z
 
 module _ (e : List ℕ) (l : length e ≡ end-length) where
   refused-same : (c : End-call) → end-number c e ≢ 0 → end-leaves c e ≡ e
@@ -58,16 +56,15 @@ module _ (e : List ℕ) (l : length e ≡ end-length) where
 
   taken-long : (c : End-call) → end-number c e ≡ 0 → length (end-leaves c e) ≡ end-length
   unfolding end-number end-leaves
-  taken-long (message-call ks fs o) z = ap length (kept-taken (end-at e) Sent e (sym (moved-number _ (end-at e) Sent) ∙ z)) ∙ length-set e 5 _ ∙ l
+  taken-long (message-call ks fs o) z = ap length (kept-taken (end-at e) Sent e z) ∙ length-set e 5 _ ∙ l
   taken-long (answer-call ks v) z = ap length (kept-taken (end-at e) (Answered v) e (answer-taken e ks v z)) ∙ length-set e 5 _ ∙ l
 
   taken-at : (c : End-call) → end-number c e ≡ 0 → end-at (end-leaves c e) ≡ record { plan = end-at e .plan; user = end-at e .user; stage = next c }
   unfolding end-number end-leaves next Ends-stand
   taken-at (message-call ks fs o) z =
-      ends-stand e l .first-stands ks fs (length o)
-      ∙ ap (λ (a : Moved). a .client) (moved-taken (sym (moved-number _ (end-at e) Sent) ∙ z) (end-at e) Sent)
+      ends-stand e l .first-stands ks fs (length o) ∙ after-taken z _ _
   taken-at (answer-call ks v) z =
-      ends-stand e l .reply-stands ks v ∙ ap (λ (a : Moved). a .client) (moved-taken (answer-taken e ks v z) (end-at e) (Answered v))
+      ends-stand e l .reply-stands ks v ∙ after-taken (answer-taken e ks v z) _ _
 
   leaves-of : (c : End-call) → Leaves-of c e
   unfolding part-by
@@ -92,7 +89,7 @@ one-open A p k g ks w e =
 
 no-message : (e ks fs o : List ℕ) → is-fresh (stage-at e) ≡ false → end-number (message-call ks fs o) e ≢ 0
 unfolding end-number
-no-message e ks fs o f z = sent-refuses _ _ _ _ ks fs (length o) f (sym (moved-number _ (end-at e) Sent) ∙ z)
+no-message e ks fs o f z = sent-refuses _ _ _ _ ks fs (length o) f z
 
 same-set : (e ks : List ℕ) (v w : ℕ) → end-at e .stage ≡ Answered v → end-number (answer-call ks w) e ≡ 0 → w ≡ v
 unfolding end-number stage-of open-to

@@ -19,10 +19,10 @@ use Rattle.scheme.proofs.Tests.{both}
 use Rattle.scheme.proofs.Good.{good}
 use Rattle.scheme.proofs.Lists.{in-span}
 use Rattle.scheme.proofs.Totals.{all-of-in}
-use Rattle.plan.specs.Counts.{sets-of, holding}
+use Rattle.plan.specs.Counts.{sets-of}
 use Rattle.plan.specs.Lengths.{row-len, list-len, key-len}
 use Rattle.scheme.proofs.PlanBounds.{places-le}
-use Rattle.plan.proofs.Counts.{holding-same, sets-same, with-same}
+use Rattle.plan.proofs.Counts.{sets-same, with-same}
 use Rattle.exported.specs.Longest.{longest-list, longest-key, Longest}
 
 abbrev block-list : ℕ
@@ -33,15 +33,15 @@ block-key = longest-key / most-blocks
 
 -- the numbers of a block: n users, threshold u, collusion t
 fits : (n u t : ℕ) → Bool
-fits n u t = leb (n * (u - t) + sets-of n u * t) block-list && leb ((u - t) + holding n u 1) block-key
+fits n u t = leb (n * (u - t) + sets-of n u * t) block-list && leb ((u - t) + sets-of (n - 1) (u - 1)) block-key
 
 computed : all-of (λ n. all-of (λ u. all-of (fits n u) (span (u - 1) 1)) (span n 0)) (span (suc most-users) 0) ≡ true
-unfolding all-of fits sets-of holding usable-sets sets-with usable-with usable in-set ones
+unfolding all-of fits sets-of usable-sets usable ones
 computed = refl
 
 module _ (p : Plan) (g : Good p) where
   few : (p .users * (p .threshold - p .collusion) + sets-of (p .users) (p .threshold) * p .collusion ≤ block-list)
-      × ((p .threshold - p .collusion) + holding (p .users) (p .threshold) 1 ≤ block-key)
+      × ((p .threshold - p .collusion) + sets-of (p .users - 1) (p .threshold - 1) ≤ block-key)
   unfolding fits
   few =
       let a = all-of-in _ (span (suc most-users) 0) computed (p .users) (in-span (suc most-users) 0 (p .users) (omega arith) (omega arith)) in
@@ -66,8 +66,7 @@ key-le : (p : Plan) (k : ℕ) → Good p → 1 ≤ k → k ≤ p .users → key-
 unfolding key-length places items
 key-le p k g lo hi =
     let d = p .threshold - p .collusion in
-    let same = sym (with-same p k) ∙ holding-same (p .users) (p .threshold) k (omega arith) (omega arith) lo hi in
-    let h = subst (λ (s : ℕ). d + s ≤ block-key) (sym same) (few p g .1) in
+    let h = subst (λ (s : ℕ). d + s ≤ block-key) (with-same p k lo hi) (few p g .1) in
     rw (ap (λ (x : ℕ). x + length (sets-with p k) * p .blocks) (mul-comm (p .blocks) d) ∙ sym (add-mul d (length (sets-with p k)) (p .blocks)))
     (mul-le-mul h (g .blocks-high))
 
@@ -76,7 +75,7 @@ when true n m h = h refl
 when false n m h = omega arith
 
 pub longest : Longest
-unfolding row-len list-len key-len is-user plan-good places items list-length key-length sets-of holding usable-sets sets-with usable-with usable in-set ones
+unfolding row-len list-len key-len is-user plan-good places items list-length key-length sets-of usable-sets sets-with usable-with usable in-set ones
 longest =
     record {
       row = λ p. when _ _ most-places (λ e. places-le p (good p e));

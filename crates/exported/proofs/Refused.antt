@@ -6,11 +6,8 @@ use mathlib.Core.Logic.{_≢_}
 use mathlib.Core.List.{List}
 use Prim.Native.Nat.{ℕ}
 use lib.ListN.{length}
-use Rattle.scheme.specs.Scheme.{sixteen}
 use Rattle.scheme.proofs.Refusals.{after-refused}
 use Rattle.client.specs.declared.Stage.the-variants.{Sent, Answered}
-use Rattle.client.specs.Client.{first-refusal}
-use Rattle.client.proofs.Laws.{moved-number}
 use Rattle.service.specs.Calls.{first-left, reply-left}
 use Rattle.capi.specs.Ends.{end-at, start-left, part-by}
 use Rattle.capi.specs.Lent.{Arrays, arrays, plan-left, open-left, close-left, finish-left, finish-totals}
@@ -34,8 +31,7 @@ refused-unchanged =
       key-kept = λ p k xs o h. after-refused h _ o;
       start-kept = λ p k e h. after-refused h _ e;
       first-kept = λ e ks fs o h.
-          let r : first-refusal sixteen (end-at e) ks fs (length o) ≢ 0 = λ z. h (moved-number _ (end-at e) Sent ∙ z) in
-          (kept-refused (end-at e) Sent e r, after-refused r _ o);
+          (kept-refused (end-at e) Sent e h, after-refused h _ o);
       reply-kept = λ e ks v h. (kept-refused (end-at e) (Answered v) e h, after-refused h _ 0, after-refused h _ 0);
       arrays-kept = arrays-same;
       totals-kept = λ a o h. after-refused h _ o;

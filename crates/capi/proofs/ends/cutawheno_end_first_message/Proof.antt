@@ -4,7 +4,6 @@ use mathlib.Core.Path.{sym, ap, _∙_}
 use borrow.Author.Needs.{needs}
 use Rattle.client.specs.declared.Moved.{Moved}
 use Rattle.client.specs.Client.{stage-of, stage-number}
-use Rattle.client.proofs.Laws.{moved-number}
 use Rattle.capi.proofs.Laws.{kept-taken, kept-refused}
 use Rattle.capi.proofs.ends.cutawheno_end_first_message.Statement.{statement}
 use Rattle.capi.proofs.ends.cutawheno_end_first_message.Tie as tie
@@ -23,7 +22,7 @@ returns c =
     let f = c .before .before .before in
     let said = rw (f .before .before .end-at .ensures) at (f .first-message .ensures) in
     let n = ap (λ (r : Moved). r .number) (said .0) in
-    (n, (said .1, sym (kept-refused _ _ _ (λ z. c .if1 .taken (n ∙ moved-number _ _ _ ∙ z)))))
+    (n, (said .1, sym (kept-refused _ _ _ (λ z. c .if1 .taken (n ∙ z)))))
 
 element-write-end : tie.Need-element-write-end
 element-write-end c = search needs
@@ -37,7 +36,7 @@ returns-2 c =
     let f = c .before .before .before in
     let said = rw (f .before .before .end-at .ensures) at (f .first-message .ensures) in
     let n = ap (λ (r : Moved). r .number) (said .0) in
-    (sym (c .if1 .left) ∙ n, (said .1, sym (kept-taken _ _ _ (sym (n ∙ moved-number _ _ _) ∙ c .if1 .left))))
+    (sym (c .if1 .left) ∙ n, (said .1, sym (kept-taken _ _ _ (sym n ∙ c .if1 .left))))
 
 pub cutawheno-end-first-message-spec : {M : Type 1} → statement M
 cutawheno-end-first-message-spec =

@@ -5,7 +5,6 @@ use borrow.Author.Needs.{needs}
 use Rattle.scheme.proofs.Refusals.{after-taken, after-refused}
 use Rattle.client.specs.Client.{stage-of, stage-number}
 use Rattle.capi.specs.Ends.{end-numbers, start-left}
-use Rattle.capi.proofs.Laws.{begun-number}
 use Rattle.capi.proofs.ends.cutawheno_end_start.Statement.{statement}
 use Rattle.capi.proofs.ends.cutawheno_end_start.Tie as tie
 
@@ -15,13 +14,13 @@ start-refusal-requires c κs = search needs
 returns : tie.Need-returns
 unfolding start-left
 returns c =
-    let n = c .before .start-refusal .ensures ∙ sym (begun-number _ _ _) in
+    let n = c .before .start-refusal .ensures in
     (n, sym (after-refused (λ z. c .if1 .taken (n ∙ z)) _ _))
 
 returns-2 : tie.Need-returns-2
 unfolding start-left end-numbers stage-number stage-of
 returns-2 c =
-    let z = begun-number _ _ _ ∙ sym (c .before .before .start-refusal .ensures) ∙ c .before .if1 .left in
+    let z = sym (c .before .before .start-refusal .ensures) ∙ c .before .if1 .left in
     (sym z, sym (after-taken z _ _))
 
 pub cutawheno-end-start-spec : {M : Type 1} → statement M
