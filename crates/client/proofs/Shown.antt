@@ -17,8 +17,7 @@ use Rattle.scheme.specs.Lists.{span}
 use Rattle.scheme.specs.Scheme.{Arithmetic, sixteen, elements, plan-good, places, is-user, in-set, usable, users-in, list-length, key, key-length, first-message, reply, is-fresh, open-to, start-refusal, key-refusal, message-refusal, unless, _then_}
 use Rattle.scheme.specs.Promise.{shown, admissible, list-good}
 use Rattle.scheme.proofs.Lists.{map-same, span-in, members-in}
-use Rattle.scheme.proofs.Keys.{key-is-long, key-elements}
-use Rattle.scheme.proofs.Told.{list-long, list-elements}
+use Rattle.scheme.proofs.Keys.{key-is-long, key-elements, list-long, list-elements}
 use Rattle.scheme.specs.Laws.{Laws}
 use Rattle.scheme.proofs.Modular.{sixteen-sums}
 use Rattle.scheme.proofs.Refusals.{after-taken}

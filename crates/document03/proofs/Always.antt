@@ -19,9 +19,9 @@ use Rattle.scheme.proofs.Tests.{holds}
 use Rattle.scheme.proofs.Good.{good-back}
 use Rattle.scheme.proofs.Refusals.{then-zero, unless-zero}
 use Rattle.scheme.proofs.Sums.{row-value-small}
-use Rattle.scheme.proofs.Totals.{Explained, explained, explained-back, one-choice}
-use Rattle.scheme.proofs.Well.{plan-here, gathers, replies, finishing}
-use Rattle.scheme.proofs.Choices as Choices
+use Rattle.scheme.proofs.Pooling.Totals.{Explained, explained, explained-back, one-choice}
+use Rattle.scheme.proofs.Pooling.Well.{plan-here, gathers, replies, finishing}
+use Rattle.scheme.proofs.Pooling.Choices as Choices
 use Rattle.scheme.proofs.Modular.{sixteen-laws}
 use Rattle.document03.specs.Ours.{our-plan, our-held, our-state, our-record}
 use Rattle.document03.specs.Service as S

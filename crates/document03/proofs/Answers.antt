@@ -20,10 +20,10 @@ use Rattle.scheme.specs.Totals.{Follows, One-choice, Rules-explain, Totals-righ
 use Rattle.scheme.specs.Service.{replied, finish-record, refusal, values, explained-by, totals-by}
 use Rattle.scheme.proofs.Tests.{both, holds}
 use Rattle.scheme.proofs.Good.{good}
-use Rattle.scheme.proofs.Held.{complete-held}
-use Rattle.scheme.proofs.Well.{finishing}
-use Rattle.scheme.proofs.Choices as Choices
-use Rattle.scheme.proofs.Totals as Totals
+use Rattle.scheme.proofs.Pooling.Held.{complete-held}
+use Rattle.scheme.proofs.Pooling.Well.{finishing}
+use Rattle.scheme.proofs.Pooling.Choices as Choices
+use Rattle.scheme.proofs.Pooling.Totals as Totals
 use Rattle.scheme.proofs.Modular.{sixteen-laws}
 use Rattle.document03.specs.Ours.{our-plan, our-held, our-state, our-record}
 use Rattle.document03.specs.Scheme as D

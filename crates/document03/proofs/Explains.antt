@@ -17,7 +17,7 @@ use Rattle.scheme.specs.Good.{Good}
 use Rattle.scheme.specs.Totals.{explains, explains-all, total-of, totals}
 use Rattle.scheme.specs.Service.{replied, values, explained-by, totals-by}
 use Rattle.scheme.proofs.Keys.{elements-at}
-use Rattle.scheme.proofs.Totals.{explained}
+use Rattle.scheme.proofs.Pooling.Totals.{explained}
 use Rattle.document03.specs.Ours.{our-plan, our-held, our-state}
 use Rattle.document03.specs.Scheme as D
 use Rattle.document03.specs.Service as S

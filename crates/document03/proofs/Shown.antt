@@ -17,7 +17,7 @@ use Rattle.scheme.specs.Promise.{Table, admissible, list-good, Shown, shown, Al
 use Rattle.scheme.specs.Good.{Good}
 use Rattle.scheme.proofs.Tests.{both}
 use Rattle.scheme.proofs.Good.{good}
-use Rattle.scheme.proofs.Modular.{demand-3}
+use Rattle.scheme.proofs.Privacy.Demand.{demand-3}
 use Rattle.document03.specs.Ours.{our-plan}
 use Rattle.document03.specs.Scheme as D
 use Rattle.document03.specs.Service.{elements-good}

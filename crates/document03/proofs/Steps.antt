@@ -14,7 +14,7 @@ use Rattle.scheme.specs.Scheme.{sixteen}
 use Rattle.scheme.specs.Good.{Good}
 use Rattle.scheme.specs.Service.{replying, State, nothing, Record, finish-record, Answer, closed, totalled, refused, refusal, planned-state, opened-state, idle-state, next-state, answer-of, is-finish, explained-by, totals-by, Steps, refuses, accepts, totals-up, disagrees}
 use Rattle.scheme.proofs.Good.{good}
-use Rattle.scheme.proofs.Well.{finishing, refuses-as}
+use Rattle.scheme.proofs.Pooling.Well.{finishing, refuses-as}
 use Rattle.document03.specs.Ours.{our-plan, our-phase, our-held, our-state, our-record, our-answer}
 use Rattle.document03.specs.Service as S
 use Rattle.document03.specs.Conform.{Sound, Steps-same, Stepped, Steps-ours}

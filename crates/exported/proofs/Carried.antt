@@ -16,7 +16,7 @@ use borrow.Author.Tests.{eqb-true}
 use Rattle.scheme.specs.Scheme.{Arithmetic, sixteen}
 use Rattle.scheme.specs.Service.{Phase, unplanned, idle, gathering, replying, is-gathering, is-replying, State, nothing, is-held, element-of, with-element, gathered, Record, plan-record, open-record, first-record, close-record, reply-record, finish-record, Answer, refusal, planned-state, opened-state, idle-state, next-state, Steps, refuses, accepts, totals-up, disagrees}
 use Rattle.scheme.proofs.Tests.{both, holds}
-use Rattle.scheme.proofs.Well.{test-held}
+use Rattle.scheme.proofs.Pooling.Well.{test-held}
 use Rattle.service.specs.View.{view, Formed}
 use Rattle.capi.specs.Lent.{Arrays, state}
 use Rattle.exported.specs.Runs.{Call, number-of, leaves, run}

@@ -18,7 +18,7 @@ use Rattle.scheme.specs.Totals.{total-of, totals}
 use Rattle.scheme.specs.Service.{has-plan, is-replying, State, gathered, replied, values, totals-by, Record, open-record, finish-record, Answer, refusal, opened-state, next-state, Steps}
 use Rattle.scheme.proofs.Tests.{holds}
 use Rattle.scheme.proofs.Refusals.{after-taken}
-use Rattle.scheme.proofs.Held.{complete-held}
+use Rattle.scheme.proofs.Pooling.Held.{complete-held}
 use Rattle.solve.specs.Solve.{laws16}
 use Rattle.plan.specs.Plan.{plan-of}
 use Rattle.client.specs.Shown as client

@@ -11,7 +11,7 @@ use lib.ListN.{take}
 use Rattle.scheme.specs.Scheme.{sixteen, plan-good, places, after, unless, _then_}
 use Rattle.scheme.specs.Service.{State, has-plan, Answer, totalled, Record, finish-record, Runs, done, more}
 use Rattle.scheme.proofs.Refusals.{after-taken}
-use Rattle.scheme.proofs.Well.{test-held}
+use Rattle.scheme.proofs.Pooling.Well.{test-held}
 use Rattle.solve.specs.Solve.{laws16}
 use Rattle.plan.specs.declared.Plan.{Plan}
 use Rattle.plan.specs.Plan.{plan-of}

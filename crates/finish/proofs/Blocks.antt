@@ -24,7 +24,7 @@ use Rattle.scheme.specs.Totals.{explains-all}
 use Rattle.scheme.proofs.Lists.{map-span-length, in-span, members-once, members-le}
 use Rattle.scheme.proofs.Sums.{row-value-small}
 use Rattle.scheme.proofs.Sets.{users-in-in, users-in-size}
-use Rattle.scheme.proofs.Totals.{all-of-in, in-at, at-apart, unknown, Explained, explained}
+use Rattle.scheme.proofs.Pooling.Totals.{all-of-in, in-at, at-apart, unknown, Explained, explained}
 use Rattle.solve.specs.Solve.{laws16, Points, Square, filled, solution-of, fits-of}
 use Rattle.solve.proofs.Explains.{points-some, Block, explains-first, fits-explains, explains-fits}
 use Rattle.solve.proofs.Filled.{padded-at}

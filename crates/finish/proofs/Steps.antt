@@ -21,9 +21,9 @@ use Rattle.scheme.proofs.Lists.{map-span-length}
 use Rattle.scheme.proofs.Good.{good}
 use Rattle.scheme.proofs.Refusals.{after-taken}
 use Rattle.scheme.proofs.Modular.{sixteen-laws}
-use Rattle.scheme.proofs.Totals.{Explained, explained, explained-back, settled}
-use Rattle.scheme.proofs.Well.{finishing, steps-well}
-use Rattle.scheme.proofs.Service.{demand-2}
+use Rattle.scheme.proofs.Pooling.Totals.{Explained, explained, explained-back, settled}
+use Rattle.scheme.proofs.Pooling.Well.{finishing, steps-well}
+use Rattle.scheme.proofs.Pooling.Service.{demand-2}
 use Rattle.plan.specs.Plan.{plan-of}
 use Rattle.solve.proofs.Filled.{padded-take}
 use Rattle.service.specs.declared.Service.{Service}

@@ -19,7 +19,7 @@ use Rattle.scheme.specs.Totals.{explains-all}
 use Rattle.scheme.proofs.Lists.{map-span-at, span-in, in-span}
 use Rattle.scheme.proofs.Keys.{whole-list, elements-at, elements-map}
 use Rattle.scheme.proofs.Tests.{is-false, holds}
-use Rattle.scheme.proofs.Totals.{all-of-in, at-all-of, all-of-same, in-at, explained, explained-back}
+use Rattle.scheme.proofs.Pooling.Totals.{all-of-in, at-all-of, all-of-same, in-at, explained, explained-back}
 use Rattle.plan.specs.declared.Plan as code
 use Rattle.plan.specs.Plan.{plan-of}
 use Rattle.solve.specs.Solve.{Points, Ready, unknown-at, solution-of, dot-of, fits-of, cell, block, unknowns-of, row-fits}

@@ -15,7 +15,7 @@ use Rattle.scheme.specs.Promise.{admissible}
 use Rattle.scheme.specs.Totals.{Follows}
 use Rattle.scheme.specs.Service.{replied, values}
 use Rattle.scheme.proofs.Lists.{map-span-length}
-use Rattle.scheme.proofs.Well.{Finishing, finishing, replied-survives}
+use Rattle.scheme.proofs.Pooling.Well.{Finishing, finishing, replied-survives}
 use Rattle.plan.specs.declared.Plan.{Plan}
 use Rattle.plan.specs.Plan.{plan-of}
 use Rattle.client.proofs.Shown.{Ready, message-is-sent, part-is-sent}

@@ -5,6 +5,7 @@
 --   key-mask, key-reply              the masks and the shares in a key
 --   elements-at, elements-map, elements-append, elements-rows       lists of elements
 --   key-elements                     a key is made of elements
+--   list-long, list-elements         a good random list
 -- Assumes nothing.
 use mathlib.Core.Path.{_≡_, refl, sym, ap, ap₂, _∙_}
 use mathlib.Core.Logic.{inl, inr}
@@ -13,13 +14,14 @@ use mathlib.Core.List.{List, [], _∷_, _++_, map}
 use Prim.Native.Nat.{ℕ, zero, suc, _+_, _*_, _-_, _^_, _<_}
 use native.Mathlib.Nat.{zero-add, suc-add}
 use native.Mathlib.Omega.{arith}
-use lib.Dec.{ltb}
+use lib.Dec.{ltb, eqb}
 use lib.ListN.{length, getD, take, drop, length-append, List·getD-append}
 use lib.Seq.{drop-append-add}
-use borrow.Author.Tests.{lt-ltb, ltb-true}
+use borrow.Author.Tests.{lt-ltb, ltb-true, eqb-true}
 use Rattle.algebra.specs.Sums.{In}
 use Rattle.scheme.specs.Lists.{span, rank, rows, each}
-use Rattle.scheme.specs.Scheme.{Arithmetic, elements, Plan, places, in-set, usable, usable-with, sets-with, mask, share, shares, key, key-length, reply-start, reply}
+use Rattle.scheme.specs.Scheme.{Arithmetic, elements, Plan, places, in-set, usable, usable-with, sets-with, list-length, mask, share, shares, key, key-length, reply-start, reply}
+use Rattle.scheme.specs.Promise.{list-good}
 use Rattle.scheme.specs.Laws.{Laws}
 use Rattle.scheme.proofs.Tests.{both, joined}
 use Rattle.scheme.proofs.Lists.{map-span-length, map-span-at, rows-length, rows-at}
@@ -116,3 +118,12 @@ key-elements A n m L p xs k h =
     (elements-map A (mask p xs k) (span (places p) 0) (λ i l. elements-at A (zero-small A n m L) xs ((k - 1) * places p + i) h))
     (elements-rows A (shares A p xs k) (sets-with p k)
     (λ v l. elements-map A (share A p xs k v) (span (p .blocks) 0) (λ b i. row-value-small A n m L (p .threshold) k _)))
+
+-- what makes a random list good
+pub list-long : (A : Arithmetic) (p : Plan) (xs : List ℕ) → list-good A p xs ≡ true → length xs ≡ list-length p
+unfolding list-good
+list-long A p xs ok = eqb-true _ _ (both (eqb (length xs) (list-length p)) (elements A xs) ok .0)
+
+pub list-elements : (A : Arithmetic) (p : Plan) (xs : List ℕ) → list-good A p xs ≡ true → elements A xs ≡ true
+unfolding list-good
+list-elements A p xs ok = both (eqb (length xs) (list-length p)) (elements A xs) ok .1

@@ -1,36 +1,20 @@
--- Tests, lists and refusals; sums, sets, bounds of a plan and keys; demand 3 (Add, Delta, Told, Modular); totals and the service (Totals, Held, Well,
--- Choices, Service); the key maker (Weighed, Key..) and the solver (Padded, Grids, Solve, SolveExplains, SolveModular); what is sharp (Sharp,
--- Settled, FirstUsers, Collusion, Threshold).
+-- What all share: tests, lists, refusals; sums, sets, bounds of a plan, keys; the laws modulo 65521. Then a folder for each matter.
+--   Privacy   demand 3, and that its premises are sharp
+--   Pooling   demands 1 and 2: totals and the service
+--   Making    the key maker
+--   Solving   the solver
 pub mod Tests
 pub mod Good
 pub mod Lists
+pub mod Padded
 pub mod Refusals
 pub mod Sums
 pub mod Sets
 pub mod PlanBounds
 pub mod Keys
-pub mod Add
-pub mod Delta
-pub mod Told
-pub mod Modular
-pub mod Totals
-pub mod Padded
-pub mod Grids
-pub mod Solve
-pub mod SolveExplains
-pub mod SolveModular
-pub mod Sharp
-pub mod Settled
-pub mod FirstUsers
-pub mod Collusion
-pub mod Held
-pub mod Well
-pub mod Choices
-pub mod Service
-pub mod Threshold
 pub mod Weighed
-pub mod KeyRows
-pub mod KeyPlaces
-pub mod KeyShares
-pub mod KeySums
-pub mod KeyWriting
+pub mod Modular
+pub mod Privacy
+pub mod Pooling
+pub mod Making
+pub mod Solving

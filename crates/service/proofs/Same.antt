@@ -20,7 +20,7 @@ use Rattle.scheme.specs.Service.{has-plan, is-held, plan-record, open-record, f
 use Rattle.scheme.specs.Service as scheme
 use Rattle.scheme.proofs.Good.{good}
 use Rattle.scheme.proofs.Refusals.{then-taken, then-zero, then-same, unless-held}
-use Rattle.scheme.proofs.Well.{gathers, replies, Fits, fits}
+use Rattle.scheme.proofs.Pooling.Well.{gathers, replies, Fits, fits}
 use Rattle.plan.specs.declared.Plan.{Plan}
 use Rattle.plan.specs.Plan.{plan-of}
 use Rattle.scheme.proofs.PlanBounds.{places-le}

@@ -18,7 +18,7 @@ use Rattle.scheme.specs.Service.{has-plan, plan-missing, gathered, Answer, sile
 use Rattle.scheme.specs.Service as scheme
 use Rattle.scheme.proofs.Tests.{holds}
 use Rattle.scheme.proofs.Refusals.{then-zero, unless-zero, after-refused, after-in}
-use Rattle.scheme.proofs.Well.{plan-here, gathers, refuses-as, new-well, steps-well}
+use Rattle.scheme.proofs.Pooling.Well.{plan-here, gathers, refuses-as, new-well, steps-well}
 use Rattle.plan.specs.Plan.{plan-of}
 use Rattle.service.specs.declared.Phase.the-variants.{Gathering}
 use Rattle.service.specs.declared.Service.{Service}

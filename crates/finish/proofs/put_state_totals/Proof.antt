@@ -12,7 +12,7 @@ use Rattle.scheme.specs.Limits.{cells}
 use Rattle.scheme.specs.Scheme.{plan-good, ones, unless, _then_}
 use Rattle.scheme.specs.Service.{has-plan, is-replying, replied}
 use Rattle.scheme.proofs.Good.{good}
-use Rattle.scheme.proofs.Held.{complete-below}
+use Rattle.scheme.proofs.Pooling.Held.{complete-below}
 use Rattle.plan.specs.Plan.{plan-of}
 use Rattle.plan.proofs.Laws.{ones-same}
 use Rattle.service.specs.declared.Service.{Service}

@@ -6,7 +6,7 @@ use lib.ListN.{length}
 use borrow.Author.Needs.{needs}
 use Rattle.scheme.specs.Limits.{most-blocks}
 use Rattle.scheme.specs.KeyParts.{Row-added}
-use Rattle.scheme.proofs.KeySums.{added-start, added-more, added-long, added-rest}
+use Rattle.scheme.proofs.Making.Sums.{added-start, added-more, added-long, added-rest}
 use Rattle.keys.specs.Width.{most-number}
 use Rattle.keys.proofs.add_row.Statement.{statement}
 use Rattle.keys.proofs.add_row.Tie as tie

@@ -10,7 +10,7 @@ use borrow.Author.Needs.{needs}
 use Rattle.scheme.specs.Limits.{most-users}
 use Rattle.scheme.specs.Lists.{span}
 use Rattle.scheme.specs.Scheme.{sixteen}
-use Rattle.scheme.proofs.KeyRows.{row-more, row-at}
+use Rattle.scheme.proofs.Making.Rows.{row-more, row-at}
 use Rattle.keys.proofs.coefficients.Statement.{statement}
 use Rattle.keys.proofs.coefficients.Tie as tie
 

@@ -9,8 +9,8 @@ use lib.Seq.{sets, length-sets}
 use borrow.Author.Needs.{needs}
 use Rattle.scheme.specs.Lists.{span}
 use Rattle.scheme.specs.Scheme.{mask}
-use Rattle.scheme.proofs.KeyRows.{row-more}
-use Rattle.scheme.proofs.KeyPlaces.{rows-in, row-in}
+use Rattle.scheme.proofs.Making.Rows.{row-more}
+use Rattle.scheme.proofs.Making.Places.{rows-in, row-in}
 use Rattle.plan.specs.Plan.{plan-of}
 use Rattle.keys.proofs.copy_masks.Statement.{statement}
 use Rattle.keys.proofs.copy_masks.Tie as tie

@@ -6,7 +6,7 @@ use borrow.Author.Needs.{needs}
 use Rattle.scheme.specs.Scheme.{sixteen, key-length, key-refusal}
 use Rattle.scheme.specs.KeyParts.{Key-input}
 use Rattle.scheme.proofs.Refusals.{after-taken, after-refused}
-use Rattle.scheme.proofs.KeyWriting.{key-accepted, key-whole}
+use Rattle.scheme.proofs.Making.Writing.{key-accepted, key-whole}
 use Rattle.plan.specs.Plan.{plan-of}
 use Rattle.scheme.proofs.PlanBounds.{masks-inside}
 use Rattle.keys.proofs.make_key.Statement.{statement}

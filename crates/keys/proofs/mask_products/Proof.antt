@@ -9,8 +9,8 @@ use Rattle.scheme.specs.Limits.{most-blocks}
 use Rattle.scheme.specs.Scheme.{sixteen, items, places}
 use Rattle.scheme.specs.KeyParts.{Products}
 use Rattle.scheme.proofs.Modular.{sixteen-sums}
-use Rattle.scheme.proofs.KeyPlaces.{row-in, row-next, rows-in}
-use Rattle.scheme.proofs.KeyWriting.{products-start, products-more}
+use Rattle.scheme.proofs.Making.Places.{row-in, row-next, rows-in}
+use Rattle.scheme.proofs.Making.Writing.{products-start, products-more}
 use Rattle.plan.specs.Plan.{plan-of}
 use Rattle.keys.proofs.mask_products.Statement.{statement}
 use Rattle.keys.proofs.mask_products.Tie as tie

@@ -8,7 +8,7 @@ use Rattle.scheme.specs.Limits.{most-blocks}
 use Rattle.scheme.specs.Scheme.{q}
 use Rattle.scheme.specs.KeyParts.{Unreduced-sums}
 use Rattle.scheme.proofs.Modular.{sixteen-sums}
-use Rattle.scheme.proofs.KeySums.{sums-start, sums-take, sums-skip}
+use Rattle.scheme.proofs.Making.Sums.{sums-start, sums-take, sums-skip}
 use Rattle.keys.specs.Width.{most-number}
 use Rattle.keys.proofs.sum_rows.Statement.{statement}
 use Rattle.keys.proofs.sum_rows.Tie as tie

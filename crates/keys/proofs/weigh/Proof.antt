@@ -7,7 +7,7 @@ use borrow.Author.Needs.{needs}
 use Rattle.scheme.specs.Scheme.{q}
 use Rattle.scheme.specs.KeyParts.{Unreduced-weight}
 use Rattle.scheme.proofs.Modular.{sixteen-sums}
-use Rattle.scheme.proofs.KeySums.{weight-start, weight-more}
+use Rattle.scheme.proofs.Making.Sums.{weight-start, weight-more}
 use Rattle.keys.specs.Width.{most-product}
 use Rattle.keys.proofs.weigh.Statement.{statement}
 use Rattle.keys.proofs.weigh.Tie as tie

@@ -8,9 +8,9 @@ use denote.Ref.{now}
 use borrow.Author.Needs.{needs}
 use Rattle.scheme.specs.Scheme.{sixteen}
 use Rattle.scheme.specs.KeyParts.{block-value, block-values}
-use Rattle.scheme.proofs.KeyRows.{row-more}
-use Rattle.scheme.proofs.KeyPlaces.{row-in, row-next}
-use Rattle.scheme.proofs.KeySums.{weight-end}
+use Rattle.scheme.proofs.Making.Rows.{row-more}
+use Rattle.scheme.proofs.Making.Places.{row-in, row-next}
+use Rattle.scheme.proofs.Making.Sums.{weight-end}
 use Rattle.keys.proofs.write_blocks_of.Statement.{statement}
 use Rattle.keys.proofs.write_blocks_of.Tie as tie
 

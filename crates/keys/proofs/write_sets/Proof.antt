@@ -13,9 +13,9 @@ use Rattle.scheme.specs.Limits.{most-blocks, most-items}
 use Rattle.scheme.specs.Scheme.{sixteen, items, usable, usable-with}
 use Rattle.scheme.proofs.Tests.{joined}
 use Rattle.scheme.proofs.Modular.{sixteen-sums}
-use Rattle.scheme.proofs.KeyPlaces.{rows-in, noise-room}
-use Rattle.scheme.proofs.KeyShares.{shares-right}
-use Rattle.scheme.proofs.KeyWriting.{Written, written-start, written-take, written-pass, written-skip, written-end}
+use Rattle.scheme.proofs.Making.Places.{rows-in, noise-room}
+use Rattle.scheme.proofs.Making.Shares.{shares-right}
+use Rattle.scheme.proofs.Making.Writing.{Written, written-start, written-take, written-pass, written-skip, written-end}
 use Rattle.plan.specs.Plan.{plan-of}
 use Rattle.scheme.proofs.PlanBounds.{sets-le, reply-inside}
 use Rattle.keys.proofs.write_sets.Statement.{statement}

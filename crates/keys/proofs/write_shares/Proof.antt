@@ -3,7 +3,7 @@ use mathlib.Core.Path.{ap, _∙_}
 use lib.Seq.{sets}
 use denote.Ref.{now}
 use borrow.Author.Needs.{needs}
-use Rattle.scheme.proofs.KeySums.{sums-end}
+use Rattle.scheme.proofs.Making.Sums.{sums-end}
 use Rattle.plan.specs.Plan.{plan-of}
 use Rattle.keys.proofs.write_shares.Statement.{statement}
 use Rattle.keys.proofs.write_shares.Tie as tie

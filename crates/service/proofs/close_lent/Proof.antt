@@ -13,7 +13,7 @@ use Rattle.scheme.specs.Scheme.{plan-good, ones}
 use Rattle.scheme.specs.Service.{not-gathering, complete-set, gathered}
 use Rattle.scheme.proofs.Good.{good}
 use Rattle.scheme.proofs.Refusals.{then-taken, then-stops, unless-held, unless-failed}
-use Rattle.scheme.proofs.Held.{complete-below}
+use Rattle.scheme.proofs.Pooling.Held.{complete-below}
 use Rattle.plan.specs.Plan.{plan-of}
 use Rattle.plan.proofs.Laws.{ones-same}
 use Rattle.service.specs.declared.Service.{Service}

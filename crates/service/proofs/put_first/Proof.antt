@@ -10,7 +10,7 @@ use Rattle.scheme.specs.Limits.{most-places}
 use Rattle.scheme.specs.Scheme.{sixteen}
 use Rattle.scheme.specs.Service.{not-gathering, element-refusal}
 use Rattle.scheme.proofs.Refusals.{then-taken, then-stops, unless-held, unless-failed}
-use Rattle.scheme.proofs.Well.{Fits, fits}
+use Rattle.scheme.proofs.Pooling.Well.{Fits, fits}
 use Rattle.service.specs.View.{phase-of, slot}
 use Rattle.service.specs.Calls.{first-refusal, first-left}
 use Rattle.service.proofs.Refused.{passed, test-passed, test-refused, beyond, within, not-free, is-free, array-refused, array-taken}

@@ -12,7 +12,7 @@ use Rattle.scheme.specs.Limits.{most-blocks}
 use Rattle.scheme.specs.Scheme.{q, sixteen, in-set}
 use Rattle.scheme.specs.Service.{not-replying, element-refusal}
 use Rattle.scheme.proofs.Refusals.{then-taken, then-stops, unless-held, unless-failed}
-use Rattle.scheme.proofs.Well.{Fits, fits}
+use Rattle.scheme.proofs.Pooling.Well.{Fits, fits}
 use Rattle.service.specs.View.{phase-of, slot}
 use Rattle.service.specs.Calls.{reply-refusal, reply-left}
 use Rattle.service.proofs.Refused.{passed, test-passed, test-refused, beyond, within, not-free, is-free, array-refused, array-taken}

@@ -13,7 +13,7 @@ use borrow.Author.Needs.{needs}
 use borrow.Author.Tests.{eq-eqb, ne-eqb}
 use Rattle.scheme.specs.Lists.{span, all-of}
 use Rattle.scheme.proofs.Tests.{and-true, and-false}
-use Rattle.scheme.proofs.Totals.{all-of-pass, all-of-stop, all-of-end}
+use Rattle.scheme.proofs.Pooling.Totals.{all-of-pass, all-of-stop, all-of-end}
 use Rattle.service.specs.View.{row-held}
 use Rattle.service.proofs.row_held.Statement.{statement}
 use Rattle.service.proofs.row_held.Tie as tie

@@ -8,7 +8,7 @@ use borrow.Author.Needs.{needs}
 use Rattle.algebra.proofs.Primes.{prime-65521}
 use Rattle.scheme.specs.Scheme.{q}
 use Rattle.scheme.specs.Solve.{cell, Unreduced}
-use Rattle.scheme.proofs.SolveModular.{unreduced-both, unreduced-weighed}
+use Rattle.scheme.proofs.Solving.Modular.{unreduced-both, unreduced-weighed}
 use Rattle.solve.specs.Solve.{most-folded}
 use Rattle.solve.proofs.all_products.Statement.{statement}
 use Rattle.solve.proofs.all_products.Tie as tie

@@ -9,8 +9,8 @@ use Rattle.scheme.specs.Limits.{most-blocks}
 use Rattle.scheme.specs.Lists.{span, all-of}
 use Rattle.scheme.specs.Scheme.{sixteen}
 use Rattle.scheme.specs.Solve.{row-fits}
-use Rattle.scheme.proofs.Totals.{all-of-pass, all-of-stop, all-of-end}
-use Rattle.scheme.proofs.Solve.{sums-low, filled-factors, row-same}
+use Rattle.scheme.proofs.Pooling.Totals.{all-of-pass, all-of-stop, all-of-end}
+use Rattle.scheme.proofs.Solving.Closed.{sums-low, filled-factors, row-same}
 use Rattle.solve.proofs.fits.Statement.{statement}
 use Rattle.solve.proofs.fits.Tie as tie
 

@@ -3,7 +3,7 @@ use mathlib.Core.Path.{_∙_}
 use lib.Dec.{lit<}
 use borrow.Author.Needs.{needs}
 use Rattle.algebra.proofs.Primes.{prime-65521}
-use Rattle.scheme.proofs.SolveModular.{gap-shift}
+use Rattle.scheme.proofs.Solving.Modular.{gap-shift}
 use Rattle.solve.proofs.gap_between.Statement.{statement}
 use Rattle.solve.proofs.gap_between.Tie as tie
 

@@ -16,7 +16,7 @@ use Rattle.scheme.specs.Weighed.{weighed}
 use Rattle.scheme.specs.Solve.{cell}
 use Rattle.scheme.proofs.Tests.{and-true, and-false}
 use Rattle.scheme.proofs.Lists.{span-start}
-use Rattle.scheme.proofs.Totals.{all-of-pass, all-of-stop, all-of-end}
+use Rattle.scheme.proofs.Pooling.Totals.{all-of-pass, all-of-stop, all-of-end}
 use Rattle.solve.proofs.same_row.Statement.{statement}
 use Rattle.solve.proofs.same_row.Tie as tie
 

@@ -8,9 +8,9 @@ use Rattle.algebra.proofs.Primes.{prime-65521}
 use Rattle.scheme.specs.Limits.{most-blocks}
 use Rattle.scheme.specs.Scheme.{sixteen}
 use Rattle.scheme.specs.Solve.{block, unknown-at, unknowns-of}
-use Rattle.scheme.proofs.Grids.{Rows, rows-long, rows-start, rows-more, rows-end}
-use Rattle.scheme.proofs.Solve.{sums-low, filled-factors}
-use Rattle.scheme.proofs.SolveModular.{inverse-row-right}
+use Rattle.scheme.proofs.Solving.Grids.{Rows, rows-long, rows-start, rows-more, rows-end}
+use Rattle.scheme.proofs.Solving.Closed.{sums-low, filled-factors}
+use Rattle.scheme.proofs.Solving.Modular.{inverse-row-right}
 use Rattle.solve.specs.Solve.{laws16}
 use Rattle.solve.proofs.solve.Statement.{statement}
 use Rattle.solve.proofs.solve.Tie as tie

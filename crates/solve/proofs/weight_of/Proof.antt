@@ -9,7 +9,7 @@ use borrow.Author.Needs.{needs}
 use Rattle.algebra.proofs.Primes.{prime-65521}
 use Rattle.scheme.specs.Limits.{most-users}
 use Rattle.scheme.specs.Scheme.{q}
-use Rattle.scheme.proofs.SolveModular.{Factoring, factoring-start, factoring-more, factoring-end}
+use Rattle.scheme.proofs.Solving.Modular.{Factoring, factoring-start, factoring-more, factoring-end}
 use Rattle.solve.proofs.weight_of.Statement.{statement}
 use Rattle.solve.proofs.weight_of.Tie as tie
 

@@ -9,7 +9,7 @@ use Rattle.scheme.specs.Limits.{most-users}
 use Rattle.scheme.specs.Scheme.{sixteen}
 use Rattle.scheme.specs.Solve.{row-weight, row-weights}
 use Rattle.scheme.proofs.Padded.{Filling, filling-start, filling-more, filling-end}
-use Rattle.scheme.proofs.SolveModular.{weights-exchanged}
+use Rattle.scheme.proofs.Solving.Modular.{weights-exchanged}
 use Rattle.solve.specs.Solve.{laws16}
 use Rattle.solve.proofs.weights.Statement.{statement}
 use Rattle.solve.proofs.weights.Tie as tie

@@ -20,10 +20,10 @@ use Rattle.scheme.specs.ServicePromise.{One-answer, Answered, Always-ans
 use Rattle.scheme.specs.Laws.{Laws}
 use Rattle.scheme.proofs.Tests.{holds}
 use Rattle.scheme.proofs.Refusals.{then-taken, then-zero, unless-held, unless-zero}
-use Rattle.scheme.proofs.Well.{finishing, steps-well, stays-well}
-use Rattle.scheme.proofs.Choices.{totals-same, decided}
+use Rattle.scheme.proofs.Pooling.Well.{finishing, steps-well, stays-well}
+use Rattle.scheme.proofs.Pooling.Choices.{totals-same, decided}
 use Rattle.scheme.proofs.Modular.{sixteen-laws}
-use Rattle.scheme.proofs.Totals.{one-choice, some-choice, rules-explain, totals-right}
+use Rattle.scheme.proofs.Pooling.Totals.{one-choice, some-choice, rules-explain, totals-right}
 
 answer-not-refused : (r : Record) (s : State) (n : ℕ) → answer-of r s ≡ refused n → ⊥
 unfolding answer-of

@@ -1,5 +1,4 @@
 -- Demand 3 for every arithmetic with the laws.
---   list-long, list-elements     what makes a random list good
 --   shown-same                   a list with the first table and its partner with the second show the same
 --   each-good, each-undo         partners are random lists, and each list is the partner of exactly one
 --   nothing-told                 demand 3 for one plan
@@ -26,17 +25,9 @@ use Rattle.scheme.proofs.Tests.{both, joined}
 use Rattle.scheme.proofs.Lists.{map-same, members-in, in-members, rows-same, span-in}
 use Rattle.scheme.proofs.Sums.{el-same, zero-small, sum-el, row-value-small}
 use Rattle.scheme.proofs.Sets.{users-in-in, place-lt}
-use Rattle.scheme.proofs.Keys.{each-at, each-length, whole-list, key-mask, key-reply, elements-at, elements-map}
-use Rattle.scheme.proofs.Add.{mask-add, share-add, value-zero}
-use Rattle.scheme.proofs.Delta.{shift-hidden, shift-zero, delta-mask, delta-share}
-
-pub list-long : (A : Arithmetic) (p : Plan) (xs : List ℕ) → list-good A p xs ≡ true → length xs ≡ list-length p
-unfolding list-good
-list-long A p xs ok = eqb-true _ _ (both (eqb (length xs) (list-length p)) (elements A xs) ok .0)
-
-pub list-elements : (A : Arithmetic) (p : Plan) (xs : List ℕ) → list-good A p xs ≡ true → elements A xs ≡ true
-unfolding list-good
-list-elements A p xs ok = both (eqb (length xs) (list-length p)) (elements A xs) ok .1
+use Rattle.scheme.proofs.Keys.{each-at, each-length, whole-list, key-mask, key-reply, elements-at, elements-map, list-long, list-elements}
+use Rattle.scheme.proofs.Privacy.Add.{mask-add, share-add, value-zero}
+use Rattle.scheme.proofs.Privacy.Delta.{shift-hidden, shift-zero, delta-mask, delta-share}
 
 -- place by place with a function that gives elements, a list is a random list
 each-good : (A : Arithmetic) (p : Plan) (f : ℕ → ℕ → ℕ) → ((a b : ℕ) → f a b < A .size) → (xs ys : List ℕ) →

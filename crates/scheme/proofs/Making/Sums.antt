@@ -22,8 +22,8 @@ use Rattle.scheme.specs.KeyParts.{block-item, block-value, block-values,
 use Rattle.scheme.proofs.Tests.{none-below}
 use Rattle.scheme.proofs.Lists.{span-in, map-same, zeros-at}
 use Rattle.scheme.proofs.Weighed.{weighed-same, weighed-more}
-use Rattle.scheme.proofs.KeyRows.{below-more, sum-take, sum-skip, row-more, row-at, row-other}
-use Rattle.scheme.proofs.KeyPlaces.{row-next}
+use Rattle.scheme.proofs.Making.Rows.{below-more, sum-take, sum-skip, row-more, row-at, row-other}
+use Rattle.scheme.proofs.Making.Places.{row-next}
 
 -- ---- numbers times factors
 pub weight-start : (q most : ℕ) (cs : List ℕ) (f : ℕ → ℕ) → Unreduced-weight q most cs 0 f 0

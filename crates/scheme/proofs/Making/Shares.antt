@@ -21,7 +21,7 @@ use Rattle.scheme.specs.Weighed.{weighed}
 use Rattle.scheme.specs.KeyParts.{columns-value, Coefficients, block-item, Products, set-sum, share-from, shares-from}
 use Rattle.scheme.proofs.Lists.{span-in, span-append, map-same, members-in}
 use Rattle.scheme.proofs.Sums.{el-same, sum-el, sum-small, sum-same, sum-append, sum-shift}
-use Rattle.scheme.proofs.KeyPlaces.{noise-block}
+use Rattle.scheme.proofs.Making.Places.{noise-block}
 
 pub weighed-columns : {A : Arithmetic} {k s n : ℕ} {cs : List ℕ} → Coefficients A k s n cs → (f : ℕ → ℕ) → weighed A cs n f ≡ columns-value A k s n f
 unfolding weighed columns-value

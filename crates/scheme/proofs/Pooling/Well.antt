@@ -19,7 +19,7 @@ use Rattle.scheme.specs.ServicePromise.{Stays-well}
 use Rattle.scheme.proofs.Tests.{holds, both, joined}
 use Rattle.scheme.proofs.Good.{good}
 use Rattle.scheme.proofs.Refusals.{then-zero, unless-zero, test-held}
-use Rattle.scheme.proofs.Held.{complete-below, complete-held, with-small, with-held}
+use Rattle.scheme.proofs.Pooling.Held.{complete-below, complete-held, with-small, with-held}
 
 -- ---- tests that a taken record has passed
 module _ (g : Phase) where

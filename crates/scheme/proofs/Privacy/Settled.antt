@@ -27,7 +27,7 @@ use Rattle.scheme.proofs.Lists.{span-append, span-in, in-span, span-onc
 use Rattle.scheme.proofs.Sums.{el-same, zero-small, sum-el, sum-small, row-value-el}
 use Rattle.scheme.proofs.Sets.{users-in-in, users-in-size, place-lt}
 use Rattle.scheme.proofs.Keys.{each-at, key-mask, key-reply, elements-at}
-use Rattle.scheme.proofs.Sharp.{map-back}
+use Rattle.scheme.proofs.Privacy.Sharp.{map-back}
 
 module _ (A : Arithmetic) (p : Plan) (L : Laws A (p .users) (p .threshold)) (v c : ℕ) (x y : Table) (xs ys : List ℕ)
     (same : shown A p v c xs x ≡ shown A p v c ys y) where

@@ -20,8 +20,8 @@ use Rattle.scheme.specs.Solve.{Square, unknown-at, solution-of, dot-of, 
 use Rattle.scheme.proofs.Lists.{span-in, in-span, map-span-length}
 use Rattle.scheme.proofs.Sums.{sum-same}
 use Rattle.scheme.proofs.Keys.{elements-map}
-use Rattle.scheme.proofs.Totals.{all-of-in, at-all-of, in-at, unknown, Explained}
-use Rattle.scheme.proofs.Solve.{dot-row, solve-right}
+use Rattle.scheme.proofs.Pooling.Totals.{all-of-in, at-all-of, in-at, unknown, Explained}
+use Rattle.scheme.proofs.Solving.Closed.{dot-row, solve-right}
 
 -- the values of m users, in order; U of them are solved for
 pub record Block (A : Arithmetic) (p : Plan) (users : List ℕ) (m : ℕ) (y : (k : ℕ) → ℕ) (rs cs vs : List ℕ) : Type 0 where

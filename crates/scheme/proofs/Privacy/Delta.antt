@@ -26,7 +26,7 @@ use Rattle.scheme.specs.Delta.{colluders-in, kept, unsolved, shift, delt
 use Rattle.scheme.proofs.Lists.{span-append, span-in, span-once, span-length, map-span-at, members-once, rank-at, high, low}
 use Rattle.scheme.proofs.Sums.{el-same, zero-small, sum-el, row-value-el, row-value-small}
 use Rattle.scheme.proofs.Sets.{users-in-in, usable-below, colluders-few, colluders-in-in, place-lt, mask-lt, noise-lt}
-use Rattle.scheme.proofs.Add.{value-zero}
+use Rattle.scheme.proofs.Privacy.Add.{value-zero}
 
 module _ (p : Plan) (c : ℕ) (more : p .collusion ≤ p .threshold) (few : ones (p .users) c ≤ p .collusion) (w : ℕ) where
   pub kept-whole : kept p c w + length (colluders-in p c w) ≡ p .threshold

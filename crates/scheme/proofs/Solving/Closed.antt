@@ -32,7 +32,7 @@ use Rattle.scheme.specs.Solve.{Points, Square, Sums-low, Factors, dot-of
 use Rattle.scheme.proofs.Lists.{span-in, in-span, span-once, span-start, span-next, span-end}
 use Rattle.scheme.proofs.Sums.{sum-same, sum-shift, el-same, zero-small, sum-el, sum-small, coefficient-el}
 use Rattle.scheme.proofs.Padded.{filled-at, filled-behind}
-use Rattle.scheme.proofs.Grids.{block-at, grid-at}
+use Rattle.scheme.proofs.Solving.Grids.{block-at, grid-at}
 
 pub below : (n i : ℕ) → In i (span n 0) → i < n
 below n i m = omega (arith, span-in n 0 i m)

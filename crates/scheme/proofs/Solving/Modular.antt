@@ -30,7 +30,7 @@ use Rattle.scheme.specs.Solve.{Points, cell, block, row-points, column-p
 use Rattle.scheme.proofs.Lists.{span-append}
 use Rattle.scheme.proofs.Sums.{sum-append, coefficient-el}
 use Rattle.scheme.proofs.Padded.{filled-at}
-use Rattle.scheme.proofs.Solve.{α, β, row-weight-el, column-weight-el, sum-short, unknown-right, Weighing, weighing-start, weighing-more, weighing-end}
+use Rattle.scheme.proofs.Solving.Closed.{α, β, row-weight-el, column-weight-el, sum-short, unknown-right, Weighing, weighing-start, weighing-more, weighing-end}
 
 module _ {q : ℕ} (prime : Prime q) (large : most-users + most-threshold < q) where
   abbrev A : Arithmetic

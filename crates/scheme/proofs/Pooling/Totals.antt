@@ -35,8 +35,7 @@ use Rattle.scheme.proofs.Tests.{both, joined}
 use Rattle.scheme.proofs.Lists.{span-in, in-span, span-once, span-length, span-next, span-end, map-same, map-span-length, map-span-at, members-once}
 use Rattle.scheme.proofs.Sums.{el-same, zero-small, sum-same, sum-el, sum-small, row-value-el, row-value-small}
 use Rattle.scheme.proofs.Sets.{users-in-in, users-in-size}
-use Rattle.scheme.proofs.Keys.{each-at, key-mask, key-reply, elements-at, elements-map}
-use Rattle.scheme.proofs.Told.{list-elements}
+use Rattle.scheme.proofs.Keys.{each-at, key-mask, key-reply, elements-at, elements-map, list-elements}
 
 pub all-of-in : (t : ℕ → Bool) (l : List ℕ) → all-of t l ≡ true → (k : ℕ) → In k l → t k ≡ true
 unfolding all-of

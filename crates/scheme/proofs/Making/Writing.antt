@@ -29,9 +29,9 @@ use Rattle.scheme.proofs.Refusals.{then-zero, unless-zero, start-taken}
 use Rattle.scheme.proofs.Sums.{el-same}
 use Rattle.scheme.proofs.Keys.{shares-length, key-is-long}
 use Rattle.scheme.proofs.Weighed.{weighed-small}
-use Rattle.scheme.proofs.KeyRows.{below-more, rows-take, rows-skip, row-other, row-at}
-use Rattle.scheme.proofs.KeyPlaces.{noise-next, reply-next}
-use Rattle.scheme.proofs.KeyShares.{weighed-columns}
+use Rattle.scheme.proofs.Making.Rows.{below-more, rows-take, rows-skip, row-other, row-at}
+use Rattle.scheme.proofs.Making.Places.{noise-next, reply-next}
+use Rattle.scheme.proofs.Making.Shares.{weighed-columns}
 
 pub key-accepted : (A : Arithmetic) (p : Plan) (k : ℕ) (xs : List ℕ) (out : ℕ) → key-refusal A p k xs out ≡ 0 → Key-input p k xs × (out ≡ key-length p k)
 unfolding key-refusal

@@ -27,7 +27,7 @@ use Rattle.scheme.proofs.Sums.{zero-small}
 use Rattle.scheme.proofs.Sets.{usable-size}
 use Rattle.scheme.proofs.Keys.{elements-map}
 use Rattle.scheme.proofs.Modular.{sixteen-laws}
-use Rattle.scheme.proofs.Totals.{rules-explain, totals-right}
+use Rattle.scheme.proofs.Pooling.Totals.{rules-explain, totals-right}
 
 pub map-back : {B : Type 0} (f g : ℕ → B) (l : List ℕ) → map f l ≡ map g l → (k : ℕ) → In k l → f k ≡ g k
 map-back f g [] e k m = absurd m

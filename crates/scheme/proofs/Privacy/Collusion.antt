@@ -27,9 +27,9 @@ use Rattle.scheme.proofs.Sets.{users-in-in, place-lt}
 use Rattle.scheme.proofs.Keys.{elements-map}
 use Rattle.scheme.proofs.Good.{good}
 use Rattle.scheme.proofs.Modular.{sixteen-laws}
-use Rattle.scheme.proofs.Sharp.{in-users, zeros, zeros-good}
-use Rattle.scheme.proofs.FirstUsers.{first, first-in, first-out, first-size, first-below, first-usable}
-use Rattle.scheme.proofs.Settled.{own-same, last-total}
+use Rattle.scheme.proofs.Privacy.Sharp.{in-users, zeros, zeros-good}
+use Rattle.scheme.proofs.Privacy.FirstUsers.{first, first-in, first-out, first-size, first-below, first-usable}
+use Rattle.scheme.proofs.Privacy.Settled.{own-same, last-total}
 
 pub own-needed : Own-needed
 unfolding Own-needed

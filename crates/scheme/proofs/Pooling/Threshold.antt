@@ -29,7 +29,7 @@ use Rattle.scheme.proofs.Sums.{el-same, row-value-el, row-value-small}
 use Rattle.scheme.proofs.Sets.{users-in-in, users-in-size}
 use Rattle.scheme.proofs.Keys.{elements-map}
 use Rattle.scheme.proofs.Modular.{sixteen-laws}
-use Rattle.scheme.proofs.Totals.{at-all-of, in-at, unknown}
+use Rattle.scheme.proofs.Pooling.Totals.{at-all-of, in-at, unknown}
 
 module _ (A : Arithmetic) (p : Plan) (L : Laws A (p .users) (p .threshold)) (r : ℕ) (y : (k : ℕ) → ℕ) (c : ℕ)
     (fewer : ones (p .users) r + 1 ≡ p .threshold) where

@@ -1,0 +1,7 @@
+-- The key maker. Rows: numbers written row by row. Places: where masks, noise and shares lie. Sums: totals that are not reduced. Shares:
+-- from products and noise. Writing: the loop over all sets.
+pub mod Rows
+pub mod Places
+pub mod Shares
+pub mod Sums
+pub mod Writing
