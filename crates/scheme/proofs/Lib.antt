@@ -26,6 +26,7 @@ pub mod Collusion
 pub mod Held
 pub mod Well
 pub mod Choices
+pub mod FinishLaws
 pub mod Service
 pub mod Threshold
 pub mod Weighed
