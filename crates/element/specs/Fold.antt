@@ -1,5 +1,5 @@
 -- Remainders without a division.
---   word                     how many numbers 16 bits hold
+--   word, most-word          how many numbers 16 bits hold, and the largest of them
 --   fold                     a number's low part, and its high part times what the modulus q is short of w (proofs/Fold.antt)
 --   most-folded, reducible   the fold of a product of two 16-bit numbers is at most the one; that of a number below the other, below 2 * q
 -- Assumes nothing: these are definitions.
@@ -9,11 +9,14 @@ use Rattle.scheme.specs.Scheme.{q}
 abbrev pub word : ℕ
 word = 2 ^ 16
 
+abbrev pub most-word : ℕ
+most-word = word - 1
+
 abbrev pub fold : (w q n : ℕ) → ℕ
 fold w q n = n % w + n / w * (w - q)
 
 abbrev pub most-folded : ℕ
-most-folded = (word - 1) + (word - 1) * (word - q)
+most-folded = most-word + most-word * (word - q)
 
 abbrev pub reducible : ℕ
 reducible = 2 ^ 28

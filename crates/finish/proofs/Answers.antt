@@ -1,10 +1,10 @@
--- What finish hands back.
+-- What finish hands back, over an arithmetic with its laws.
+--   Passed                           the tests before 16 are passed
+--   answer-number                    the number that it answers
 --   refused-right                    the number and the totals of a refusal
 --   answer-right                     the number and the totals, with the state
---   answer-number                    the number that it answers
 --   finish-refuses, finish-kept      a refused finish
---   Passed, passed-refusal               the tests before 16 are passed
---   totalled-right                   then the number and the totals are those of the complete replies
+--   passed-refusal, totalled-right   past the tests, 16 or 0; and the number and the totals are those of the complete replies
 -- Assumes nothing.
 use mathlib.Core.Path.{_≡_, refl, sym, ap, _∙_, subst}
 use mathlib.Core.List.{List}
@@ -12,54 +12,55 @@ use mathlib.Core.Bool.{true}
 use Prim.Native.Nat.{ℕ, _≤_}
 use lib.ListN.{replicate}
 use borrow.Author.Tests.{le-leb}
-use Rattle.scheme.specs.Limits.{most-places}
-use Rattle.scheme.specs.Scheme.{sixteen, plan-good, ones, unless, _then_, after}
-use Rattle.scheme.specs.Service.{has-plan, is-replying, replied, explained-by, totals-by}
-use Rattle.scheme.proofs.Refusals.{after-refused}
+use Rattle.scheme.specs.Limits.{most-users, most-threshold, most-places}
+use Rattle.scheme.specs.Scheme.{Arithmetic, plan-good, ones, unless, after}
+use Rattle.scheme.specs.Laws.{Laws}
+use Rattle.scheme.specs.Service.{not-replying, replied, explained-by, totals-by}
+use Rattle.scheme.proofs.Refusals.{then-taken, unless-held, after-refused}
 use Rattle.plan.specs.Plan.{plan-of}
 use Rattle.service.specs.declared.Service.{Service}
 use Rattle.service.specs.View.{phase-of, view}
 use Rattle.finish.specs.Finish.{choice, finish-refusal, finished, finish-refused, finish-answer, finish-step}
 use Rattle.finish.specs.Parts.{Totalled, Answered}
 
--- ---- the answer
-module _ (s : Service) where
-  pub refused-right : {n : ℕ} {out : List ℕ} → (n ≡ 0 → ⊥) → finish-refusal s ≡ n → out ≡ replicate most-places 0 → Answered s n out
-  unfolding finish-answer
-  refused-right h e z = record { number-right = sym e; totals-right = z ∙ sym (after-refused h _ _) }
-
-  pub answer-right : (t : Service) {n : ℕ} {out : List ℕ} → Answered s n out → t ≡ after n (finished (s .head)) s
-      → record { number = n; totals = out; service = t } ≡ finish-step s
-  unfolding finish-step finish-answer
-  answer-right t {n} a e =
-      (λ i. record { number = n; totals = a .totals-right i; service = e i }) ∙ ap (λ (m : ℕ). finish-answer m s) (a .number-right)
-
-  pub finish-refuses : {n : ℕ} → (n ≡ 0 → ⊥) → finish-refusal s ≡ n → finish-refused n s ≡ finish-step s
-  finish-refuses h e = answer-right s (refused-right h e refl) (sym (after-refused h _ _))
-
-  pub finish-kept : (finish-step s .number ≡ 0 → ⊥) → finish-step s .service ≡ s
-  unfolding finish-step finish-answer
-  finish-kept h = after-refused h _ _
-
-pub answer-number : (n : ℕ) (s : Service) → finish-answer n s .number ≡ n
-unfolding finish-answer
-answer-number n s = refl
-
--- ---- the tests before 16 are passed
+-- the tests before 16 are passed
 pub record Passed (s : Service) : Type 0 where
-  pub planned : has-plan (phase-of (s .head .phase)) ≡ true
-  pub replying : is-replying (phase-of (s .head .phase)) ≡ true
+  pub replying : not-replying (phase-of (s .head .phase)) ≡ 0
   pub good : plan-good (plan-of (s .head .plan)) ≡ true
   pub many : s .head .plan .threshold ≤ ones (s .head .plan .users) (replied (view s))
 
-module _ (s : Service) (r : Passed s) where
-  pub passed-refusal : finish-refusal s ≡ unless (explained-by sixteen (view s) (choice s)) 16
-  unfolding finish-refusal unless _then_
-  passed-refusal = simp (r .planned, r .replying, r .good, le-leb _ _ (r .many))
+module _ (A : Arithmetic) (L : Laws A most-users most-threshold) where
+  pub answer-number : (n : ℕ) (s : Service) → finish-answer A L n s .number ≡ n
+  unfolding finish-answer
+  answer-number n s = refl
 
-  pub totalled-right : (v n : ℕ) (out : List ℕ) → v ≡ replied (view s)
-      → Totalled (plan-of (s .head .plan)) v (s .head .survivors) (s .first) (s .reply) n out → Answered s n out
-  unfolding explained-by totals-by choice view finish-answer
-  totalled-right v n out e h =
-      let t = subst (λ (w : ℕ). Totalled (plan-of (s .head .plan)) w (s .head .survivors) (s .first) (s .reply) n out) e h in
-      record { number-right = t .number-right ∙ sym passed-refusal; totals-right = t .totals-right }
+  module _ (s : Service) where
+    pub refused-right : {n : ℕ} {out : List ℕ} → (n ≡ 0 → ⊥) → n ≡ finish-refusal A L s → out ≡ replicate most-places 0 → Answered A L s n out
+    unfolding finish-answer
+    refused-right h e z = record { number-right = e; totals-right = z ∙ sym (after-refused h _ _) }
+
+    pub answer-right : (t : Service) {n : ℕ} {out : List ℕ} → Answered A L s n out → t ≡ after n (finished (s .head)) s
+        → record { number = n; totals = out; service = t } ≡ finish-step A L s
+    unfolding finish-step finish-answer
+    answer-right t {n} a e =
+        (λ i. record { number = n; totals = a .totals-right i; service = e i }) ∙ ap (λ (m : ℕ). finish-answer A L m s) (a .number-right)
+
+    pub finish-refuses : {n : ℕ} → (n ≡ 0 → ⊥) → finish-refusal A L s ≡ n → finish-refused n s ≡ finish-step A L s
+    finish-refuses h e = answer-right s (refused-right h (sym e) refl) (sym (after-refused h _ _))
+
+    pub finish-kept : (finish-step A L s .number ≡ 0 → ⊥) → finish-step A L s .service ≡ s
+    unfolding finish-step finish-answer
+    finish-kept h = after-refused h _ _
+
+    module _ (r : Passed s) where
+      pub passed-refusal : finish-refusal A L s ≡ unless (explained-by A (view s) (choice A L s)) 16
+      unfolding finish-refusal
+      passed-refusal =
+          then-taken (r .replying) _ ∙ then-taken (unless-held (r .good) 15) _ ∙ then-taken (unless-held (le-leb _ _ (r .many)) 15) _
+
+      pub totalled-right : (v n : ℕ) (out : List ℕ) → v ≡ replied (view s)
+          → Totalled A L (plan-of (s .head .plan)) v (s .head .survivors) (s .first) (s .reply) n out → Answered A L s n out
+      unfolding explained-by totals-by choice view finish-answer
+      totalled-right v n out e h =
+          let t = subst (λ (w : ℕ). Totalled A L (plan-of (s .head .plan)) w (s .head .survivors) (s .first) (s .reply) n out) e h in
+          record { number-right = t .number-right ∙ sym passed-refusal; totals-right = t .totals-right }

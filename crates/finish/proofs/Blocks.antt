@@ -1,10 +1,10 @@
--- One block: the closed solution of the first U complete replies.
+-- One block: the closed solution of the first U complete replies, over an arithmetic with its laws.
 --   columns-points, users-few, enough-rows, rows-square, listed-few, listed-points      the points of columns and rows
 --   value-at, values-small         the reply of a row; where the replies are elements
---   choice-first                   then the closed solution explains the first U of them
+--   explained-small                replies that something explains are elements
+--   choice-first                   where they are elements the closed solution explains the first U of them
 --   further-fit                    whether the further replies fit too
 --   explains-further, fits-further     if so it explains all, and where it explains all they fit
---   explained-small                replies that something explains are elements
 -- Assumes nothing.
 use mathlib.Core.Path.{_≡_, refl, sym, _∙_, subst}
 use mathlib.Core.Bool.{Bool, true}
@@ -17,19 +17,20 @@ use lib.Seq.{take-at}
 use borrow.Author.Tests.{eqb-true}
 use Rattle.algebra.specs.Sums.{Distinct}
 use Rattle.scheme.specs.Limits.{most-users, most-threshold}
-use Rattle.scheme.specs.Lists.{span, all-of, padded}
-use Rattle.scheme.specs.Scheme.{sixteen, q, Plan, ones, users-in, in-set}
+use Rattle.scheme.specs.Lists.{span, all-of, padded, filled}
+use Rattle.scheme.specs.Scheme.{Arithmetic, Plan, ones, users-in, in-set}
+use Rattle.scheme.specs.Laws.{Laws}
 use Rattle.scheme.specs.Good.{Good}
+use Rattle.scheme.specs.Solve.{Points, Square, solution-of, fits-of}
 use Rattle.scheme.specs.Totals.{explains-all}
 use Rattle.scheme.proofs.Lists.{map-span-length, in-span, members-once, members-le}
 use Rattle.scheme.proofs.Sums.{row-value-small}
 use Rattle.scheme.proofs.Sets.{users-in-in, users-in-size}
 use Rattle.scheme.proofs.Pooling.Totals.{all-of-in, in-at, at-apart, unknown, Explained, explained}
-use Rattle.solve.specs.Solve.{laws16, Points, Square, filled, solution-of, fits-of}
-use Rattle.solve.proofs.Explains.{points-some, Block, explains-first, fits-explains, explains-fits}
-use Rattle.solve.proofs.Filled.{padded-at}
+use Rattle.scheme.proofs.Padded.{padded-at, map-at}
+use Rattle.scheme.proofs.Solving.Closed.{points-some}
+use Rattle.scheme.proofs.Solving.Explains.{Block, explains-first, fits-explains, explains-fits}
 use Rattle.finish.specs.Finish.{rows-of, values-of, columns, choice-of}
-use Rattle.finish.proofs.Padded.{map-at}
 
 -- ---- the points
 column-at : (i : ℕ) → i < most-threshold → getD columns i 0 ≡ i + 1
@@ -85,54 +86,62 @@ module _ (p : Plan) (r : ℕ) (good : Good p) (many : p .threshold ≤ ones (p .
     columns-good = columns-points (p .threshold) (omega (arith, good .threshold-high, good .users-high));
   }
 
-  -- ---- one block
-  module _ (y : (k block : ℕ) → ℕ) where
+-- ---- the replies of a block
+module _ (p : Plan) (r : ℕ) (y : (k block : ℕ) → ℕ) where
+  pub value-at : (b a : ℕ) → a < length (users-in p r) → getD (values-of p r y b) a 0 ≡ y (getD (users-in p r) a 0) b
+  unfolding values-of
+  value-at b a h =
+      padded-at most-users (map (λ k. y k b) (users-in p r)) a (omega (arith, length-map (users-in p r) (λ k. y k b)))
+      ∙ map-at (λ k. y k b) (users-in p r) a h
+
+  pub values-small : (size b : ℕ) → ((k : ℕ) → y k b < size) → (a : ℕ) → a < length (users-in p r) → getD (values-of p r y b) a 0 < size
+  values-small size b h a l = rw (value-at b a l) (h (getD (users-in p r) a 0))
+
+-- ---- what explains them
+module _ (A : Arithmetic) (L : Laws A most-users most-threshold) (p : Plan) (r : ℕ) where
+  pub explained-small : (y : (k block : ℕ) → ℕ) (f : (block : ℕ) → List ℕ) → explains-all A p r y f ≡ true
+      → (a b : ℕ) → a < length (users-in p r) → b < p .blocks → y (getD (users-in p r) a 0) b < A .size
+  explained-small y f h a b l k =
+      subst (λ (x : ℕ). x < A .size) (explained A p r y f h b k .fits a l)
+      (row-value-small A most-users most-threshold L (p .threshold) (getD (users-in p r) a 0) (unknown (f b)))
+
+  module _ (good : Good p) (many : p .threshold ≤ ones (p .users) r) (y : (k block : ℕ) → ℕ) (b : ℕ) where
     abbrev m : ℕ
     m = length (users-in p r)
 
-    pub explained-small : (f : (block : ℕ) → List ℕ) → explains-all sixteen p r y f ≡ true
-        → (a b : ℕ) → a < length (users-in p r) → b < p .blocks → y (getD (users-in p r) a 0) b < q
-    explained-small f h a b l k =
-        subst (λ (x : ℕ). x < q) (explained sixteen p r y f h b k .fits a l)
-        (row-value-small sixteen most-users most-threshold laws16 (p .threshold) (getD (users-in p r) a 0) (unknown (f b)))
+    abbrev solved : List ℕ
+    solved = solution-of A L (rows-of p r) columns (values-of p r y b) (p .threshold)
 
-    module _ (b : ℕ) where
-      pub value-at : (a : ℕ) → a < length (users-in p r) → getD (values-of p r y b) a 0 ≡ y (getD (users-in p r) a 0) b
-      unfolding values-of
-      value-at a h =
-          padded-at most-users (map (λ k. y k b) (users-in p r)) a (omega (arith, length-map (users-in p r) (λ k. y k b)))
-          ∙ map-at (λ k. y k b) (users-in p r) a h
+    choice-take : take (p .threshold) solved ≡ choice-of A L p r y b
+    unfolding solution-of filled choice-of padded
+    choice-take = take-at _ _ (p .threshold) (map-span-length _ (p .threshold) 0)
 
-      pub values-small : ((k : ℕ) → y k b < q) → (a : ℕ) → a < length (users-in p r) → getD (values-of p r y b) a 0 < q
-      values-small h a l = rw (value-at a l) (h (getD (users-in p r) a 0))
+    abbrev pub Explains : (n : ℕ) (unknowns : List ℕ) → Type 0
+    Explains n = Explained A p (users-in p r) n (λ k. y k b)
 
-      choice-take : take (p .threshold) (solution-of (rows-of p r) columns (values-of p r y b) (p .threshold)) ≡ choice-of p r y b
-      unfolding solution-of filled choice-of padded
-      choice-take = take-at _ _ (p .threshold) (map-span-length _ (p .threshold) 0)
+    abbrev pub further-fit : Bool
+    further-fit =
+        fits-of A (rows-of p r) columns (values-of p r y b) (solution-of A L (rows-of p r) columns (values-of p r y b) (p .threshold))
+        (p .threshold) (length (users-in p r))
 
-      abbrev pub Explains : (n : ℕ) (unknowns : List ℕ) → Type 0
-      Explains n = Explained sixteen p (users-in p r) n (λ k. y k b)
+    module _ (small : (a : ℕ) → a < length (users-in p r) → getD (values-of p r y b) a 0 < A .size) where
+      block : Block A p (users-in p r) m (λ k. y k b) (rows-of p r) columns (values-of p r y b)
+      block = record {
+        many = enough-rows p r good many;
+        columns = λ i h. column-at i (omega (arith, good .threshold-high, good .users-high));
+        rows = row-at p r;
+        values = value-at p r y b;
+        small = small;
+      }
 
-      abbrev pub further-fit : Bool
-      further-fit =
-          fits-of (rows-of p r) columns (values-of p r y b) (solution-of (rows-of p r) columns (values-of p r y b) (p .threshold)) (p .threshold)
-          (length (users-in p r))
+      square : Square (rows-of p r) columns (p .threshold)
+      square = rows-square p r good many
 
-      module _ (small : (a : ℕ) → a < length (users-in p r) → getD (values-of p r y b) a 0 < q) where
-        block : Block p (users-in p r) m (λ k. y k b) (rows-of p r) columns (values-of p r y b)
-        block = record {
-          many = enough-rows;
-          columns = λ i h. column-at i (omega (arith, good .threshold-high, good .users-high));
-          rows = row-at p r;
-          values = value-at;
-          small = small;
-        }
+      pub choice-first : Explains (p .threshold) (choice-of A L p r y b)
+      choice-first = subst (Explains (p .threshold)) choice-take (explains-first A L _ _ _ _ _ _ _ block square)
 
-        pub choice-first : Explains (p .threshold) (choice-of p r y b)
-        choice-first = subst (Explains (p .threshold)) choice-take (explains-first _ _ _ _ _ _ _ block rows-square)
+      pub explains-further : further-fit ≡ true → Explains (length (users-in p r)) (choice-of A L p r y b)
+      explains-further e = subst (Explains m) choice-take (fits-explains A L _ _ _ _ _ _ _ block square e)
 
-        pub explains-further : further-fit ≡ true → Explains (length (users-in p r)) (choice-of p r y b)
-        explains-further e = subst (Explains m) choice-take (fits-explains _ _ _ _ _ _ _ block rows-square e)
-
-        pub fits-further : Explains (length (users-in p r)) (choice-of p r y b) → further-fit ≡ true
-        fits-further e = explains-fits _ _ _ _ _ _ _ block rows-square (subst (Explains m) (sym choice-take) e)
+      pub fits-further : Explains (length (users-in p r)) (choice-of A L p r y b) → further-fit ≡ true
+      fits-further e = explains-fits A L _ _ _ _ _ _ _ block square (subst (Explains m) (sym choice-take) e)

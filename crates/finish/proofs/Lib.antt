@@ -1,5 +1,4 @@
 -- The laws of finish, in reading order; Steps has the theorems of specs/Promise.antt.
-pub mod Padded
 pub mod Turns
 pub mod Blocks
 pub mod Systems

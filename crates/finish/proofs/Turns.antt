@@ -1,40 +1,28 @@
 -- One turn of each loop.
---   held-at                                                    one element of a user
 --   Listing, listing-start, listing-more-in, listing-more-out, listing-end     the users of a set
---   Storing, storing-start, storing-more, storing-end                a run of stores
---   Summing, summing-start, summing-more, summing-end                a sum that is reduced at its end
+--   reply-inside, reply-behind                                                 the replies of a row: those of the blocks, and 0 behind them
+--   summing-start, summing-more, summing-end                                   a sum that is reduced at its end
 -- Assumes nothing.
-use mathlib.Core.Path.{_≡_, refl, sym, ap, ap₂, _∙_, subst}
-use mathlib.Core.Bool.{Bool, true, false}
-use mathlib.Core.List.{List, [], _∷_, _++_, map, append-nil}
-use Prim.Native.Nat.{ℕ, zero, suc, _+_, _*_, _-_, _%_, _≤_, _<_}
-use native.Mathlib.Nat.{add-assoc, add-zero, zero-add, zero-mod, mod-mod}
+use mathlib.Core.Path.{_≡_, refl, sym, ap, _∙_, subst}
+use mathlib.Core.Bool.{Bool, true, false, cond}
+use mathlib.Core.List.{List, [], _∷_, _++_}
+use Prim.Native.Nat.{ℕ, _+_, _%_, _≤_, _<_}
+use native.Mathlib.Nat.{add-comm, zero-add, zero-mod}
 use native.Mathlib.Omega.{arith}
 use lib.ListN.{length, getD, set, replicate, length-append}
-use lib.Seq.{sets}
-use Rattle.algebra.proofs.Residue.{mods}
-use Rattle.scheme.specs.Limits.{most-users}
-use Rattle.scheme.specs.Lists.{span, keep, members, padded}
+use borrow.Author.Tests.{lt-ltb, le-ltb}
+use Rattle.algebra.specs.Residue.{Prime}
+use Rattle.scheme.specs.Limits.{most-users, most-threshold, most-blocks}
+use Rattle.scheme.specs.Lists.{span, members, padded}
 use Rattle.scheme.specs.Scheme.{modular, sum}
-use Rattle.scheme.specs.Service.{element-of}
-use Rattle.scheme.proofs.Lists.{span-start, span-next, span-end, members-append, sets-more}
-use Rattle.solve.proofs.Filled.{padded-next}
-use Rattle.service.specs.View.{stored, slot}
-use Rattle.service.proofs.View.{look-at}
-use Rattle.finish.specs.Parts.{held-in, most-word}
-
-pub held-at : (w : ℕ) (xs : List ℕ) (k i : ℕ) → 1 ≤ k → k ≤ most-users → i < w → held-in w xs k i ≡ getD xs (slot w k i) 0 - 1
-unfolding element-of stored
-held-at w xs k i lo hi h = ap element-of (look-at w xs k i lo hi h) ∙ less (getD xs (slot w k i) 0)
-  where
-    less : (x : ℕ) → element-of (stored x) ≡ x - 1
-    less zero = refl
-    less (suc x) = omega arith
+use Rattle.scheme.specs.Solve.{Unreduced}
+use Rattle.scheme.proofs.Making.Rows.{members-take, members-skip}
+use Rattle.scheme.proofs.Padded.{padded-next}
+use Rattle.scheme.proofs.Solving.Modular.{unreduced-one, unreduced-both}
+use Rattle.service.specs.View.{held-in}
+use Rattle.finish.specs.Parts.{row-reply}
 
 -- ---- the users of a set: those up to k are written, in order
-members-next : (t : ℕ → Bool) (k : ℕ) → members t (k + 1) 1 ≡ members t k 1 ++ keep (t (k + 1)) (k + 1) []
-members-next t k = let e : 1 + k ≡ k + 1 = omega arith in members-append t k 1 1 ∙ ap (λ (i : ℕ). members t k 1 ++ keep (t i) i []) e
-
 pub record Listing (t : ℕ → Bool) (n k : ℕ) (list : List ℕ) (count : ℕ) : Type 0 where
   pub inside : k ≤ n
   pub few : count ≤ k
@@ -49,7 +37,7 @@ module _ (t : ℕ → Bool) (n : ℕ) where
   module _ (k : ℕ) (list : List ℕ) (count : ℕ) (s : Listing t n k list count) where
     pub listing-more-in : n ≤ most-users → k < n → t (k + 1) ≡ true → Listing t n (k + 1) (set list count (k + 1)) (count + 1)
     listing-more-in h l e =
-        let m : members t (k + 1) 1 ≡ members t k 1 ++ ((k + 1) ∷ []) = members-next t k ∙ ap (λ (b : Bool). members t k 1 ++ keep b (k + 1) []) e in
+        let m : members t (k + 1) 1 ≡ members t k 1 ++ ((k + 1) ∷ []) = members-take t k 1 (k + 1) (add-comm 1 k) e in
         record {
           inside = omega arith;
           few = omega (arith, s .few);
@@ -61,7 +49,7 @@ module _ (t : ℕ → Bool) (n : ℕ) where
 
     pub listing-more-out : k < n → t (k + 1) ≡ false → Listing t n (k + 1) list count
     listing-more-out l e =
-        let m : members t (k + 1) 1 ≡ members t k 1 = members-next t k ∙ ap (λ (b : Bool). members t k 1 ++ keep b (k + 1) []) e ∙ append-nil (members t k 1) in
+        let m : members t (k + 1) 1 ≡ members t k 1 = members-skip t k 1 (k + 1) (add-comm 1 k) e in
         record {
           inside = omega arith;
           few = omega (arith, s .few);
@@ -72,53 +60,25 @@ module _ (t : ℕ → Bool) (n : ℕ) where
     pub listing-end : n ≤ k → Listing t n n list count
     listing-end h = let e : k ≡ n = omega (arith, s .inside) in subst (λ (i : ℕ). Listing t n i list count) e s
 
--- ---- a run of stores: j of n are done
-module _ (h : ℕ → ℕ) (n at : ℕ) (old : List ℕ) where
-  pub record Storing (j : ℕ) (out : List ℕ) : Type 0 where
-    pub inside : j ≤ n
-    pub done : out ≡ sets old at (map h (span j 0))
+-- ---- the replies of a row
+module _ (ys rs : List ℕ) (m a b : ℕ) where
+  pub reply-inside : b < m → row-reply ys rs m a b ≡ held-in most-blocks ys (getD rs a 0) b
+  unfolding row-reply
+  reply-inside h = ap (λ (t : Bool). cond t (held-in most-blocks ys (getD rs a 0) b) 0) (lt-ltb b m h)
 
-  pub storing-start : Storing 0 old
-  storing-start = record { inside = omega arith; done = refl }
+  pub reply-behind : m ≤ b → row-reply ys rs m a b ≡ 0
+  unfolding row-reply
+  reply-behind h = ap (λ (t : Bool). cond t (held-in most-blocks ys (getD rs a 0) b) 0) (le-ltb b m h)
 
-  pub storing-more : (j x : ℕ) (out : List ℕ) → j < n → x ≡ h j → Storing j out → Storing (j + 1) (set out (at + j) x)
-  storing-more j x out l e s = record {
-    inside = omega arith;
-    done = ap₂ (λ (o : List ℕ) (y : ℕ). set o (at + j) y) (s .done) e ∙ sets-more old at j h;
-  }
+-- ---- a sum of numbers modulo a prime, one more a turn
+pub summing-start : (q most : ℕ) (f : ℕ → ℕ) → Unreduced q most f 0 0 0
+unfolding sum
+summing-start q most f = record { small = omega arith; right = zero-mod q }
 
-  pub storing-end : (j : ℕ) (out : List ℕ) → n ≤ j → Storing j out → out ≡ sets old at (map h (span n 0))
-  storing-end j out l s = let e : j ≡ n = omega (arith, s .inside) in s .done ∙ ap (λ (k : ℕ). sets old at (map h (span k 0))) e
+module _ {q : ℕ} (prime : Prime q) (large : most-users + most-threshold < q) (most : ℕ) (f : ℕ → ℕ) where
+  pub summing-more : (i s t : ℕ) → t ≡ f i → t ≤ most → Unreduced q most f 0 i s → Unreduced q most f 0 (i + 1) (s + t)
+  summing-more i s t e h g =
+      unreduced-both prime large most f 0 i 1 s t g (unreduced-one prime large most f (0 + i) t (ap (λ (x : ℕ). x % q) (e ∙ ap f (sym (zero-add i)))) h)
 
--- ---- a sum of numbers of 16 bits modulo q: i of n are added
-module _ (q : ℕ) (f : ℕ → ℕ) (n : ℕ) where
-  abbrev total : List ℕ → ℕ
-  total l = sum (modular q) l f
-
-  pub record Summing (i s : ℕ) : Type 0 where
-    pub low : s ≤ i * most-word
-    pub rest : (s + total (span (n - i) i)) % q ≡ total (span n 0)
-
-  total-reduced : (l : List ℕ) → total l % q ≡ total l
-  unfolding sum
-  total-reduced [] = zero-mod q
-  total-reduced (k ∷ l) = mod-mod _ q
-
-  pub summing-start : Summing 0 0
-  summing-start = record { low = omega arith; rest = rw (span-start n, zero-add (total (span n 0))) (total-reduced (span n 0)) }
-
-  pub summing-more : (i s t : ℕ) → i < n → t ≡ f i → t ≤ most-word → Summing i s → Summing (i + 1) (s + t)
-  unfolding sum
-  summing-more i s t l e h g = record {
-    low = omega (arith, g .low);
-    rest =
-        ap (λ (x : ℕ). (s + x + total (span (n - (i + 1)) (i + 1))) % q) e ∙ regroup s (f i) _
-        ∙ ap (λ (l : List ℕ). (s + total l) % q) (sym (span-next n i l)) ∙ g .rest;
-  }
-    where
-      regroup : (s x r : ℕ) → (s + x + r) % q ≡ (s + (x + r) % q) % q
-      regroup s x r = simp (mods, add-assoc)
-
-  pub summing-end : (i s : ℕ) → n ≤ i → Summing i s → s % q ≡ total (span n 0)
-  unfolding sum
-  summing-end i s h g = ap (λ (x : ℕ). x % q) (sym (add-zero s)) ∙ ap (λ (l : List ℕ). (s + total l) % q) (sym (span-end n i h)) ∙ g .rest
+pub summing-end : (q most : ℕ) (f : ℕ → ℕ) (n i s : ℕ) → i ≤ n → n ≤ i → Unreduced q most f 0 i s → s % q ≡ sum (modular q) (span n 0) f
+summing-end q most f n i s h l g = let e : i ≡ n = omega arith in g .right ∙ ap (λ (k : ℕ). sum (modular q) (span k 0) f) e

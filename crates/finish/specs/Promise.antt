@@ -1,4 +1,4 @@
--- That finish is the step of document 01's service, and that a refused one leaves the state as it was.
+-- That finish is the step of document 01's service, and that a refused one leaves the state as it was, over an arithmetic with its laws.
 --   Finish-steps      on a well-formed state: the step that names what explains the replies, never the solver
 --   Finish-right      complete replies that follow the rules give the survivors' total
 --   Refused-unchanged "a refusal hands back its number alone": no totals, and the state as it was, whatever it was
@@ -9,9 +9,10 @@ use mathlib.Core.Bool.{true}
 use mathlib.Core.List.{List, map}
 use Prim.Native.Nat.{ℕ}
 use lib.ListN.{take}
-use Rattle.scheme.specs.Limits.{most-places}
+use Rattle.scheme.specs.Limits.{most-users, most-threshold, most-places}
 use Rattle.scheme.specs.Lists.{span, padded}
-use Rattle.scheme.specs.Scheme.{sixteen, places, total-at}
+use Rattle.scheme.specs.Scheme.{Arithmetic, places, total-at}
+use Rattle.scheme.specs.Laws.{Laws}
 use Rattle.scheme.specs.Promise.{Table, admissible, list-good}
 use Rattle.scheme.specs.Totals.{Follows}
 use Rattle.scheme.specs.Service.{finish-record, totalled, refusal, replied, values}
@@ -21,20 +22,22 @@ use Rattle.service.specs.View.{view, Formed}
 use Rattle.service.specs.Promise.{told, Is-step}
 use Rattle.finish.specs.Finish.{finish-refused, finish-step}
 
-unfoldable pub Finish-steps : Type 0
-Finish-steps =
-    (s : Service) → Formed s →
-    let t = finish-step s in
-    Is-step finish-record s (told (t .number) (totalled (s .head .round) (take (places (plan-of (s .head .plan))) (t .totals)))) (t .service)
+module _ (A : Arithmetic) (L : Laws A most-users most-threshold) where
+  unfoldable pub Finish-steps : Type 0
+  Finish-steps =
+      (s : Service) → Formed A s →
+      let t = finish-step A L s in
+      Is-step A finish-record s (told (t .number) (totalled (s .head .round) (take (places (plan-of (s .head .plan))) (t .totals)))) (t .service)
 
--- whatever else was sent
-unfoldable pub Finish-right : Type 0
-Finish-right =
-    (s : Service) (xs : List ℕ) (x : Table) →
-    let p = plan-of (s .head .plan) in
-    Formed s → refusal sixteen finish-record (view s) ≡ 0 → list-good sixteen p xs ≡ true → admissible sixteen p x →
-    Follows sixteen p xs x (s .head .survivors) (replied (view s)) (values (view s .firsts)) (values (view s .replies)) →
-    (finish-step s .number ≡ 0) × (finish-step s .totals ≡ padded most-places (map (total-at sixteen p x (s .head .survivors)) (span (places p) 0)))
+  -- whatever else was sent
+  unfoldable pub Finish-right : Type 0
+  Finish-right =
+      (s : Service) (xs : List ℕ) (x : Table) →
+      let p = plan-of (s .head .plan) in
+      let t = finish-step A L s in
+      Formed A s → refusal A finish-record (view s) ≡ 0 → list-good A p xs ≡ true → admissible A p x →
+      Follows A p xs x (s .head .survivors) (replied (view s)) (values (view s .firsts)) (values (view s .replies)) →
+      (t .number ≡ 0) × (t .totals ≡ padded most-places (map (total-at A p x (s .head .survivors)) (span (places p) 0)))
 
-unfoldable pub Refused-unchanged : Type 0
-Refused-unchanged = (s : Service) → finish-step s .number ≢ 0 → finish-step s ≡ finish-refused (finish-step s .number) s
+  unfoldable pub Refused-unchanged : Type 0
+  Refused-unchanged = (s : Service) → finish-step A L s .number ≢ 0 → finish-step A L s ≡ finish-refused (finish-step A L s .number) s

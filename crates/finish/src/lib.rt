@@ -2,7 +2,6 @@
 //   Users, users_of                           the users of a set, in a place each
 //   the_columns                               the points of the columns
 //   System, system_of                         the users whose replies are complete, with what the solver needs of them
-//   element_in, start_of                      an element that is held, and where a user's elements start
 //   put_held, gather                          the replies of all blocks, in the order of the rows
 //   Explained, explain                        the sums and noise that explain them
 //   add_first, no_sums, first_sums            the sum of the first elements of each place
@@ -19,14 +18,16 @@ ghost use Prim.Native.Nat.{ℕ, _+_, _*_, _-_, _≤_, _<_};
 ghost use lib.ListN.{length, getD, replicate};
 ghost use lib.Seq.{sets};
 ghost use Rattle.scheme.specs.Limits.{most-users, most-blocks, most-threshold, most-places, firsts, cells};
-ghost use Rattle.scheme.specs.Lists.{span};
+ghost use Rattle.scheme.specs.Lists.{span, filled};
 ghost use Rattle.scheme.specs.Scheme.{q, sixteen, ones};
 ghost use Rattle.scheme.specs.Good.{Good};
+ghost use Rattle.scheme.specs.Solve.{Points};
+ghost use Rattle.element.specs.Fold.{most-word};
 ghost use Rattle.plan.specs.Plan.{plan-of};
 ghost use Rattle.service.specs.Calls.{lent};
-ghost use Rattle.solve.specs.Solve.{Points, Put};
+ghost use Rattle.solve.specs.Solve.{laws16};
 ghost use Rattle.finish.specs.Finish.{columns, finished, finishing, finish-step};
-ghost use Rattle.finish.specs.Parts.{Listed, Prepared, Gathered, Blocks-solved, most-word, most-sum, At-most, raised, First-sums, block-total, place-total, Totalled, Answered};
+ghost use Rattle.finish.specs.Parts.{Listed, Prepared, reply-grid, Blocks-solved, most-sum, At-most, raised, First-sums, block-total, place-total, Totalled, Answered};
 use plan::BLOCKS;
 use plan::CELLS;
 use plan::FIRSTS;
@@ -77,7 +78,7 @@ struct System {
 
 fn system_of(plan: Plan, set: u32) -> System
     requires { ⌜ Good (plan-of plan) × (plan .threshold ≤ ones (plan .users) set) ⌝ }
-    ensures { λ r. ⌜ Prepared plan set r ⌝ }
+    ensures { λ r. ⌜ Prepared sixteen laws16 plan set r ⌝ }
 {
     let users = users_of(plan, set);
     let rows = users.list;
@@ -88,32 +89,14 @@ fn system_of(plan: Plan, set: u32) -> System
     System { users, alpha, beta }
 }
 
-// What is held as itself plus 1, and 0 where nothing is held.
-fn element_in(x: u16) -> u16
-    ensures { λ r. ⌜ r ≡ x - 1 ⌝ }
-{
-    if x == 0 {
-        return 0;
-    }
-    x - 1
-}
-
-// Where a user's elements start.
-fn start_of(user: u32, stride: usize) -> usize
-    requires { ⌜ (1 ≤ user) × (user ≤ most-users) × (stride ≤ most-places) ⌝ }
-    ensures { λ r. ⌜ r ≡ (user - 1) * stride ⌝ }
-{
-    (user as usize - 1) * stride
-}
-
 // The replies of a user, which stand from `from` on, are put from `at` on.
 fn put_held(out: &mut [u16; CELLS], at: usize, reply: &[u16; CELLS], from: usize, blocks: usize)
     requires { ⌜ (blocks ≤ most-blocks) × (at + blocks ≤ cells) × (from + blocks ≤ cells) × (length (now out) ≡ cells) ⌝ }
-    ensures { λ r. ⌜ Put (λ b. getD (now (reply .entry)) (from + b) 0 - 1) blocks at (now (out .entry)) (now (out .exit)) ⌝ }
+    ensures { λ r. ⌜ now (out .exit) ≡ sets (now (out .entry)) at (map (λ b. getD (now (reply .entry)) (from + b) 0 - 1) (span blocks 0)) ⌝ }
 {
     let mut b = 0;
     while b < blocks {
-        out[at + b] = element_in(reply[from + b]);
+        out[at + b] = service::element_of(reply[from + b]);
         b += 1;
     }
 }
@@ -121,13 +104,13 @@ fn put_held(out: &mut [u16; CELLS], at: usize, reply: &[u16; CELLS], from: usize
 // The replies in the order of the rows, and 0 where there is no block.
 fn gather(reply: &[u16; CELLS], rows: &[u32; USERS], count: usize, blocks: usize) -> [u16; CELLS]
     requires { ⌜ (count ≤ most-users) × (blocks ≤ most-blocks) × Points most-users count (now rows) ⌝ }
-    ensures { λ r. ⌜ Gathered (now (reply .entry)) (now (rows .entry)) count blocks r ⌝ }
+    ensures { λ r. ⌜ r ≡ reply-grid (now (reply .entry)) (now (rows .entry)) count blocks ⌝ }
 {
     let mut out = solve::no_cells();
     let mut at = 0;
     let mut i = 0;
     while i < count {
-        let from = start_of(rows[i], BLOCKS);
+        let from = service::row_start(rows[i], BLOCKS);
         put_held(&mut out, at, reply, from, blocks);
         at += BLOCKS;
         i += 1;
@@ -145,7 +128,7 @@ struct Explained {
 // element; no state that calls make has one.
 fn explain(plan: Plan, set: u32, reply: &[u16; CELLS]) -> Explained
     requires { ⌜ Good (plan-of plan) × (plan .threshold ≤ ones (plan .users) set) ⌝ }
-    ensures { λ r. ⌜ Blocks-solved (plan-of plan) set (now (reply .entry)) r ⌝ }
+    ensures { λ r. ⌜ Blocks-solved sixteen laws16 (plan-of plan) set (now (reply .entry)) r ⌝ }
 {
     let system = system_of(plan, set);
     let users = system.users;
@@ -178,7 +161,7 @@ fn add_first(sums: &mut [u32; MOST_PLACES], first: &[u16; FIRSTS], from: usize, 
 {
     let mut i = 0;
     while i < places {
-        sums[i] = sums[i] + element_in(first[from + i]) as u32;
+        sums[i] = sums[i] + service::element_of(first[from + i]) as u32;
         i += 1;
     }
 }
@@ -202,7 +185,7 @@ fn first_sums(
     let mut sums = no_sums();
     let mut i = 0;
     while i < count {
-        let from = start_of(rows[i], MOST_PLACES);
+        let from = service::row_start(rows[i], MOST_PLACES);
         add_first(&mut sums, first, from, places);
         i += 1;
     }
@@ -246,8 +229,9 @@ fn put_all_totals(
     out: &mut [u16; MOST_PLACES],
 )
     requires { ⌜ (items ≤ most-threshold) × (blocks ≤ most-blocks) × (blocks * items ≤ most-places) × At-most most-sum (blocks * items) (now sums) ⌝ }
+    requires { ⌜ now out ≡ replicate most-places 0 ⌝ }
     ensures { λ r. ⌜ now (out .exit)
-        ≡ sets (now (out .entry)) 0 (map (place-total sixteen (now (sums .entry)) (now (unknowns .entry)) items) (span (blocks * items) 0)) ⌝ }
+        ≡ filled most-places (blocks * items) (place-total sixteen (now (sums .entry)) (now (unknowns .entry)) items) ⌝ }
 {
     let mut at = 0;
     let mut b = 0;
@@ -268,7 +252,7 @@ fn put_explained_totals<'a>(
     out: &mut [u16; MOST_PLACES],
 ) -> u32
     requires { ⌜ Good (plan-of plan) × (plan .threshold ≤ ones (plan .users) set) × (now out ≡ replicate most-places 0) ⌝ }
-    ensures { λ r. ⌜ Totalled (plan-of plan) set survivors (now (first .entry)) (now (reply .entry)) r (now (out .exit)) ⌝ }
+    ensures { λ r. ⌜ Totalled sixteen laws16 (plan-of plan) set survivors (now (first .entry)) (now (reply .entry)) r (now (out .exit)) ⌝ }
 {
     let explained = explain(plan, set, reply);
     if !explained.fits {
@@ -291,7 +275,7 @@ fn put_state_totals<'a>(
     out: &mut [u16; MOST_PLACES],
 ) -> u32
     requires { ⌜ now out ≡ replicate most-places 0 ⌝ }
-    ensures { λ r. ⌜ Answered (lent head (now (first .entry)) (now (reply .entry))) r (now (out .exit)) ⌝ }
+    ensures { λ r. ⌜ Answered sixteen laws16 (lent head (now (first .entry)) (now (reply .entry))) r (now (out .exit)) ⌝ }
 {
     let phase = head.phase;
     let number = service::not_replying(phase);
@@ -346,7 +330,8 @@ pub struct Finished {
 // "Finish uses every survivor with all M blocks held, ignores partial replies, gives the total and returns to idle." After a refusal
 // the state is as before. On lent arrays.
 pub fn finish_lent(head: Head, first: &mut [u16; FIRSTS], reply: &mut [u16; CELLS]) -> FinishedHead
-    ensures { λ r. ⌜ finishing r (now (first .exit)) (now (reply .exit)) ≡ finish-step (lent head (now (first .entry)) (now (reply .entry))) ⌝ }
+    ensures { λ r. ⌜ finishing r (now (first .exit)) (now (reply .exit))
+        ≡ finish-step sixteen laws16 (lent head (now (first .entry)) (now (reply .entry))) ⌝ }
 {
     let mut totals = no_totals();
     let number = put_state_totals(head, first, reply, &mut totals);
@@ -366,7 +351,7 @@ pub fn finish_lent(head: Head, first: &mut [u16; FIRSTS], reply: &mut [u16; CELL
 }
 
 pub fn finish(service: Service) -> Finished
-    ensures { λ r. ⌜ r ≡ finish-step service ⌝ }
+    ensures { λ r. ⌜ r ≡ finish-step sixteen laws16 service ⌝ }
 {
     let head = service.head;
     let mut first = service.first;

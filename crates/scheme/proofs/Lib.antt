@@ -1,4 +1,4 @@
--- What all share: tests, lists, refusals; sums, sets, bounds of a plan, keys; the laws modulo 65521. Then a folder for each matter.
+-- What all share: tests, lists, refusals; sums, sets, bounds of a plan, keys; the laws of fewer rows, and modulo 65521. Then a folder for each matter.
 --   Privacy   demand 3, and that its premises are sharp
 --   Pooling   demands 1 and 2: totals and the service
 --   Making    the key maker
@@ -13,6 +13,7 @@ pub mod Sets
 pub mod PlanBounds
 pub mod Keys
 pub mod Weighed
+pub mod Laws
 pub mod Modular
 pub mod Privacy
 pub mod Pooling

@@ -1,39 +1,37 @@
 -- `finish::add_first` meets its contract. The loop's invariant: the first i sums are new, and the others old.
 -- The measure is how many are left. Assumes nothing.
-use mathlib.Core.Path.{_≡_, ap, ap₂, _∙_, subst}
-use mathlib.Core.Logic.{⊎-elim}
-use mathlib.Core.List.{List, map}
+use mathlib.Core.Path.{_≡_, ap₂, subst}
+use mathlib.Core.List.{List}
 use Prim.Native.Nat.{ℕ, _+_, _-_, _≤_, _<_}
-use native.Mathlib.Nat.{zero-add, eq-or-lt-of-le}
+use native.Mathlib.Nat.{zero-add}
 use native.Mathlib.Omega.{arith}
 use lib.ListN.{getD, set}
 use borrow.Author.Needs.{needs}
-use Rattle.scheme.specs.Lists.{span}
 use Rattle.scheme.proofs.Tests.{none-below}
-use Rattle.scheme.proofs.Lists.{map-span-length}
-use Rattle.finish.specs.Parts.{most-word, raised}
-use Rattle.finish.proofs.Padded.{sets-behind}
-use Rattle.finish.proofs.Turns.{Storing, storing-start, storing-more, storing-end}
+use Rattle.scheme.proofs.Making.Rows.{below-more, row-other}
+use Rattle.scheme.proofs.Padded.{Setting, setting-start, setting-more, setting-end}
+use Rattle.element.specs.Fold.{most-word}
+use Rattle.finish.specs.Parts.{raised}
 use Rattle.finish.proofs.add_first.Statement.{statement}
 use Rattle.finish.proofs.add_first.Tie as tie
 
 -- the sum that stands at i before its turn
-old-at : {f : ℕ → ℕ} {n : ℕ} {old new : List ℕ} (i : ℕ) → Storing f n 0 old i new → getD new i 0 ≡ getD old i 0
-old-at {f} {old = old} i s = ap (λ (l : List ℕ). getD l i 0) (s .done) ∙ sets-behind old (map f (span i 0)) 0 i (omega (arith, map-span-length f i 0))
+old-at : {f : ℕ → ℕ} {n : ℕ} {old new : List ℕ} (i : ℕ) → Setting f n 0 old i new → getD new i 0 ≡ getD old i 0
+old-at i s = row-other _ 0 _ i (s .done) i (λ b h e. omega arith)
 
-next : {f : ℕ → ℕ} {n : ℕ} {old new : List ℕ} (i : ℕ) {x : ℕ} → i < n → x ≡ f i → Storing f n 0 old i new → Storing f n 0 old (i + 1) (set new i x)
+next : {f : ℕ → ℕ} {n : ℕ} {old new : List ℕ} (i : ℕ) {x : ℕ} → i < n → x ≡ f i → Setting f n 0 old i new → Setting f n 0 old (i + 1) (set new i x)
 next {f} {n} {old} {new} i {x} l e s =
-    subst (λ (k : ℕ). Storing f n 0 old (i + 1) (set new k x)) (zero-add i) (storing-more f n 0 old i x new l e s)
+    subst (λ (k : ℕ). Setting f n 0 old (i + 1) (set new k x)) (zero-add i) (setting-more f n 0 old i x new l e s)
 
 abbrev Inv-loop : tie.InvT-loop
 Inv-loop sums₀ first from places i₀ sums i =
-    Storing (raised sums₀ first from) places 0 sums₀ i sums × ((j : ℕ) → j < i → getD first (from + j) 0 - 1 ≤ most-word)
+    Setting (raised sums₀ first from) places 0 sums₀ i sums × ((j : ℕ) → j < i → getD first (from + j) 0 - 1 ≤ most-word)
 
 abbrev μ-loop : tie.MeasureT-loop
 μ-loop sums₀ first from places i₀ sums i = places - i
 
 loop-holds : tie.Need-loop-holds Inv-loop μ-loop
-loop-holds c = (storing-start _ _ _ _, λ j h. absurd (none-below j h))
+loop-holds c = (setting-start _ _ _ _, λ j h. absurd (none-below j h))
 
 add-sums : tie.Need-add-sums Inv-loop μ-loop
 add-sums c =
@@ -45,14 +43,11 @@ loop-again : tie.Need-loop-again Inv-loop μ-loop
 loop-again c =
     let t = c .before .before .before in
     let l = t .before .loop in
-    let e = ap₂ (λ (x y : ℕ). x + y) (old-at (l .i) (l .inv .0)) (c .element-in .ensures) in (
-      next (l .i) (t .loop-test .taken) e (l .inv .0),
-      λ j h.
-          ⊎-elim (λ (d : j ≡ l .i). rw d (omega (arith, c .element-in .ensures))) (λ (d : j < l .i). l .inv .1 j d) (eq-or-lt-of-le (omega arith)),
-    )
+    let e = ap₂ (λ (x y : ℕ). x + y) (old-at (l .i) (l .inv .0)) (c .element-of .ensures) in
+    (next (l .i) (t .loop-test .taken) e (l .inv .0), below-more _ (l .inv .1) (omega (arith, c .element-of .ensures)))
 
 returns : tie.Need-returns Inv-loop μ-loop
-returns c = (storing-end _ _ _ _ _ _ (c .loop-test .left) (c .before .loop .inv .0), λ i h. c .before .loop .inv .1 i (omega arith))
+returns c = (setting-end _ _ _ _ _ _ (c .loop-test .left) (c .before .loop .inv .0), λ i h. c .before .loop .inv .1 i (omega arith))
 
 pub add-first-spec : {M : Type 1} → statement M
 add-first-spec =

@@ -2,6 +2,8 @@
 use mathlib.Core.Path.{sym, _∙_}
 use borrow.Author.Needs.{needs}
 use borrow.Author.Tests.{not-true, not-false}
+use Rattle.scheme.specs.Scheme.{sixteen}
+use Rattle.solve.specs.Solve.{laws16}
 use Rattle.finish.proofs.Systems.{system-few, system-many, system-points, system-ready, unknowns-right, fits-right, nothing-fits}
 use Rattle.finish.proofs.explain.Statement.{statement}
 use Rattle.finish.proofs.explain.Tie as tie
@@ -27,10 +29,12 @@ system-of-requires : tie.Need-system-of-requires
 system-of-requires c κs = c .pre
 
 gather-requires : tie.Need-gather-requires
-gather-requires c κs = let h = prepared (pointed c) .system-of .ensures in (system-few _ _ _ h, h .good .blocks-high, system-points _ _ _ h)
+gather-requires c κs =
+    let h = prepared (pointed c) .system-of .ensures in
+    (system-few sixteen laws16 _ _ _ h, h .good .blocks-high, system-points sixteen laws16 _ _ _ h)
 
 solve-requires : tie.Need-solve-requires
-solve-requires c κs = let k = pointed (gathered c .before) in system-ready _ _ _ (prepared k .system-of .ensures) _ (k .the-columns .ensures)
+solve-requires c κs = let k = pointed (gathered c .before) in system-ready sixteen laws16 _ _ _ (prepared k .system-of .ensures) _ (k .the-columns .ensures)
 
 returns : tie.Need-returns
 returns c =
@@ -40,16 +44,16 @@ returns c =
     let h = prepared k .system-of .ensures in
     let bad = sym (c .before .all-elements .ensures) ∙ not-true _ (c .if1 .taken) in
     record {
-      fits-right = nothing-fits _ _ _ h _ _ _ _ (k .the-columns .ensures) (g .gather .ensures) (w .solve .ensures) bad;
-      unknowns-right = unknowns-right _ _ _ h _ _ _ _ (k .the-columns .ensures) (g .gather .ensures) (w .solve .ensures);
+      fits-right = nothing-fits sixteen laws16 _ _ _ h _ _ _ _ (k .the-columns .ensures) (g .gather .ensures) (w .solve .ensures) bad;
+      unknowns-right = unknowns-right sixteen laws16 _ _ _ h _ _ _ _ (k .the-columns .ensures) (g .gather .ensures) (w .solve .ensures);
     }
 
 fits-requires : tie.Need-fits-requires
 fits-requires c κs =
     let k = pointed (gathered (solved (tested c .before) .before) .before) in
     let h = prepared k .system-of .ensures in
-    let s = system-ready _ _ _ h _ (k .the-columns .ensures) .square in
-    (system-many _ _ _ h, system-few _ _ _ h, h .good .blocks-high, system-points _ _ _ h, s .columns-good)
+    let s = system-ready sixteen laws16 _ _ _ h _ (k .the-columns .ensures) .square in
+    (system-many sixteen laws16 _ _ _ h, system-few sixteen laws16 _ _ _ h, h .good .blocks-high, system-points sixteen laws16 _ _ _ h, s .columns-good)
 
 returns-2 : tie.Need-returns-2
 returns-2 c =
@@ -60,8 +64,8 @@ returns-2 c =
     let h = prepared k .system-of .ensures in
     let ok = sym (t .before .all-elements .ensures) ∙ not-false _ (t .if1 .left) in
     record {
-      fits-right = c .fits2 .ensures ∙ fits-right _ _ _ h _ _ _ _ (k .the-columns .ensures) (g .gather .ensures) (w .solve .ensures) ok;
-      unknowns-right = unknowns-right _ _ _ h _ _ _ _ (k .the-columns .ensures) (g .gather .ensures) (w .solve .ensures);
+      fits-right = c .fits2 .ensures ∙ fits-right sixteen laws16 _ _ _ h _ _ _ _ (k .the-columns .ensures) (g .gather .ensures) (w .solve .ensures) ok;
+      unknowns-right = unknowns-right sixteen laws16 _ _ _ h _ _ _ _ (k .the-columns .ensures) (g .gather .ensures) (w .solve .ensures);
     }
 
 pub explain-spec : {M : Type 1} → statement M

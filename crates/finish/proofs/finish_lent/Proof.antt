@@ -2,7 +2,9 @@
 -- Assumes nothing.
 use mathlib.Core.Path.{sym}
 use borrow.Author.Needs.{needs}
+use Rattle.scheme.specs.Scheme.{sixteen}
 use Rattle.scheme.proofs.Refusals.{after-taken, after-refused}
+use Rattle.solve.specs.Solve.{laws16}
 use Rattle.finish.specs.Finish.{finished}
 use Rattle.finish.proofs.Answers.{answer-right}
 use Rattle.finish.proofs.finish_lent.Statement.{statement}
@@ -12,14 +14,14 @@ put-state-totals-requires : tie.Need-put-state-totals-requires
 put-state-totals-requires c κs = c .before .before .before .no-totals .ensures
 
 returns : tie.Need-returns
-returns c = answer-right _ _ (c .before .put-state-totals .ensures) (sym (after-refused (c .if1 .taken) _ _))
+returns c = answer-right sixteen laws16 _ _ (c .before .put-state-totals .ensures) (sym (after-refused (c .if1 .taken) _ _))
 
 returns-2 : tie.Need-returns-2
 unfolding finished
 returns-2 c =
     let e = c .before .before .before .before in
     rw (c .idle .ensures, c .before .clear .ensures .0, c .before .clear .ensures .1)
-    (answer-right _ _ (e .before .put-state-totals .ensures) (sym (after-taken (e .if1 .left) _ _)))
+    (answer-right sixteen laws16 _ _ (e .before .put-state-totals .ensures) (sym (after-taken (e .if1 .left) _ _)))
 
 pub finish-lent-spec : {M : Type 1} → statement M
 finish-lent-spec = tie.close (tie.spec (λ c κs. search needs) put-state-totals-requires returns (λ c κs. search needs) (λ c κs. search needs) returns-2)

@@ -9,21 +9,21 @@ use Rattle.finish.proofs.put_all_totals.Statement.{statement}
 use Rattle.finish.proofs.put_all_totals.Tie as tie
 
 abbrev Inv-loop : tie.InvT-loop
-Inv-loop sums unknowns items blocks out₀ at₀ b₀ out at b = Totalling sixteen sums unknowns items blocks out₀ b at out
+Inv-loop sums unknowns items blocks out₀ at₀ b₀ out at b = Totalling sixteen sums unknowns items blocks b at out
 
 abbrev μ-loop : tie.MeasureT-loop
 μ-loop sums unknowns items blocks out₀ at₀ b₀ out at b = blocks - b
 
 -- the block's places are among those of the totals
 room : (c : tie.In-loop Inv-loop μ-loop) → let a = c .before .before .args in c .before .loop .at + a .items ≤ a .blocks * a .items
-room c = totalling-room _ _ _ _ _ _ _ _ _ (c .before .loop .inv) (c .loop-test .taken)
+room c = totalling-room _ _ _ _ _ _ _ _ (c .before .loop .inv) (c .loop-test .taken)
 
 loop-holds : tie.Need-loop-holds Inv-loop μ-loop
-loop-holds c = totalling-start _ _ _ _ _ _
+loop-holds c = rw (c .pre .1) (totalling-start _ _ _ _ _)
 
 put-block-totals-requires : tie.Need-put-block-totals-requires Inv-loop μ-loop
 put-block-totals-requires c κs =
-    let p = c .before .before .before .pre in
+    let p = c .before .before .before .pre .0 in
     let r = room (c .before) in
     (omega (arith, p .1), p .0, omega (arith, r, p .2), record { low = λ i h. p .3 .low i (omega (arith, r)) })
 
@@ -33,10 +33,10 @@ add-at c = omega (arith, room (c .before .before))
 loop-again : tie.Need-loop-again Inv-loop μ-loop
 loop-again c =
     let t = c .before .before in
-    totalling-more _ _ _ _ _ _ _ _ _ (t .before .loop .inv) _ (t .loop-test .taken) (c .put-block-totals .ensures)
+    totalling-more _ _ _ _ _ _ _ _ (t .before .loop .inv) _ (t .before .before .pre .0 .2) (t .loop-test .taken) (c .put-block-totals .ensures)
 
 returns : tie.Need-returns Inv-loop μ-loop
-returns c = totalling-end _ _ _ _ _ _ _ _ _ (c .before .loop .inv) (c .loop-test .left)
+returns c = totalling-end _ _ _ _ _ _ _ _ (c .before .loop .inv) (c .loop-test .left)
 
 pub put-all-totals-spec : {M : Type 1} → statement M
 put-all-totals-spec = tie.close

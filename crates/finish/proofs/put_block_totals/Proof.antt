@@ -4,19 +4,19 @@ use Prim.Native.Nat.{_-_}
 use native.Mathlib.Omega.{arith}
 use borrow.Author.Needs.{needs}
 use Rattle.scheme.specs.Scheme.{sixteen}
+use Rattle.scheme.proofs.Padded.{Setting, setting-start, setting-more, setting-end}
 use Rattle.finish.specs.Parts.{block-total}
-use Rattle.finish.proofs.Turns.{Storing, storing-start, storing-more, storing-end}
 use Rattle.finish.proofs.put_block_totals.Statement.{statement}
 use Rattle.finish.proofs.put_block_totals.Tie as tie
 
 abbrev Inv-loop : tie.InvT-loop
-Inv-loop sums unknowns block at items out₀ j₀ out j = Storing (block-total sixteen sums unknowns block at) items at out₀ j out
+Inv-loop sums unknowns block at items out₀ j₀ out j = Setting (block-total sixteen sums unknowns block at) items at out₀ j out
 
 abbrev μ-loop : tie.MeasureT-loop
 μ-loop sums unknowns block at items out₀ j₀ out j = items - j
 
 loop-holds : tie.Need-loop-holds Inv-loop μ-loop
-loop-holds c = storing-start _ _ _ _
+loop-holds c = setting-start _ _ _ _
 
 total-requires : tie.Need-total-requires Inv-loop μ-loop
 total-requires c κs = c .before .before .before .before .pre .3 .low _ (omega arith)
@@ -25,10 +25,10 @@ loop-again : tie.Need-loop-again Inv-loop μ-loop
 unfolding block-total
 loop-again c =
     let l = c .before .before .before .before .loop in
-    storing-more _ _ _ _ (l .j) _ (l .out) (c .before .before .before .loop-test .taken) (c .total .ensures) (l .inv)
+    setting-more _ _ _ _ (l .j) _ (l .out) (c .before .before .before .loop-test .taken) (c .total .ensures) (l .inv)
 
 returns : tie.Need-returns Inv-loop μ-loop
-returns c = storing-end _ _ _ _ _ _ (c .loop-test .left) (c .before .loop .inv)
+returns c = setting-end _ _ _ _ _ _ (c .loop-test .left) (c .before .loop .inv)
 
 pub put-block-totals-spec : {M : Type 1} → statement M
 put-block-totals-spec =

@@ -1,12 +1,10 @@
 -- `finish::put_explained_totals` meets its contract: what explains the replies is taken off the survivors' first elements.
 -- Assumes nothing.
-use mathlib.Core.Path.{refl, sym, ap, _∙_, subst}
+use mathlib.Core.Path.{refl, sym, _∙_, subst}
 use Prim.Native.Nat.{ℕ}
 use native.Mathlib.Omega.{arith}
 use borrow.Author.Needs.{needs}
 use borrow.Author.Tests.{not-true, not-false}
-use Rattle.scheme.specs.Limits.{most-places}
-use Rattle.scheme.specs.Lists.{padded}
 use Rattle.scheme.specs.Scheme.{q, items, places}
 use Rattle.scheme.specs.Good.{Good}
 use Rattle.scheme.proofs.Refusals.{unless-held, unless-failed, after-taken, after-refused}
@@ -14,7 +12,6 @@ use Rattle.plan.specs.Plan.{plan-of}
 use Rattle.scheme.proofs.PlanBounds.{places-le}
 use Rattle.finish.specs.Parts.{First-sums}
 use Rattle.finish.proofs.Blocks.{listed-few, listed-points}
-use Rattle.finish.proofs.Padded.{sets-zeros}
 use Rattle.finish.proofs.Totalling.{totals-same}
 use Rattle.finish.proofs.put_explained_totals.Statement.{statement}
 use Rattle.finish.proofs.put_explained_totals.Tie as tie
@@ -69,8 +66,9 @@ sub-items c = let g = a-plan (listed (c .before .before)) in omega (arith, g .co
 put-all-totals-requires : tie.Need-put-all-totals-requires
 unfolding places items
 put-all-totals-requires c κs =
-    let g = a-plan (listed (summed c .before)) in
-    (omega (arith, g .threshold-high, g .users-high), g .blocks-high, places-le _ g, sums-right (summed c) .small)
+    let u = listed (summed c .before) in
+    let g = a-plan u in
+    ((omega (arith, g .threshold-high, g .users-high), g .blocks-high, places-le _ g, sums-right (summed c) .small), explained u .before .pre .2)
 
 returns-2 : tie.Need-returns-2
 unfolding places items
@@ -82,9 +80,7 @@ returns-2 c =
     let same = totals-same q _ _ _ _ _ _ _ _ (omega arith) (l .list-right) (l .count-right) (sums-right t) (e .unknowns-right) in
     record {
       number-right = sym (unless-held (sym (e .fits-right) ∙ not-false _ (u .before .before .if1 .left)) 16);
-      totals-right =
-          c .put-all-totals .ensures ∙ sets-zeros most-places _ _ (places-le _ (a-plan u)) (explained u .before .pre .2)
-          ∙ ap (padded most-places) same ∙ sym (after-taken refl _ _);
+      totals-right = c .put-all-totals .ensures ∙ same ∙ sym (after-taken refl _ _);
     }
 
 pub put-explained-totals-spec : {M : Type 1} → statement M

@@ -9,16 +9,18 @@ use lib.Count as machine
 use borrow.Author.Needs.{needs}
 use borrow.Author.Tests.{lt-leb, not-true, not-false}
 use Rattle.scheme.specs.Limits.{cells}
-use Rattle.scheme.specs.Scheme.{plan-good, ones, unless, _then_}
-use Rattle.scheme.specs.Service.{has-plan, is-replying, replied}
+use Rattle.scheme.specs.Scheme.{sixteen, plan-good, ones}
+use Rattle.scheme.specs.Service.{not-replying, replied}
 use Rattle.scheme.proofs.Good.{good}
 use Rattle.scheme.proofs.Pooling.Held.{complete-below}
+use Rattle.scheme.proofs.Refusals.{then-taken, then-stops, unless-held}
 use Rattle.plan.specs.Plan.{plan-of}
 use Rattle.plan.proofs.Laws.{ones-same}
+use Rattle.solve.specs.Solve.{laws16}
 use Rattle.service.specs.declared.Service.{Service}
 use Rattle.service.specs.Calls.{lent}
 use Rattle.service.specs.View.{phase-of, view}
-use Rattle.service.proofs.Refused.{past-phase, stopped}
+use Rattle.service.proofs.Refused.{passed as two-passed, test-refused}
 use Rattle.finish.specs.Finish.{finish-refusal}
 use Rattle.finish.proofs.Answers.{refused-right, Passed, totalled-right}
 use Rattle.finish.proofs.put_state_totals.Statement.{statement}
@@ -37,8 +39,8 @@ past-plan-test c = c .before .before .before
 abbrev state : tie.After-complete-set → Service
 state c = let a = start (past-phase-test (past-plan-test c)) .args in lent (a .head) (a .first .now) (a .reply .now)
 
-phase-right : (c : tie.Else1) → let p = phase-of (start c .args .head .phase) in (has-plan p ≡ true) × (is-replying p ≡ true)
-phase-right c = past-phase _ _ (sym (c .before .not-replying .ensures) ∙ c .if1 .left)
+phase-right : (c : tie.Else1) → not-replying (phase-of (start c .args .head .phase)) ≡ 0
+phase-right c = sym (c .before .not-replying .ensures) ∙ c .if1 .left
 
 a-plan : (c : tie.Else2) → plan-good (plan-of (start (past-phase-test c) .args .head .plan)) ≡ true
 a-plan c = sym (c .before .is-good .ensures) ∙ not-false _ (c .if2 .left)
@@ -55,21 +57,20 @@ counted c =
 passed : (c : tie.Else3) → Passed (state (c .before .before))
 passed c =
     let t = past-plan-test (c .before .before) in
-    let p = phase-right (past-phase-test t) in
-    record { planned = p .0; replying = p .1; good = a-plan t; many = omega (arith, c .if3 .left, counted (c .before .before)) }
+    record { replying = phase-right (past-phase-test t); good = a-plan t; many = omega (arith, c .if3 .left, counted (c .before .before)) }
 
 -- ---- the needs
 returns : tie.Need-returns
 unfolding finish-refusal
-returns c = refused-right _ (c .if1 .taken) (stopped _ _ _ _ (c .before .not-replying .ensures) (c .if1 .taken)) (c .before .before .pre)
+returns c =
+    refused-right sixteen laws16 _ (c .if1 .taken) (then-stops (c .before .not-replying .ensures) (c .if1 .taken) _) (c .before .before .pre)
 
 returns-2 : tie.Need-returns-2
-unfolding finish-refusal unless _then_
+unfolding finish-refusal
 returns-2 c =
     let e = c .before .before .before in
-    let p = phase-right e in
-    let h = sym (c .before .is-good .ensures) ∙ not-true _ (c .if2 .taken) in
-    refused-right _ (λ z. omega arith) (simp (p .0, p .1, h)) (start e .pre)
+    let bad = sym (c .before .is-good .ensures) ∙ not-true _ (c .if2 .taken) in
+    refused-right sixteen laws16 _ (λ z. omega arith) (test-refused bad _ _ ∙ sym (then-taken (phase-right e) _)) (start e .pre)
 
 complete-set-requires : tie.Need-complete-set-requires
 complete-set-requires c κs =
@@ -79,13 +80,14 @@ complete-set-requires c κs =
     (g .users-high, omega (arith, g .users-high), g .blocks-high, omega arith)
 
 returns-3 : tie.Need-returns-3
-unfolding finish-refusal unless _then_
+unfolding finish-refusal
 returns-3 c =
     let d = c .before .before in
     let t = past-plan-test d in
-    let p = phase-right (past-phase-test t) in
+    let e = past-phase-test t in
     let h : ones (state d .head .plan .users) (replied (view (state d))) < state d .head .plan .threshold = omega (arith, c .if3 .taken, counted d) in
-    refused-right _ (λ z. omega arith) (simp (p .0, p .1, a-plan t, lt-leb _ _ h)) (start (past-phase-test t) .pre)
+    refused-right sixteen laws16 _ (λ z. omega arith)
+    (test-refused (lt-leb _ _ h) _ _ ∙ two-passed (phase-right e) (unless-held (a-plan t) 15) _) (start e .pre)
 
 put-explained-totals-requires : tie.Need-put-explained-totals-requires
 put-explained-totals-requires c κs =
@@ -94,7 +96,7 @@ put-explained-totals-requires c κs =
     (good _ (r .good), omega (arith, r .many, ap (ones (state d .head .plan .users)) (whole d)), start (past-phase-test (past-plan-test d)) .pre)
 
 returns-4 : tie.Need-returns-4
-returns-4 c = let e = c .before .before in totalled-right _ (passed e) _ _ _ (whole (e .before .before)) (c .put-explained-totals .ensures)
+returns-4 c = let e = c .before .before in totalled-right sixteen laws16 _ (passed e) _ _ _ (whole (e .before .before)) (c .put-explained-totals .ensures)
 
 pub put-state-totals-spec : {M : Type 1} → statement M
 put-state-totals-spec =

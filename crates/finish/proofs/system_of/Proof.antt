@@ -6,10 +6,12 @@ use Prim.Native.Nat.{ℕ, _≤_}
 use native.Mathlib.Omega.{arith}
 use borrow.Author.Needs.{needs}
 use Rattle.scheme.specs.Limits.{most-users}
+use Rattle.scheme.specs.Scheme.{sixteen}
 use Rattle.scheme.specs.Good.{Good}
+use Rattle.scheme.specs.Solve.{Points, row-weights, column-weights}
+use Rattle.scheme.proofs.Solving.Closed.{points-some}
 use Rattle.plan.specs.Plan.{plan-of}
-use Rattle.solve.specs.Solve.{Points, weights-of}
-use Rattle.solve.proofs.Explains.{points-some}
+use Rattle.solve.specs.Solve.{laws16}
 use Rattle.finish.proofs.Blocks.{columns-points, rows-square}
 use Rattle.finish.proofs.system_of.Statement.{statement}
 use Rattle.finish.proofs.system_of.Tie as tie
@@ -53,12 +55,13 @@ returns c =
     let k = pointed w in
     let u = listed k in
     let n = u .before .args .plan .threshold in
+    let rows = u .users-of .ensures .list-right in
     record {
       good = u .before .pre .0;
       enough = u .before .pre .1;
       listed = u .users-of .ensures;
-      alpha-right = w .weights .ensures ∙ ap₂ (λ (a b : List ℕ). weights-of a b n) (u .users-of .ensures .list-right) (k .the-columns .ensures);
-      beta-right = c .weights2 .ensures ∙ ap₂ (λ (a b : List ℕ). weights-of a b n) (k .the-columns .ensures) (u .users-of .ensures .list-right);
+      alpha-right = w .weights .ensures .0 ∙ ap₂ (λ (a b : List ℕ). row-weights sixteen laws16 a b n) rows (k .the-columns .ensures);
+      beta-right = c .weights2 .ensures .1 ∙ ap₂ (λ (a b : List ℕ). column-weights sixteen laws16 a b n) rows (k .the-columns .ensures);
     }
 
 pub system-of-spec : {M : Type 1} → statement M
