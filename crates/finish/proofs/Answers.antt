@@ -53,7 +53,7 @@ module _ (A : Arithmetic) (L : Laws A most-users most-threshold) where
     finish-kept h = after-refused h _ _
 
     module _ (r : Passed s) where
-      pub passed-refusal : finish-refusal A L s ≡ unless (explained-by A (view s) (choice A L s)) 16
+      passed-refusal : finish-refusal A L s ≡ unless (explained-by A (view s) (choice A L s)) 16
       unfolding finish-refusal
       passed-refusal =
           then-taken (r .replying) _ ∙ then-taken (unless-held (r .good) 15) _ ∙ then-taken (unless-held (le-leb _ _ (r .many)) 15) _
