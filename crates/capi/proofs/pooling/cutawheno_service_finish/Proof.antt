@@ -22,7 +22,7 @@ returns c =
     let x = c .before .before in
     let e = rw (x .before .before .before .head-at .ensures) at (x .finish-lent .ensures) in
     let n = ap (λ (t : Finished). t .number) e in
-    let h = kept-right _ _ n (c .if1 .taken) (ap (λ (t : Finished). t .service) e) (finish-kept _ (λ z. c .if1 .taken (n ∙ z))) in
+    let h = kept-right _ _ n (c .if1 .taken) (ap (λ (t : Finished). t .service) e) (finish-kept _ _ _ (λ z. c .if1 .taken (n ∙ z))) in
     (h .0, (h .1, sym (after-refused (λ z. c .if1 .taken (n ∙ z)) _ _)))
 
 numbers-requires : tie.Need-numbers-requires
