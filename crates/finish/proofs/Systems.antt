@@ -1,4 +1,5 @@
 -- All blocks, as the code solves them, over an arithmetic with its laws.
+--   elements-every                                              a list whose numbers are all elements
 --   same-test, all-swap                                         two tests of which each gives the other; a test of every pair
 --   reply-cell, grid-elements                                   the grid of the replies: one of them; where they are elements
 --   system-few, system-many, system-points, system-ready        the system of the complete replies
