@@ -15,11 +15,13 @@ use Rattle.scheme.specs.Promise.{admissible}
 use Rattle.scheme.specs.Totals.{Follows}
 use Rattle.scheme.specs.Service.{replied, values}
 use Rattle.scheme.proofs.Lists.{map-span-length}
+use Rattle.scheme.proofs.Modular.{sixteen-sums}
 use Rattle.scheme.proofs.Pooling.Well.{Finishing, finishing, replied-survives}
 use Rattle.plan.specs.declared.Plan.{Plan}
 use Rattle.plan.specs.Plan.{plan-of}
 use Rattle.client.proofs.Shown.{Ready, message-is-sent, part-is-sent}
 use Rattle.scheme.proofs.Padded.{padded-take}
+use Rattle.solve.specs.Solve.{laws16}
 use Rattle.service.specs.View.{view}
 use Rattle.finish.specs.Promise.{Finish-right}
 use Rattle.finish.proofs.Steps.{finish-right}
@@ -32,7 +34,7 @@ first-places size n t =
 pub round-right : Round-right
 unfolding Round-right Finish-right admissible view
 round-right s xs x ko o w e ok rows room held =
-    let done = finish-right s xs x w e ok rows rules in
+    let done = finish-right sixteen laws16 s xs x w e ok rows rules in
     (done .0, ap (take (places q)) (done .1) ∙ first-places most-places (places q) (total-at sixteen q x v))
   where
     p : Plan
@@ -50,7 +52,7 @@ round-right s xs x ko o w e ok rows room held =
     good : plan-good q ≡ true
     good = w .well .good (f .planned)
 
-    ready : (k : ℕ) → 1 ≤ k → k ≤ p .users → Ready p xs k (x k) (ko k) (o k)
+    ready : (k : ℕ) → 1 ≤ k → k ≤ p .users → Ready sixteen p xs k (x k) (ko k) (o k)
     ready k lo hi = record { good-plan = good; good-list = ok; user = (lo, hi); figures = rows k lo hi; room = room k lo hi }
 
     survives : (k : ℕ) → 1 ≤ k → k ≤ p .users → in-set (replied (view s)) k ≡ true → in-set v k ≡ true
@@ -60,9 +62,9 @@ round-right s xs x ko o w e ok rows room held =
     rules =
         record {
           first = λ k i lo hi m h.
-              held .first k i lo hi m h ∙ ap (λ (l : List ℕ). getD l i 0) (message-is-sent p xs v k (x k) (ko k) (o k) (ready k lo hi));
+              held .first k i lo hi m h ∙ ap (λ (l : List ℕ). getD l i 0) (message-is-sent sixteen sixteen-sums p xs v k (x k) (ko k) (o k) (ready k lo hi));
           survives = survives;
           answer = λ k b lo hi m h.
-              let part = part-is-sent p xs v k (x k) (ko k) (o k) (ready k lo hi) (w .well .survive (f .replying)) (survives k lo hi m) in
+              let part = part-is-sent sixteen sixteen-sums p xs v k (x k) (ko k) (o k) (ready k lo hi) (w .well .survive (f .replying)) (survives k lo hi m) in
               held .answer k b lo hi m h ∙ ap (λ (l : List ℕ). getD l b 0) part;
         }

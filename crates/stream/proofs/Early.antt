@@ -5,12 +5,14 @@ use mathlib.Core.Path.{_≡_, refl, sym, ap, _∙_}
 use mathlib.Core.Logic.{_≢_}
 use mathlib.Core.List.{List}
 use Prim.Native.Nat.{ℕ}
+use Rattle.scheme.specs.Scheme.{sixteen}
 use Rattle.scheme.specs.Service.{Record, plan-record, open-record, first-record, close-record, reply-record, finish-record, refused}
-use Rattle.scheme.proofs.Refusals.{then-refused, after-refused}
+use Rattle.scheme.proofs.Refusals.{then-refused, then-stops, after-refused}
+use Rattle.solve.specs.Solve.{laws16}
 use Rattle.service.specs.declared.Service.{Service}
 use Rattle.service.specs.declared.Closed.{Closed}
 use Rattle.service.specs.Calls.{plan-step, plan-refusal, open-step, close-refusal}
-use Rattle.service.proofs.Refused.{stopped, close-refused}
+use Rattle.service.proofs.Refused.{close-refused}
 use Rattle.finish.specs.declared.Finished.{Finished}
 use Rattle.finish.specs.Finish.{finish-refusal}
 use Rattle.finish.proofs.Answers.{finish-refuses}
@@ -29,12 +31,12 @@ early-says s (plan-record p) h =
 early-says s (open-record r) h = (told-refused h _, after-refused h _ s)
 early-says s (first-record k i x) h = absurd (h refl)
 early-says s close-record h =
-    let e = close-refused s h (stopped _ _ _ _ refl h) in
+    let e = close-refused s h (then-stops refl h _) in
     let n = ap (λ (c : Closed). c .number) e in
     (told-refused (λ z. h (n ∙ z)) _ ∙ ap refused (sym n), sym (ap (λ (c : Closed). c .service) e))
 early-says s (reply-record k b x) h = absurd (h refl)
 early-says s finish-record h =
-    let e = finish-refuses s h (stopped _ _ _ _ refl h) in
+    let e = finish-refuses sixteen laws16 s h (sym (then-stops refl h _)) in
     let n = ap (λ (f : Finished). f .number) e in
     (told-refused (λ z. h (n ∙ z)) _ ∙ ap refused (sym n), sym (ap (λ (f : Finished). f .service) e))
 

@@ -13,6 +13,7 @@ use borrow.Author.Tests.{eq-eqb, ne-eqb, ltb-true, lt-ltb, le-leb, lt-leb, leb-f
 use Rattle.scheme.specs.Scheme.{sixteen}
 use Rattle.scheme.specs.Service.{plan-record, open-record, first-record, close-record, reply-record, finish-record, refused, done, more}
 use Rattle.scheme.proofs.Tests.{holds, is-false}
+use Rattle.solve.specs.Solve.{laws16}
 use Rattle.service.specs.declared.Service.{Service}
 use Rattle.service.specs.View.{view, Formed}
 use Rattle.service.specs.Promise.{Plan-steps, Open-steps, First-steps, Reply-steps, Close-steps}
@@ -33,12 +34,12 @@ use Rattle.stream.proofs.Feeding.{Ready, ready, said, behind, Along, al
 
 pub step-right : Step-right
 unfolding Step-right step Plan-steps Open-steps First-steps Reply-steps Close-steps Finish-steps
-step-right s (plan-record p) w = plan-steps s (plan-from p) w
-step-right s (open-record r) w = open-steps s r w
-step-right s (first-record k i x) w = first-steps s k i x w
-step-right s close-record w = close-steps s w
-step-right s (reply-record k b x) w = reply-steps s k b x w
-step-right s finish-record w = finish-steps s w
+step-right s (plan-record p) w = plan-steps sixteen s (plan-from p) w
+step-right s (open-record r) w = open-steps sixteen s r w
+step-right s (first-record k i x) w = first-steps sixteen s k i x w
+step-right s close-record w = close-steps sixteen s w
+step-right s (reply-record k b x) w = reply-steps sixteen s k b x w
+step-right s finish-record w = finish-steps sixteen laws16 s w
 
 pub answers-run : Answers-run
 unfolding Answers-run Step-right records-of answers-of all-taken last-state answers
@@ -102,7 +103,7 @@ module _ (s : Service) (b : List ℕ) (o n : ℕ) where
         fits = h;
         whole = g .whole;
         state = g .state;
-        formed = λ f. subst Formed sixteen (sym (g .state)) (answers-run s (items o (take at b)) f (g .whole) .formed);
+        formed = λ f. subst (Formed sixteen) (sym (g .state)) (answers-run s (items o (take at b)) f (g .whole) .formed);
         written = g .written;
         same = λ rest.
             ap (λ (l : List ℕ). lines s o (l ++ rest)) (sym (take-append-drop at b)) ∙ ap (lines s o) (append-assoc (take at b) (drop at b) rest)
@@ -137,7 +138,7 @@ fed-right s b o n = pick (decLe (2 ^ 64) (o + length b))
 -- ---- a new round; refusal 7
 pub opens-as-new : Opens-as-new
 unfolding Opens-as-new service.Opens-as-new
-opens-as-new s r o b w e = ap (λ t. lines (t .service) o b) (calls.opens-as-new s r w e)
+opens-as-new s r o b w e = ap (λ t. lines (t .service) o b) (calls.opens-as-new sixteen s r w e)
 
 broken-line : (s : Service) (o : ℕ) (c : List ℕ) → breaks-off c ≡ true → lines s o c ≡ line o (refused 7)
 unfolding breaks-off

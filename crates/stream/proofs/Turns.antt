@@ -17,13 +17,13 @@ use lib.ListN.{length, getD, take, length-append}
 use borrow.Author.Tests.{ne-eqb}
 use Rattle.scheme.specs.Limits.{most-places}
 use Rattle.scheme.specs.Lists.{span, padded}
-use Rattle.scheme.specs.Scheme.{sixteen, Plan, places, plan-good}
+use Rattle.scheme.specs.Scheme.{sixteen, Plan, places, after}
 use Rattle.scheme.specs.Good.{Good}
 use Rattle.scheme.specs.Totals.{total-of, totals}
 use Rattle.scheme.specs.Service.{Record, plan-record, open-record, first-record, close-record, reply-record, finish-record, Answer, silent, planned, opened, closed, totalled, refused, totals-by}
 use Rattle.scheme.proofs.Good.{good}
 use Rattle.scheme.proofs.Lists.{map-span-length, span-length}
-use Rattle.scheme.proofs.Refusals.{then-zero, unless-zero}
+use Rattle.scheme.proofs.Refusals.{then-zero, unless-zero, after-taken, after-refused}
 use Rattle.solve.specs.Solve.{laws16}
 use Rattle.plan.specs.Plan.{plan-of}
 use Rattle.scheme.proofs.PlanBounds.{places-le}
@@ -33,7 +33,6 @@ use Rattle.service.specs.Calls.{lent, first-refusal, first-left, first-step, re
 use Rattle.service.specs.View.{view}
 use Rattle.service.specs.Promise.{told}
 use Rattle.finish.specs.Finish.{choice, finish-refusal, finish-answer, finish-step}
-use Rattle.finish.proofs.Answers.{answer-number}
 use Rattle.scheme.proofs.Padded.{padded-take}
 use Rattle.lines.specs.Text.{decimal, numbers, line}
 use Rattle.lines.specs.Put.{number-room, room, Put}
@@ -44,12 +43,11 @@ use Rattle.stream.specs.Stream.{two-bytes, four-bytes, plan-at, record-a
 -- ---- what a number answers
 pub told-taken : {n : ℕ} → n ≡ 0 → (a : Answer) → told n a ≡ a
 unfolding told
-told-taken e a = ap (λ (n : ℕ). told n a) e
+told-taken e a = after-taken e a _
 
 pub told-refused : {n : ℕ} → (n ≡ 0 → ⊥) → (a : Answer) → told n a ≡ refused n
 unfolding told
-told-refused {n = zero} h a = absurd (h refl)
-told-refused {n = suc n} h a = refl
+told-refused h a = after-refused h a _
 
 -- one record that was refused, and one that was taken
 turn-by : {s : Service} {r : Record} {o : ℕ} {out out′ : List ℕ} {wrote next : ℕ} {x : Outcome} → x ≡ step s r
@@ -116,12 +114,8 @@ module _ (b : List ℕ) (at : ℕ) {h : Head} {held held′ : List ℕ} {o k i x
 
 -- ---- a finish
 pub finish-good : (s : Service) → finish-step sixteen laws16 s .number ≡ 0 → Good (plan-of (s .head .plan))
-unfolding finish-step finish-refusal
-finish-good s e =
-    let a = then-zero _ _ (sym (answer-number (finish-refusal sixteen laws16 s) s) ∙ e) in
-    let b = then-zero _ _ (a .1) in
-    let c = then-zero _ _ (b .1) in
-    good _ (unless-zero (plan-good (plan-of (s .head .plan))) 14 (c .0))
+unfolding finish-step finish-answer finish-refusal
+finish-good s e = good _ (unless-zero _ _ (then-zero _ _ (then-zero _ _ e .1) .0))
 
 -- ---- every line fits into the room for one
 numbers-short : (l : List ℕ) → length (numbers l) ≤ number-room * length l
@@ -140,7 +134,7 @@ module _ (d : ℕ) (some : 1 ≤ d) (f : ℕ → ℕ) (small : (i : ℕ) → f i
 -- the totals of an accepted finish
 given : (s : Service) (n : ℕ) → finish-answer sixteen laws16 n s .number ≡ 0
     → take (places (plan-of (s .head .plan))) (finish-answer sixteen laws16 n s .totals) ≡ totals-by sixteen (view s) (choice sixteen laws16 s)
-unfolding finish-answer totals-by totals view
+unfolding finish-answer totals-by totals view after
 given s zero e =
     let ts = totals-by sixteen (view s) (choice sixteen laws16 s) in
     subst (λ (n : ℕ). take n (padded most-places ts) ≡ ts) (map-span-length _ (places (plan-of (s .head .plan))) 0) (padded-take most-places ts)
@@ -152,7 +146,7 @@ module _ (o : ℕ) where
   refused-short n = simp length-append (omega (arith, numbers-short (n ∷ []), numbers-short (o ∷ [])))
 
   told-short : (n : ℕ) (a : Answer) → (n ≡ 0 → length (line o a) ≤ room) → length (line o (told n a)) ≤ room
-  unfolding told
+  unfolding told after
   told-short zero a h = h refl
   told-short (suc n) a h = refused-short (suc n)
 

@@ -22,8 +22,8 @@ use lib.Dec.{ltb, leb, eqb}
 use lib.ListN.{length, getD, take, drop}
 use lib.Seq.{sets}
 use Rattle.scheme.specs.Scheme as scheme
-use Rattle.scheme.specs.Scheme.{sixteen, places, unless, _then_}
-use Rattle.scheme.specs.Service.{has-plan, is-gathering, is-replying, Record, plan-record, open-record, first-record, close-record, reply-record, finish-record, Answer, silent, planned, opened, closed, totalled, refused}
+use Rattle.scheme.specs.Scheme.{sixteen, places}
+use Rattle.scheme.specs.Service.{second-plan, not-gathering, not-replying, Record, plan-record, open-record, first-record, close-record, reply-record, finish-record, Answer, silent, planned, opened, closed, totalled, refused}
 use Rattle.solve.specs.Solve.{laws16}
 use Rattle.plan.specs.declared.Plan.{Plan}
 use Rattle.plan.specs.Plan.{plan-of}
@@ -160,12 +160,12 @@ fed s b o n = cond (leb (2 ^ 64) (o + length b)) (halt s 0 0 Far) (fed-from (len
 
 -- the refusal of a record as far as the head of the state alone decides it; elements have their own calls
 unfoldable pub early-refusal : Head → Record → ℕ
-early-refusal h (plan-record p) = unless (not (has-plan (phase-of (h .phase)))) 11
+early-refusal h (plan-record p) = second-plan (phase-of (h .phase))
 early-refusal h (open-record r) = open-refusal h r
 early-refusal h (first-record k i x) = 0
-early-refusal h close-record = unless (has-plan (phase-of (h .phase))) 11 then unless (is-gathering (phase-of (h .phase))) 12
+early-refusal h close-record = not-gathering (phase-of (h .phase))
 early-refusal h (reply-record k b x) = 0
-early-refusal h finish-record = unless (has-plan (phase-of (h .phase))) 11 then unless (is-replying (phase-of (h .phase))) 12
+early-refusal h finish-record = not-replying (phase-of (h .phase))
 
 -- one record, at an offset: the state before and after it, and its line written behind what was written before
 pub record Turns (r : Record) (o : ℕ) (s t : Service) (out out-now : List ℕ) (wrote next : ℕ) : Type 0 where
