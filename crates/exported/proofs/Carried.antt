@@ -16,7 +16,8 @@ use borrow.Author.Tests.{eqb-true}
 use Rattle.scheme.specs.Scheme.{Arithmetic, sixteen}
 use Rattle.scheme.specs.Service.{Phase, unplanned, idle, gathering, replying, is-gathering, is-replying, State, nothing, is-held, element-of, with-element, gathered, Record, plan-record, open-record, first-record, close-record, reply-record, finish-record, Answer, refusal, planned-state, opened-state, idle-state, next-state, Steps, refuses, accepts, totals-up, disagrees}
 use Rattle.scheme.proofs.Tests.{both, holds}
-use Rattle.scheme.proofs.Pooling.Well.{test-held}
+use Rattle.scheme.proofs.Refusals.{then-zero}
+use Rattle.scheme.proofs.Pooling.Well.{gathers}
 use Rattle.service.specs.View.{view, Formed}
 use Rattle.capi.specs.Lent.{Arrays, state}
 use Rattle.exported.specs.Runs.{Call, number-of, leaves, run}
@@ -55,7 +56,7 @@ module _ (A : Arithmetic) (k : ℕ) (f : List ℕ) where
 
   pub steps-first : (r : Record) (s t : State) (a : Answer) → Steps A r s a t → First-of k f r → Carried k f (s .firsts) → Carried k f (t .firsts)
   unfolding idle-state
-  steps-first _ _ _ _ (refuses r s n e) h c = c
+  steps-first _ _ _ _ (refuses r s e) h c = c
   steps-first _ _ _ _ (accepts r s g e) h c = next-first r s h c
   steps-first _ _ _ _ (totals-up s g e x) h c = nothing-carried k f
   steps-first _ _ _ _ (disagrees s e x) h c = c
@@ -71,7 +72,7 @@ module _ (A : Arithmetic) (k : ℕ) (f : List ℕ) where
 
   pub steps-reply : (r : Record) (s t : State) (a : Answer) → Steps A r s a t → Reply-of k f r → Carried k f (s .replies) → Carried k f (t .replies)
   unfolding idle-state
-  steps-reply _ _ _ _ (refuses r s n e) h c = c
+  steps-reply _ _ _ _ (refuses r s e) h c = c
   steps-reply _ _ _ _ (accepts r s g e) h c = next-reply r s h c
   steps-reply _ _ _ _ (totals-up s g e x) h c = nothing-carried k f
   steps-reply _ _ _ _ (disagrees s e x) h c = c
@@ -92,14 +93,14 @@ module _ (A : Arithmetic) where
   unfolding Survived refusal next-state planned-state opened-state idle-state is-replying gathered
   next-survived (plan-record p) s e w h = absurd (holds h)
   next-survived (open-record r) s e w h = absurd (holds h)
-  next-survived (first-record l i x) s e w h = absurd (one-phase (s .phase) (test-held _ _ _ (test-held _ _ _ e .1) .0) h)
+  next-survived (first-record l i x) s e w h = absurd (one-phase (s .phase) (gathers _ (then-zero _ _ e .0) .1) h)
   next-survived close-record s e w h = refl
   next-survived (reply-record l b x) s e w h = w h
   next-survived finish-record s e w h = absurd (holds h)
 
   pub steps-survived : (r : Record) (s t : State) (a : Answer) → Steps A r s a t → Survived s → Survived t
   unfolding Survived idle-state is-replying
-  steps-survived _ _ _ _ (refuses r s n e) w = w
+  steps-survived _ _ _ _ (refuses r s e) w = w
   steps-survived _ _ _ _ (accepts r s g e) w = next-survived r s e w
   steps-survived _ _ _ _ (totals-up s g e x) w = λ h. absurd (holds h)
   steps-survived _ _ _ _ (disagrees s e x) w = w

@@ -15,9 +15,9 @@ use Rattle.scheme.specs.Limits.{most-places}
 use Rattle.scheme.specs.Lists.{padded}
 use Rattle.scheme.specs.Scheme.{sixteen, plan-good, places, in-set, ones, unless, _then_, after}
 use Rattle.scheme.specs.Totals.{total-of, totals}
-use Rattle.scheme.specs.Service.{has-plan, is-replying, State, gathered, replied, values, totals-by, Record, open-record, finish-record, Answer, refusal, opened-state, next-state, Steps}
+use Rattle.scheme.specs.Service.{has-plan, is-replying, plan-missing, not-replying, State, gathered, replied, values, totals-by, Record, open-record, finish-record, Answer, refusal, opened-state, next-state, Steps}
 use Rattle.scheme.proofs.Tests.{holds}
-use Rattle.scheme.proofs.Refusals.{after-taken}
+use Rattle.scheme.proofs.Refusals.{then-assoc, after-taken}
 use Rattle.scheme.proofs.Pooling.Held.{complete-held}
 use Rattle.solve.specs.Solve.{laws16}
 use Rattle.plan.specs.Plan.{plan-of}
@@ -28,7 +28,6 @@ use Rattle.service.specs.View.{phase-of, view, Formed}
 use Rattle.service.specs.Calls.{opened, open-step}
 use Rattle.service.proofs.Same.{opened-view}
 use Rattle.finish.specs.Finish.{choice, finish-refusal, finish-answer, finish-step}
-use Rattle.finish.proofs.Answers.{answer-number}
 use Rattle.capi.specs.Lent.{Arrays, zeros, state, finish-totals}
 use Rattle.capi.proofs.Stands.{calls-stand}
 use Rattle.round.specs.Round as round
@@ -51,10 +50,10 @@ record Finishes (s : Service) : Type 0 where
   replying : is-replying (view s .phase) ≡ true
   untested : refusal sixteen finish-record (view s) ≡ 0
 
-finishes : (s : Service) → finish-step sixteen laws16 s .number ≢ 11 → finish-step sixteen laws16 s .number ≢ 12 → finish-step sixteen laws16 s .number ≢ 15 → Finishes s
-unfolding finish-step finish-refusal refusal view unless _then_
+finishes : (s : Service) → let n = finish-step sixteen laws16 s .number in n ≢ 11 → n ≢ 12 → n ≢ 15 → Finishes s
+unfolding finish-step finish-answer finish-refusal refusal not-replying plan-missing view unless _then_
 finishes s n11 n12 n15 =
-    let e = answer-number (finish-refusal sixteen laws16 s) s in
+    let e = then-assoc (unless (has-plan (phase-of (s .head .phase))) 11) (unless (is-replying (phase-of (s .head .phase))) 12) _ in
     let a = passes (has-plan (phase-of (s .head .phase))) 11 _ (omega arith) (λ z. n11 (e ∙ z)) in
     let b = passes (is-replying (phase-of (s .head .phase))) 12 _ (omega arith) (λ z. n12 (e ∙ a .1 ∙ z)) in
     let c = passes (plan-good (plan-of (s .head .plan))) 15 _ (omega arith) (λ z. n15 (e ∙ a .1 ∙ b .1 ∙ z)) in
@@ -65,7 +64,7 @@ finishes s n11 n12 n15 =
 -- the totals that a taken finish gives are its first L places, and 0 behind them
 totals-padded : (s : Service) (n : ℕ) → finish-answer sixteen laws16 n s .number ≡ 0 → let ts = finish-answer sixteen laws16 n s .totals in
     ts ≡ padded most-places (take (places (plan-of (s .head .plan))) ts)
-unfolding finish-answer totals-by totals view
+unfolding finish-answer totals-by totals view after
 totals-padded s zero z =
     let t = total-of sixteen (plan-of (s .head .plan)) (s .head .survivors) (values (view s .firsts)) (choice sixteen laws16 s) in
     sym (ap (padded most-places) (round-proved.first-places most-places (places (plan-of (s .head .plan))) t))

@@ -22,7 +22,7 @@ use Rattle.exported.specs.Shown.{end-calls, calls, Same-given, Shown-is-
 -- from the array that start leaves
 end-given : (n : ℕ) (p : Plan) (k : ℕ) (e ks fs : List ℕ) (v : ℕ) (o : List ℕ) → let b = begun-with n p k in
     end-calls (b .number) (after (b .number) (end-numbers (fresh-end p k)) e) ks fs v o ≡ client-calls sixteen (b .client) ks fs v o
-unfolding begun-with after end-calls client-calls end-numbers end-at code-stage stage-of stage-number stage-of-number Ends-stand Part-is-reply
+unfolding after end-calls client-calls end-numbers end-at code-stage stage-of stage-number stage-of-number Ends-stand Part-is-reply
 end-given zero p k e ks fs v o =
     let same = ends-stand (end-numbers (fresh-end p k)) refl .first-stands ks fs (length o) in
     λ i.
