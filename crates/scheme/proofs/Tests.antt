@@ -3,12 +3,13 @@
 --   and-true, and-false       `&&` with a test that is settled
 --   not-not                   `not` twice
 --   is-false                  a test by what it would say
---   past                      a number from k on that is not k: the arms of a match, one after the other
+--   Past, last-arm            not one of the first k numbers: of those up to k, the last; so for what a match leaves behind its arms 0, 1, ..
 --   none-below                no number is below 0
 -- Assumes nothing.
 use mathlib.Core.Path.{_≡_, refl, sym, ap₂, subst}
 use mathlib.Core.Bool.{Bool, true, false, _&&_, not}
-use Prim.Native.Nat.{ℕ, _+_, _≤_, _<_}
+use Prim.Native.Nat.{ℕ, zero, suc, _≤_, _<_}
+use native.Mathlib.Nat.{le-antisymm}
 use native.Mathlib.Omega.{arith}
 use lib.Dec.{T}
 
@@ -38,8 +39,16 @@ pub not-not : (b : Bool) → not (not b) ≡ b
 not-not true = refl
 not-not false = refl
 
-pub past : (k n : ℕ) → k ≤ n → (n ≡ k → ⊥) → k + 1 ≤ n
-past k n l d = omega (arith, d)
+abbrev pub Past : (k n : ℕ) → Type 0
+Past zero n = Unit {0}
+Past (suc k) n = Past k n × (n ≡ k → ⊥)
+
+past : (k n : ℕ) → Past k n → k ≤ n
+past zero n h = omega arith
+past (suc k) n h = let l = past k n (h .0) in omega (arith, h .1)
+
+pub last-arm : (k n : ℕ) → Past k n → n ≤ k → n ≡ k
+last-arm k n h l = le-antisymm l (past k n h)
 
 pub none-below : (i : ℕ) → i < 0 → ⊥
 none-below i h = omega arith

@@ -32,7 +32,7 @@ fn gap_between(x: u32, y: u32) -> u16
     gap_entry(MOST_THRESHOLD + x - y)
 }
 
-// 1 / (d - 7) for d from 0 to 14, and 1 at 7; by arms, as the inverses of `element`.
+// 1 / (d - MOST_THRESHOLD), and 1 where d is that; by arms, as the inverses of `element`.
 fn gap_entry(d: u32) -> u16
     requires { ⌜ d < most-users + most-threshold ⌝ }
     ensures { λ r. ⌜ r ≡ gap-entry q d ⌝ }
