@@ -82,7 +82,7 @@ impl Report {
         for (users, [ours, rust]) in &self.growth {
             line(&format!("| {users} | {ours:.0} | {rust:.0} | {:.2} |", ours / rust));
         }
-        line("\nOf the proofs one goes through all sets: that the keys of all users are of one length is computed (`computed` in `plan/proofs/Counts.antt`), as are the entries of the two tables of counts in `plan/src/lib.rt`. Its time about doubles with each airfield, as the number of sets does. The table of inverses has an entry for each sum up to K + U, and the examples have plans of their own; all other proofs are arguments for every plan, and their time does not depend on K. Seconds of processor time of `rt check` on that computation alone, for at most K airfields, all loading included:\n");
+        line("\nOf the proofs two go through all sets: the table of counts in `plan/src/lib.rt` is computed and compared entry by entry, and that no plan has longer lists is computed from such counts (`exported/proofs/Longest.antt`). Their time about doubles with each airfield, as the number of sets does. The tables of inverses and of gaps have an entry for each sum and difference of points, and the examples have plans of their own; all other proofs are arguments for every plan, and their time does not depend on K. Seconds of processor time of `rt check` on the table alone, for at most K airfields, all loading included:\n");
         line("| K | seconds |\n|---|---|");
         for (users, seconds) in &self.proofs {
             line(&format!("| {users} | {seconds:.1} |"));

@@ -1,4 +1,2 @@
--- Promise: what the key maker leaves, beside scheme's specs/Scheme.antt. The functions behind it also cite scheme's specs/KeyParts.antt
--- and Width.
+-- Promise: what the key maker leaves, beside scheme's specs/Scheme.antt. The functions behind it also cite scheme's specs/KeyParts.antt.
 pub mod Promise
-pub mod Width

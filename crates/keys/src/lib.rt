@@ -23,7 +23,7 @@ ghost use Rattle.scheme.specs.Scheme.{q, sixteen, places, sets-with, mask, shar
 ghost use Rattle.scheme.specs.KeyParts.{Key-input, Coefficients, block-values, Products, shares-from, Row-added, Unreduced-weight, Unreduced-sums};
 ghost use Rattle.plan.specs.Plan.{plan-of};
 ghost use Rattle.keys.specs.Promise.{key-left};
-ghost use Rattle.keys.specs.Width.{most-number, most-product};
+ghost use Rattle.element.specs.Fold.{most-word, most-product};
 use element::Q;
 use element::all_elements;
 use element::coefficient;
@@ -259,7 +259,7 @@ fn reduced(a: u32, b: u64) -> u16
 // "The sums over V", of products.
 fn sum_rows(products: &[u16; CELLS], set: u32, users: u32) -> [u32; BLOCKS]
     requires { ⌜ users ≤ most-users ⌝ }
-    ensures { λ r. ⌜ Unreduced-sums q most-number (now (products .entry)) set users r ⌝ }
+    ensures { λ r. ⌜ Unreduced-sums q most-word (now (products .entry)) set users r ⌝ }
 {
     let mut sums = no_sums();
     let mut from = 0;
@@ -277,8 +277,8 @@ fn sum_rows(products: &[u16; CELLS], set: u32, users: u32) -> [u32; BLOCKS]
 // Adds a row of products, from `from` on, to the sums, which have room for one more.
 fn add_row(sums: &mut [u32; BLOCKS], products: &[u16; CELLS], from: usize)
     requires { ⌜ (from + most-blocks ≤ cells) × (length (now sums) ≡ most-blocks) ⌝ }
-    requires { ⌜ ((b : ℕ) → b < most-blocks → getD (now sums) b 0 ≤ most-threshold * most-number) ⌝ }
-    ensures { λ r. ⌜ Row-added most-number (now (products .entry)) from most-blocks (now (sums .entry)) (now (sums .exit)) ⌝ }
+    requires { ⌜ ((b : ℕ) → b < most-blocks → getD (now sums) b 0 ≤ most-threshold * most-word) ⌝ }
+    ensures { λ r. ⌜ Row-added most-word (now (products .entry)) from most-blocks (now (sums .entry)) (now (sums .exit)) ⌝ }
 {
     let mut i = 0;
     while i < BLOCKS {
@@ -288,7 +288,7 @@ fn add_row(sums: &mut [u32; BLOCKS], products: &[u16; CELLS], from: usize)
 }
 
 fn widened(a: u16) -> u32
-    ensures { λ r. ⌜ (r ≡ a) × (r ≤ most-number) ⌝ }
+    ensures { λ r. ⌜ (r ≡ a) × (r ≤ most-word) ⌝ }
 {
     a as u32
 }

@@ -1,5 +1,5 @@
 -- Demand 3 as a type: the bytes that the server and at most T colluders see say nothing of the figures beyond the total.
--- `demand-3` of proofs/Modular.antt proves it.
+-- `demand-3` of proofs/Privacy/Demand.antt proves it.
 --   Table, admissible, list-good   tables of figures; random lists
 --   Shown, shown                   what a random list and a table show
 --   Alike                          tables that agree for each colluder and have the same survivors' total

@@ -1,17 +1,11 @@
 -- What the 16-bit solver adds to Solve of crate scheme.
---   laws16        the field of 65521 elements, for all plans
---   most-folded   what a folded product is at most
+--   laws16   the field of 65521 elements, for all plans
 -- Assumes nothing: these are definitions.
-use Prim.Native.Nat.{ℕ}
 use lib.Dec.{lit<}
 use Rattle.scheme.specs.Limits.{most-users, most-threshold}
 use Rattle.scheme.specs.Scheme.{sixteen}
 use Rattle.scheme.specs.Laws.{Laws}
 use Rattle.scheme.specs.Modular.{sixteen-field}
-use Rattle.element.specs.Fold as element
 
 abbrev pub laws16 : Laws sixteen most-users most-threshold
 laws16 = sixteen-field most-users most-threshold (lit< tt)
-
-abbrev pub most-folded : ℕ
-most-folded = element.most-folded

@@ -7,12 +7,12 @@ use borrow.Author.Needs.{needs}
 use Rattle.scheme.specs.Limits.{most-blocks}
 use Rattle.scheme.specs.KeyParts.{Row-added}
 use Rattle.scheme.proofs.Making.Sums.{added-start, added-more, added-long, added-rest}
-use Rattle.keys.specs.Width.{most-number}
+use Rattle.element.specs.Fold.{most-word}
 use Rattle.keys.proofs.add_row.Statement.{statement}
 use Rattle.keys.proofs.add_row.Tie as tie
 
 abbrev Inv-loop : tie.InvT-loop
-Inv-loop sums₀ products from i₀ sums i = (i ≤ most-blocks) × Row-added most-number products from i sums₀ sums
+Inv-loop sums₀ products from i₀ sums i = (i ≤ most-blocks) × Row-added most-word products from i sums₀ sums
 
 abbrev μ-loop : tie.MeasureT-loop
 μ-loop sums₀ products from i₀ sums i = most-blocks - i

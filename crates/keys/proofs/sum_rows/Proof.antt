@@ -9,13 +9,13 @@ use Rattle.scheme.specs.Scheme.{q}
 use Rattle.scheme.specs.KeyParts.{Unreduced-sums}
 use Rattle.scheme.proofs.Modular.{sixteen-sums}
 use Rattle.scheme.proofs.Making.Sums.{sums-start, sums-take, sums-skip}
-use Rattle.keys.specs.Width.{most-number}
+use Rattle.element.specs.Fold.{most-word}
 use Rattle.keys.proofs.sum_rows.Statement.{statement}
 use Rattle.keys.proofs.sum_rows.Tie as tie
 
 abbrev Inv-loop : tie.InvT-loop
 Inv-loop products set users sums₀ from₀ k₀ sums from k =
-    (k ≤ users) × (from ≡ k * most-blocks) × Unreduced-sums q most-number products set k sums
+    (k ≤ users) × (from ≡ k * most-blocks) × Unreduced-sums q most-word products set k sums
 
 abbrev μ-loop : tie.MeasureT-loop
 μ-loop products set users sums₀ from₀ k₀ sums from k = users - k

@@ -9,7 +9,7 @@ use Rattle.algebra.proofs.Primes.{prime-65521}
 use Rattle.scheme.specs.Scheme.{q}
 use Rattle.scheme.specs.Solve.{cell, Unreduced}
 use Rattle.scheme.proofs.Solving.Modular.{unreduced-both, unreduced-weighed}
-use Rattle.solve.specs.Solve.{most-folded}
+use Rattle.element.specs.Fold.{most-folded}
 use Rattle.solve.proofs.all_products.Statement.{statement}
 use Rattle.solve.proofs.all_products.Tie as tie
 

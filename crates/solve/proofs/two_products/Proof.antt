@@ -10,7 +10,7 @@ use Rattle.algebra.proofs.Primes.{prime-65521}
 use Rattle.scheme.specs.Limits.{most-blocks}
 use Rattle.scheme.specs.Scheme.{q}
 use Rattle.scheme.proofs.Solving.Modular.{unreduced-one, unreduced-both}
-use Rattle.solve.specs.Solve.{most-folded}
+use Rattle.element.specs.Fold.{most-folded}
 use Rattle.solve.proofs.two_products.Statement.{statement}
 use Rattle.solve.proofs.two_products.Tie as tie
 
