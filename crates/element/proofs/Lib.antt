@@ -1,3 +1,2 @@
--- Elements: the laws of test 3. Fold: those of remainders without a division.
-pub mod Elements
+-- Fold: the laws of remainders without a division. Those of test 3 are scheme's, proofs/Elements.antt.
 pub mod Fold

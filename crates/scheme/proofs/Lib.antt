@@ -12,6 +12,7 @@ pub mod Sums
 pub mod Sets
 pub mod PlanBounds
 pub mod Keys
+pub mod Elements
 pub mod Weighed
 pub mod Laws
 pub mod Modular

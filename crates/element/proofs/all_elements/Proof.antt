@@ -8,7 +8,7 @@ use lib.ListN.{length, drop}
 use borrow.Author.Needs.{needs}
 use Rattle.scheme.specs.Scheme.{sixteen, elements}
 use Rattle.scheme.proofs.Tests.{and-true}
-use Rattle.element.proofs.Elements.{elements-step, elements-end}
+use Rattle.scheme.proofs.Elements.{elements-step, elements-end}
 use Rattle.element.proofs.all_elements.Statement.{statement}
 use Rattle.element.proofs.all_elements.Tie as tie
 

@@ -1,4 +1,4 @@
--- `elements` of what is left of a list, one element at a time, over any arithmetic that has an element.
+-- Test 3 of document 01: `elements` of what is left of a list, one element at a time, over any arithmetic that has an element.
 --   elements-step   with the next number tested: by its excess, gathered by `|`
 --   elements-end    nothing is left
 -- Assumes nothing.
