@@ -1,6 +1,6 @@
 -- `keys::weigh` meets its contract: one number a turn (KeySums.weight-more).
-use mathlib.Core.Path.{_≡_}
-use Prim.Native.Nat.{_+_, _-_, _≤_}
+use mathlib.Core.Path.{_≡_, ap}
+use Prim.Native.Nat.{ℕ, _+_, _-_, _%_, _≤_}
 use native.Mathlib.Omega.{arith}
 use lib.ListN.{getD}
 use borrow.Author.Needs.{needs}
@@ -49,7 +49,9 @@ loop-less : tie.Need-loop-less Inv-loop μ-loop
 loop-less c = search needs
 
 loop-again : tie.Need-loop-again Inv-loop μ-loop
-loop-again c = (omega arith, weight-more sixteen-sums (c .before .before .before .before .loop .inv .1) (c .times .ensures))
+loop-again c =
+    let t = c .times .ensures in
+    (omega arith, weight-more sixteen-sums (c .before .before .before .before .loop .inv .1) (ap (λ (x : ℕ). x % q) (t .0), t .1))
 
 returns : tie.Need-returns Inv-loop μ-loop
 returns c =

@@ -1,5 +1,5 @@
 -- Totals modulo q that a loop builds up, one summand a turn, and reduces once.
---   weight-start, weight-more, weight-end    numbers times factors; reduced with a sum they are the value of a block
+--   weight-start, weight-more, weight-end    numbers times factors, each product reduced or not; with a sum they are the value of a block
 --   added-start, added-more                  a row of numbers added to sums, one place a turn
 --   added-long, added-rest, added-at         the length and the next sum stay; those so far
 --   sums-start, sums-take, sums-skip         sums over the users of a set
@@ -31,9 +31,14 @@ unfolding weighed sum
 weight-start q most cs f = record { small = omega arith; right = zero-mod q }
 
 pub weight-more : {q n m : ℕ} → Laws (modular q) n m → {most : ℕ} {cs : List ℕ} {i : ℕ} {f : ℕ → ℕ} {total x : ℕ}
-    → Unreduced-weight q most cs i f total → (x ≡ getD cs i 0 * f i) × (x ≤ most) → Unreduced-weight q most cs (i + 1) f (total + x)
-weight-more L {most} {cs} {i} {f} d h =
-    record { small = omega (arith, d .small, row-next i most); right = sym (weighed-more L cs i f ∙ rw (← d .right, mod-add-mod, ← h .0)) }
+    → Unreduced-weight q most cs i f total → (x % q ≡ getD cs i 0 * f i % q) × (x ≤ most) → Unreduced-weight q most cs (i + 1) f (total + x)
+weight-more {q} L {most} {cs} {i} {f} {total} {x} d h =
+    let y : ℕ = getD cs i 0 * f i in
+    record {
+      small = omega (arith, d .small, row-next i most);
+      right = sym (add-mod-mod total x q) ∙ ap (λ (z : ℕ). (total + z) % q) (h .0) ∙ add-mod-mod total y q
+          ∙ sym (weighed-more L cs i f ∙ rw (← d .right, mod-add-mod));
+    }
 
 pub weight-end : {q most : ℕ} (sums cs : List ℕ) (n : ℕ) (xs : List ℕ) (start from b total : ℕ) → from ≡ start + b * n
     → Unreduced-weight q most cs n (λ i. getD xs (from + i) 0) total → (getD sums b 0 + total) % q ≡ block-value (modular q) sums cs n xs start b
