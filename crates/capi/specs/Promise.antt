@@ -56,7 +56,9 @@ New-stands = state zeros ≡ new-service
 pub record Calls-stand (a : Arrays) : Type 0 where
   pub plan-stands : (p : code.Plan) → state (plan-left a p) ≡ plan-step (state a) p .service
   pub open-stands : (r : ℕ) → state (open-left a r) ≡ open-step (state a) r .service
-  pub first-stands : (k i x : ℕ) → state (arrays (a .head) (first-left sixteen (head-at (a .head)) (a .first) k i x) (a .reply)) ≡ first-step sixteen (state a) k i x .service
+  pub first-stands : (k i x : ℕ)
+      → state (arrays (a .head) (first-left sixteen (head-at (a .head)) (a .first) k i x) (a .reply)) ≡ first-step sixteen (state a) k i x .service
   pub close-stands : state (close-left a) ≡ close-step (state a) .service
-  pub reply-stands : (k b x : ℕ) → state (arrays (a .head) (a .first) (reply-left sixteen (head-at (a .head)) (a .reply) k b x)) ≡ reply-step sixteen (state a) k b x .service
+  pub reply-stands : (k b x : ℕ)
+      → state (arrays (a .head) (a .first) (reply-left sixteen (head-at (a .head)) (a .reply) k b x)) ≡ reply-step sixteen (state a) k b x .service
   pub finish-stands : state (finish-left a) ≡ finish-step sixteen laws16 (state a) .service

@@ -31,8 +31,8 @@ unfolding key-from key-of message asked tried planned opened firsts replies pool
     Scheme.is-fresh Scheme.open-to Scheme.start-refusal Scheme.key-refusal Scheme.message-refusal Scheme.reply-refusal Scheme.after
     Lists.all-of Totals.explains Totals.explains-all Totals.total-of Totals.totals
     Delta.colluders-in Delta.kept Delta.unsolved Delta.shift Delta.delta Delta.translation Delta.difference Delta.table-delta Delta.partner
-    Service.has-plan Service.is-gathering Service.is-replying Service.plan-missing Service.second-plan Service.not-gathering Service.not-replying Service.element-refusal
-    Service.is-held Service.element-of Service.set-of Service.complete-set Service.gathered
+    Service.has-plan Service.is-gathering Service.is-replying Service.plan-missing Service.second-plan Service.not-gathering Service.not-replying
+    Service.element-refusal Service.is-held Service.element-of Service.set-of Service.complete-set Service.gathered
     Service.replied Service.explained-by Service.totals-by
     Client.stage-of Client.part-of
     View.phase-of View.stored View.look View.view

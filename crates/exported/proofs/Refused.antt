@@ -1,11 +1,10 @@
 -- A refused exported call changes nothing.
 --   refused-unchanged   the statement of specs/Refused.antt
 -- Assumes nothing.
-use mathlib.Core.Path.{_≡_, ap, _∙_}
+use mathlib.Core.Path.{_≡_, ap}
 use mathlib.Core.Logic.{_≢_}
 use mathlib.Core.List.{List}
 use Prim.Native.Nat.{ℕ}
-use lib.ListN.{length}
 use Rattle.scheme.proofs.Refusals.{after-refused}
 use Rattle.client.specs.declared.Stage.the-variants.{Sent, Answered}
 use Rattle.service.specs.Calls.{first-left, reply-left}

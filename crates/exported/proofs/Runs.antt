@@ -3,10 +3,9 @@
 --   run-formed, zeros-formed    a list of calls keeps them so, and zeros are such
 --   runs-right, opens-as-new    the statements of specs/Runs.antt
 -- Assumes nothing.
-use mathlib.Core.Path.{_≡_, refl, sym, ap, _∙_, subst}
+use mathlib.Core.Path.{_≡_, sym, ap, _∙_, subst}
 use mathlib.Core.Bool.{true}
 use mathlib.Core.List.{List, [], _∷_, map}
-use Prim.Native.Nat.{ℕ, zero, suc}
 use lib.Dec.{lit<}
 use lib.ListN.{take}
 use Rattle.scheme.specs.Scheme.{sixteen, plan-good, places, after, unless, _then_}
@@ -20,7 +19,7 @@ use Rattle.service.specs.declared.Service.{Service}
 use Rattle.service.specs.View.{phase-of, view, Formed}
 use Rattle.service.specs.declared.Stepped.{Stepped}
 use Rattle.service.specs.Calls.{new-service, plan-refusal, planned, plan-step, open-refusal, open-step, first-step, reply-step}
-use Rattle.service.specs.Promise.{told, Is-step, New-formed, Plan-steps, Open-steps, First-steps, Reply-steps, Close-steps}
+use Rattle.service.specs.Promise.{Is-step, New-formed, Plan-steps, Open-steps, First-steps, Reply-steps, Close-steps}
 use Rattle.service.specs.Promise as calls
 use Rattle.service.proofs.Steps.{told-after, new-formed, plan-steps, open-steps, first-steps, reply-steps, close-steps}
 use Rattle.service.proofs.Steps as proved

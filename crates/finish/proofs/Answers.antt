@@ -1,6 +1,5 @@
 -- What finish hands back, over an arithmetic with its laws.
 --   Passed                           the tests before 16 are passed
---   answer-number                    the number that it answers
 --   refused-right                    the number and the totals of a refusal
 --   answer-right                     the number and the totals, with the state
 --   finish-refuses, finish-kept      a refused finish
@@ -30,10 +29,6 @@ pub record Passed (s : Service) : Type 0 where
   pub many : s .head .plan .threshold ≤ ones (s .head .plan .users) (replied (view s))
 
 module _ (A : Arithmetic) (L : Laws A most-users most-threshold) where
-  pub answer-number : (n : ℕ) (s : Service) → finish-answer A L n s .number ≡ n
-  unfolding finish-answer
-  answer-number n s = refl
-
   module _ (s : Service) where
     pub refused-right : {n : ℕ} {out : List ℕ} → (n ≡ 0 → ⊥) → n ≡ finish-refusal A L s → out ≡ replicate most-places 0 → Answered A L s n out
     unfolding finish-answer

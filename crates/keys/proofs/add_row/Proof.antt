@@ -60,7 +60,11 @@ loop-less : tie.Need-loop-less Inv-loop μ-loop
 loop-less c = search needs
 
 loop-again : tie.Need-loop-again Inv-loop μ-loop
-loop-again c = (omega (arith, c .before .before .before .loop-test .taken), added-more (c .before .before .before .before .loop .inv .1) _ (c .widened .ensures))
+loop-again c = (
+  omega (arith, c .before .before .before .loop-test .taken),
+  added-more (c .before .before .before .before .loop .inv .1) _
+      (c .widened .ensures),
+)
 
 returns : tie.Need-returns Inv-loop μ-loop
 returns c =

@@ -9,15 +9,14 @@ use mathlib.Core.List.{List, _++_, map}
 use Prim.Native.Nat.{ℕ, _+_, _*_, _-_, _^_, _≤_, _<_}
 use native.Mathlib.Decide.{decLe}
 use native.Mathlib.Omega.{arith}
-use lib.Dec.{eqb}
-use lib.ListN.{length, getD}
-use borrow.Author.Tests.{le-leb, lt-leb, eq-eqb, eqb-true}
+use lib.ListN.{getD}
+use borrow.Author.Tests.{le-leb, lt-leb, eq-eqb}
 use Rattle.algebra.specs.Field.{Field, sub}
 use Rattle.algebra.specs.Sums.{sum as field-sum}
 use Rattle.algebra.proofs.Field.{add-swap, add-sub, sub-is}
 use Rattle.algebra.proofs.Sums.{sum-sub}
 use Rattle.scheme.specs.Lists.{span, each}
-use Rattle.scheme.specs.Scheme.{Arithmetic, elements, Plan, items, places, in-set, ones, usable, usable-with, users-in, sets-with, list-length, mask, share, shares, key, first-message, reply, total-at}
+use Rattle.scheme.specs.Scheme.{Arithmetic, Plan, items, places, in-set, ones, usable, usable-with, users-in, sets-with, list-length, mask, share, shares, key, first-message, reply, total-at}
 use Rattle.scheme.specs.Promise.{Table, list-good, shown, Alike, Nothing-told}
 use Rattle.scheme.specs.Laws.{Laws}
 use Rattle.scheme.specs.Delta.{colluders-in, unsolved, shift, difference, table-delta, partner, back}
