@@ -267,11 +267,6 @@ fn take_other(
         (lent head (now (first .entry)) (now (reply .entry))) (lent (r .head) (now (first .exit)) (now (reply .exit)))
         (now (out .entry)) (now (out .exit)) at (r .wrote) ⌝ }
 {
-    let number = early_refusal(head, b, start);
-    if number != 0 {
-        let wrote = lines::put_refusal(out, at, number, offset);
-        return Turned { head, wrote };
-    }
     let kind = b[start];
     match kind {
         1 => take_plan(head, first, reply, plan_at(b, start), offset, out, at),
@@ -369,22 +364,26 @@ fn feed_near(start: Service, b: &[u8], offset: u64, out: &mut [u8]) -> Fed
     while ready_at(b, at, out.len() - wrote) {
         let kind = b[at];
         let here = offset + at as u64;
+        let head = state.head;
         // an element's 6 or 5 bytes are written out, so that the next record need not wait for a length that is looked up
         if kind == 3 {
-            let head = state.head;
             wrote = take_first(head, &mut state.first, b, at, here, out, wrote);
             at += 6;
         } else if kind == 5 {
-            let head = state.head;
             wrote = take_reply(head, &mut reply, b, at, here, out, wrote);
             at += 5;
         } else {
-            let head = state.head;
-            let turned = take_other(head, &mut state.first, &mut reply, b, at, here, out, wrote);
-            let next = turned.head;
-            state.head = next;
-            wrote = turned.wrote;
-            at += record_length(kind);
+            let number = early_refusal(head, b, at);
+            if number != 0 {
+                wrote = lines::put_refusal(out, wrote, number, here);
+                at += record_length(kind);
+            } else {
+                let turn = take_other(head, &mut state.first, &mut reply, b, at, here, out, wrote);
+                let next = turn.head;
+                state.head = next;
+                wrote = turn.wrote;
+                at += record_length(kind);
+            }
         }
     }
     state.reply = reply;

@@ -8,7 +8,8 @@ use native.Mathlib.Omega.{arith}
 use lib.ListN.{length}
 use borrow.Author.Needs.{needs}
 use Rattle.service.specs.Calls.{lent}
-use Rattle.stream.specs.Stream.{record-length, ready-at}
+use Rattle.stream.specs.Stream.{record-length, ready-at, Other}
+use Rattle.stream.proofs.Early.{turn-early}
 use Rattle.stream.proofs.Feeding.{Ready, ready, Going, going-start, going-more, going-end}
 use Rattle.stream.proofs.feed_near.Statement.{statement}
 use Rattle.stream.proofs.feed_near.Tie as tie
@@ -24,17 +25,33 @@ abbrev μ-loop : tie.MeasureT-loop
 abbrev Turn : Type 0
 Turn = tie.Then1 Inv-loop μ-loop
 
+-- behind the tests for an element
+abbrev no-first : tie.Else2 Inv-loop μ-loop → Turn
+no-first c = c .before .before .before
+
+abbrev no-element : tie.After-early-refusal Inv-loop μ-loop → Turn
+no-element c = no-first (c .before .before)
+
 abbrev from-first : tie.After-slice-known2 Inv-loop μ-loop → Turn
-from-first c = let turn = c .before .before in let test = turn .before .before .before .before in test .before .before
+from-first c = let test = c .before .before .before .before in test .before .before .before .before
 
 abbrev from-reply : tie.After-slice-known3 Inv-loop μ-loop → Turn
-from-reply c = let turn = c .before .before in let test = turn .before .before .before .before in test .before .before .before
+from-reply c = let test = c .before .before .before .before in no-first (test .before .before)
 
-abbrev from-other : tie.After-record-length Inv-loop μ-loop → Turn
-from-other c =
-    let turn = c .before .before .before .before in
-    let head = turn .before .before .before .before in
-    head .before .before .before .before
+abbrev early-put : tie.After-record-length Inv-loop μ-loop → tie.After-put-refusal Inv-loop μ-loop
+early-put c = c .before .before .before
+
+abbrev early-test : tie.After-record-length Inv-loop μ-loop → tie.Then4 Inv-loop μ-loop
+early-test c = early-put c .before .before
+
+abbrev from-early : tie.After-record-length Inv-loop μ-loop → Turn
+from-early c = no-element (early-test c .before)
+
+abbrev other-taken : tie.After-record-length2 Inv-loop μ-loop → tie.After-take-other Inv-loop μ-loop
+other-taken c = c .before .before .before .before
+
+abbrev from-other : tie.After-record-length2 Inv-loop μ-loop → Turn
+from-other c = let test = other-taken c .before .before .before .before in no-element (test .before)
 
 -- ---- a turn takes a record
 module _ (c : Turn) where
@@ -70,8 +87,8 @@ add-here c = omega (arith, here (c .before) .whole .inside)
 
 take-first-requires : tie.Need-take-first-requires Inv-loop μ-loop
 take-first-requires c κs =
-    let test = c .before .before .before in
-    let r = here (test .before .before) in
+    let test = c .before .before in
+    let r = here (test .before .before .before) in
     (omega (arith, r .fits), r .whole, test .if2 .taken)
 
 add-at : tie.Need-add-at Inv-loop μ-loop
@@ -84,13 +101,13 @@ loop-again : tie.Need-loop-again Inv-loop μ-loop
 unfolding record-length
 loop-again c =
     let turn = c .before .before in
-    let test = turn .before .before .before .before in
+    let test = turn .before .before .before in
     going-more (from-first c .before .before .loop .inv) (taken (from-first c)) (sym (ap record-length (test .if2 .taken))) (turn .take-first .ensures _)
 
 take-reply-requires : tie.Need-take-reply-requires Inv-loop μ-loop
 take-reply-requires c κs =
-    let test = c .before .before .before in
-    let r = here (test .before .before .before) in
+    let test = c .before .before in
+    let r = here (no-first (test .before)) in
     (omega (arith, r .fits), r .whole, test .if3 .taken)
 
 add-at-2 : tie.Need-add-at-2 Inv-loop μ-loop
@@ -103,29 +120,51 @@ loop-again-2 : tie.Need-loop-again-2 Inv-loop μ-loop
 unfolding record-length
 loop-again-2 c =
     let turn = c .before .before in
-    let test = turn .before .before .before .before in
+    let test = turn .before .before .before in
     going-more (from-reply c .before .before .loop .inv) (taken (from-reply c)) (sym (ap record-length (test .if3 .taken))) (turn .take-reply .ensures _)
 
-take-other-requires : tie.Need-take-other-requires Inv-loop μ-loop
-take-other-requires c κs =
-    let test = c .before .before .before .before in
-    let first = test .before in
-    let r = here (first .before .before) in
-    (omega (arith, r .fits), record { whole = r .whole; not-first = first .if2 .left; not-reply = test .if3 .left })
+-- plan, open, close or finish
+other : (c : tie.Else3 Inv-loop μ-loop) → let turn = no-first (c .before) in Other (bytes turn) (at-loop turn .loop .at)
+other c = record { whole = here (no-first (c .before)) .whole; not-first = c .before .if2 .left; not-reply = c .if3 .left }
+
+early-refusal-requires : tie.Need-early-refusal-requires Inv-loop μ-loop
+early-refusal-requires c κs = other c
+
+put-refusal-requires : tie.Need-put-refusal-requires Inv-loop μ-loop
+put-refusal-requires c κs = omega (arith, here (no-element (c .before .before)) .fits)
 
 record-length-requires : tie.Need-record-length-requires Inv-loop μ-loop
 record-length-requires c κs = search needs
 
 add-at-3 : tie.Need-add-at-3 Inv-loop μ-loop
-add-at-3 c = let turn = from-other c in record { fits = omega (arith, here turn .whole .whole, c .record-length .ensures, start turn .pre) }
+add-at-3 c = let turn = from-early c in record { fits = omega (arith, here turn .whole .whole, c .record-length .ensures, start turn .pre) }
 
 loop-less-3 : tie.Need-loop-less-3 Inv-loop μ-loop
-loop-less-3 c = omega (arith, here (from-other c) .known, here (from-other c) .whole .inside, c .record-length .ensures)
+loop-less-3 c = omega (arith, here (from-early c) .known, here (from-early c) .whole .inside, c .record-length .ensures)
 
 loop-again-3 : tie.Need-loop-again-3 Inv-loop μ-loop
 loop-again-3 c =
-    let next = c .before .before .before .before in
-    going-more (from-other c .before .before .loop .inv) (taken (from-other c)) (c .record-length .ensures) (next .take-other .ensures)
+    let test = early-test c in
+    going-more (from-early c .before .before .loop .inv) (taken (from-early c)) (c .record-length .ensures)
+    (turn-early (test .before .early-refusal .ensures) (test .if4 .taken) (early-put c .put-refusal .ensures .1))
+
+take-other-requires : tie.Need-take-other-requires Inv-loop μ-loop
+take-other-requires c κs =
+    let early = c .before .before .before .before in
+    (omega (arith, here (no-element early) .fits), other (early .before))
+
+record-length-requires-2 : tie.Need-record-length-requires-2 Inv-loop μ-loop
+record-length-requires-2 c κs = search needs
+
+add-at-4 : tie.Need-add-at-4 Inv-loop μ-loop
+add-at-4 c = let turn = from-other c in record { fits = omega (arith, here turn .whole .whole, c .record-length2 .ensures, start turn .pre) }
+
+loop-less-4 : tie.Need-loop-less-4 Inv-loop μ-loop
+loop-less-4 c = omega (arith, here (from-other c) .known, here (from-other c) .whole .inside, c .record-length2 .ensures)
+
+loop-again-4 : tie.Need-loop-again-4 Inv-loop μ-loop
+loop-again-4 c =
+    going-more (from-other c .before .before .loop .inv) (taken (from-other c)) (c .record-length2 .ensures) (other-taken c .take-other .ensures)
 
 stop-at-requires : tie.Need-stop-at-requires Inv-loop μ-loop
 stop-at-requires c κs = search needs
@@ -158,11 +197,17 @@ feed-near-spec =
     add-at-2
     loop-less-2
     loop-again-2
-    take-other-requires
+    early-refusal-requires
+    put-refusal-requires
     record-length-requires
     add-at-3
     loop-less-3
     loop-again-3
+    take-other-requires
+    record-length-requires-2
+    add-at-4
+    loop-less-4
+    loop-again-4
     stop-at-requires
     same-length
     returns)

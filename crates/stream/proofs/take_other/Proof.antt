@@ -5,28 +5,9 @@ use native.Mathlib.Omega.{arith}
 use borrow.Author.Needs.{needs}
 use Rattle.scheme.specs.Service.{plan-record, open-record}
 use Rattle.stream.specs.Stream.{record-length}
-use Rattle.stream.proofs.Early.{turn-early}
 use Rattle.stream.proofs.Turns.{turns-as, record-plan, record-open, record-close, record-finish}
 use Rattle.stream.proofs.take_other.Statement.{statement}
 use Rattle.stream.proofs.take_other.Tie as tie
-
-abbrev from : tie.Else1 → tie.Start
-from c = c .before .before .before .before
-
-early-refusal-requires : tie.Need-early-refusal-requires
-early-refusal-requires c κs = search needs
-
-put-refusal-requires : tie.Need-put-refusal-requires
-put-refusal-requires c κs = search needs
-
-same-length : tie.Need-same-length
-same-length c = search needs
-
-returns : tie.Need-returns
-returns c =
-    let put = c .before .before in
-    let test = put .before .before in
-    turn-early (test .before .early-refusal .ensures) (test .if1 .taken) (put .put-refusal .ensures .1)
 
 shared-slice-read-kind : tie.Need-shared-slice-read-kind
 shared-slice-read-kind c = search needs
@@ -35,7 +16,7 @@ plan-at-requires : tie.Need-plan-at-requires
 unfolding record-length
 plan-at-requires c κs =
     let kind = c .before .before in
-    omega (arith, from (kind .before .before) .pre .1 .whole .whole, ap record-length (kind .match .keys1))
+    omega (arith, kind .before .before .before .before .pre .1 .whole .whole, ap record-length (kind .match .keys1))
 
 take-plan-requires : tie.Need-take-plan-requires
 take-plan-requires c κs = search needs
@@ -47,7 +28,7 @@ four-at-requires : tie.Need-four-at-requires
 unfolding record-length
 four-at-requires c κs =
     let kind = c .before .before in
-    omega (arith, from (kind .before .before) .pre .1 .whole .whole, ap record-length (kind .match .keys2))
+    omega (arith, kind .before .before .before .before .pre .1 .whole .whole, ap record-length (kind .match .keys2))
 
 take-open-requires : tie.Need-take-open-requires
 take-open-requires c κs = search needs
@@ -58,15 +39,25 @@ take-close-requires c κs = search needs
 take-finish-requires : tie.Need-take-finish-requires
 take-finish-requires c κs = search needs
 
+same-length : tie.Need-same-length
+same-length c = search needs
+
+returns : tie.Need-returns
+returns c =
+    let turn = c .before .before in
+    let plan = turn .before .before in
+    let kind = plan .before .before .before in
+    turns-as (ap plan-record (plan .plan-at .ensures) ∙ sym (record-plan _ _ (kind .match .keys1))) (turn .take-plan .ensures)
+
 same-length-2 : tie.Need-same-length-2
 same-length-2 c = search needs
 
 returns-2 : tie.Need-returns-2
 returns-2 c =
     let turn = c .before .before in
-    let plan = turn .before .before in
-    let kind = plan .before .before .before in
-    turns-as (ap plan-record (plan .plan-at .ensures) ∙ sym (record-plan _ _ (kind .match .keys1))) (turn .take-plan .ensures)
+    let round = turn .before .before in
+    let kind = round .before .before .before in
+    turns-as (ap open-record (round .four-at .ensures) ∙ sym (record-open _ _ (kind .match .keys2))) (turn .take-open .ensures)
 
 same-length-3 : tie.Need-same-length-3
 same-length-3 c = search needs
@@ -74,9 +65,8 @@ same-length-3 c = search needs
 returns-3 : tie.Need-returns-3
 returns-3 c =
     let turn = c .before .before in
-    let round = turn .before .before in
-    let kind = round .before .before .before in
-    turns-as (ap open-record (round .four-at .ensures) ∙ sym (record-open _ _ (kind .match .keys2))) (turn .take-open .ensures)
+    let kind = turn .before .before .before .before in
+    turns-as (sym (record-close _ _ (kind .match .keys3))) (turn .take-close .ensures)
 
 same-length-4 : tie.Need-same-length-4
 same-length-4 c = search needs
@@ -85,26 +75,13 @@ returns-4 : tie.Need-returns-4
 returns-4 c =
     let turn = c .before .before in
     let kind = turn .before .before .before .before in
-    turns-as (sym (record-close _ _ (kind .match .keys3))) (turn .take-close .ensures)
-
-same-length-5 : tie.Need-same-length-5
-same-length-5 c = search needs
-
-returns-5 : tie.Need-returns-5
-returns-5 c =
-    let turn = c .before .before in
-    let kind = turn .before .before .before .before in
     let r = kind .match .rest in
-    turns-as (sym (record-finish _ _ (from (kind .before .before) .pre .1) (r .0 .0 .1) (r .0 .1) (r .1))) (turn .take-finish .ensures)
+    turns-as (sym (record-finish _ _ (kind .before .before .before .before .pre .1) (r .0 .0 .1) (r .0 .1) (r .1))) (turn .take-finish .ensures)
 
 pub take-other-spec : {M : Type 1} → statement M
 take-other-spec =
     tie.close
     (tie.spec
-    early-refusal-requires
-    put-refusal-requires
-    same-length
-    returns
     shared-slice-read-kind
     plan-at-requires
     take-plan-requires
@@ -113,11 +90,11 @@ take-other-spec =
     take-open-requires
     take-close-requires
     take-finish-requires
+    same-length
+    returns
     same-length-2
     returns-2
     same-length-3
     returns-3
     same-length-4
-    returns-4
-    same-length-5
-    returns-5)
+    returns-4)
