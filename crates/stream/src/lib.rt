@@ -364,15 +364,17 @@ fn feed_near(start: Service, b: &[u8], offset: u64, out: &mut [u8]) -> Fed
     while ready_at(b, at, out.len() - wrote) {
         let kind = b[at];
         let here = offset + at as u64;
-        let head = state.head;
         // an element's 6 or 5 bytes are written out, so that the next record need not wait for a length that is looked up
         if kind == 3 {
+            let head = state.head;
             wrote = take_first(head, &mut state.first, b, at, here, out, wrote);
             at += 6;
         } else if kind == 5 {
+            let head = state.head;
             wrote = take_reply(head, &mut reply, b, at, here, out, wrote);
             at += 5;
         } else {
+            let head = state.head;
             let number = early_refusal(head, b, at);
             if number != 0 {
                 wrote = lines::put_refusal(out, wrote, number, here);
@@ -387,12 +389,11 @@ fn feed_near(start: Service, b: &[u8], offset: u64, out: &mut [u8]) -> Fed
         }
     }
     state.reply = reply;
-    let stop = stop_at(b, at);
     Fed {
         service: state,
         at,
         wrote,
-        stop,
+        stop: stop_at(b, at),
     }
 }
 

@@ -27,16 +27,16 @@ Turn = tie.Then1 Inv-loop μ-loop
 
 -- behind the tests for an element
 abbrev no-first : tie.Else2 Inv-loop μ-loop → Turn
-no-first c = c .before .before .before
+no-first c = c .before .before
 
 abbrev no-element : tie.After-early-refusal Inv-loop μ-loop → Turn
-no-element c = no-first (c .before .before)
+no-element c = no-first (c .before .before .before)
 
 abbrev from-first : tie.After-slice-known2 Inv-loop μ-loop → Turn
 from-first c = let test = c .before .before .before .before in test .before .before .before .before
 
 abbrev from-reply : tie.After-slice-known3 Inv-loop μ-loop → Turn
-from-reply c = let test = c .before .before .before .before in no-first (test .before .before)
+from-reply c = let test = c .before .before .before .before in no-first (test .before .before .before)
 
 abbrev early-put : tie.After-record-length Inv-loop μ-loop → tie.After-put-refusal Inv-loop μ-loop
 early-put c = c .before .before .before
@@ -87,8 +87,8 @@ add-here c = omega (arith, here (c .before) .whole .inside)
 
 take-first-requires : tie.Need-take-first-requires Inv-loop μ-loop
 take-first-requires c κs =
-    let test = c .before .before in
-    let r = here (test .before .before .before) in
+    let test = c .before .before .before in
+    let r = here (test .before .before) in
     (omega (arith, r .fits), r .whole, test .if2 .taken)
 
 add-at : tie.Need-add-at Inv-loop μ-loop
@@ -101,12 +101,12 @@ loop-again : tie.Need-loop-again Inv-loop μ-loop
 unfolding record-length
 loop-again c =
     let turn = c .before .before in
-    let test = turn .before .before .before in
+    let test = turn .before .before .before .before in
     going-more (from-first c .before .before .loop .inv) (taken (from-first c)) (sym (ap record-length (test .if2 .taken))) (turn .take-first .ensures _)
 
 take-reply-requires : tie.Need-take-reply-requires Inv-loop μ-loop
 take-reply-requires c κs =
-    let test = c .before .before in
+    let test = c .before .before .before in
     let r = here (no-first (test .before)) in
     (omega (arith, r .fits), r .whole, test .if3 .taken)
 
@@ -120,7 +120,7 @@ loop-again-2 : tie.Need-loop-again-2 Inv-loop μ-loop
 unfolding record-length
 loop-again-2 c =
     let turn = c .before .before in
-    let test = turn .before .before .before in
+    let test = turn .before .before .before .before in
     going-more (from-reply c .before .before .loop .inv) (taken (from-reply c)) (sym (ap record-length (test .if3 .taken))) (turn .take-reply .ensures _)
 
 -- plan, open, close or finish
@@ -128,7 +128,7 @@ other : (c : tie.Else3 Inv-loop μ-loop) → let turn = no-first (c .before) in 
 other c = record { whole = here (no-first (c .before)) .whole; not-first = c .before .if2 .left; not-reply = c .if3 .left }
 
 early-refusal-requires : tie.Need-early-refusal-requires Inv-loop μ-loop
-early-refusal-requires c κs = other c
+early-refusal-requires c κs = other (c .before)
 
 put-refusal-requires : tie.Need-put-refusal-requires Inv-loop μ-loop
 put-refusal-requires c κs = omega (arith, here (no-element (c .before .before)) .fits)
@@ -151,7 +151,7 @@ loop-again-3 c =
 take-other-requires : tie.Need-take-other-requires Inv-loop μ-loop
 take-other-requires c κs =
     let early = c .before .before .before .before in
-    (omega (arith, here (no-element early) .fits), other (early .before))
+    (omega (arith, here (no-element early) .fits), other (early .before .before))
 
 record-length-requires-2 : tie.Need-record-length-requires-2 Inv-loop μ-loop
 record-length-requires-2 c κs = search needs
