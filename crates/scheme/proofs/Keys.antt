@@ -42,19 +42,16 @@ module _ (f : ℕ → ℕ → ℕ) where
   each-length n xs ys = map-span-length (λ i. f (getD xs i 0) (getD ys i 0)) n 0
 
   pub each-at : (n : ℕ) (xs ys : List ℕ) (i : ℕ) → i < n → getD (each f n xs ys) i 0 ≡ f (getD xs i 0) (getD ys i 0)
-  each-at n xs ys i h =
-      map-span-at (λ i. f (getD xs i 0) (getD ys i 0)) n 0 i h ∙ ap (λ (i : ℕ). f (getD xs i 0) (getD ys i 0)) (zero-add i)
+  each-at n xs ys i h = map-span-at (λ i. f (getD xs i 0) (getD ys i 0)) n 0 i h ∙ ap (λ (i : ℕ). f (getD xs i 0) (getD ys i 0)) (zero-add i)
 
   each-cons : (n x y : ℕ) (xs ys : List ℕ) → each f (suc n) (x ∷ xs) (y ∷ ys) ≡ f x y ∷ each f n xs ys
   each-cons n x y xs ys = ap (λ (l : List ℕ). f x y ∷ l) (shifted (λ i. f (getD (x ∷ xs) i 0) (getD (y ∷ ys) i 0)) n 0)
 
-  pub each-append : (n : ℕ) (a c b d : List ℕ) → length a ≡ length c
-      → each f (length a + n) (a ++ b) (c ++ d) ≡ each f (length a) a c ++ each f n b d
+  pub each-append : (n : ℕ) (a c b d : List ℕ) → length a ≡ length c → each f (length a + n) (a ++ b) (c ++ d) ≡ each f (length a) a c ++ each f n b d
   each-append n [] [] b d e = rw zero-add
   each-append n [] (y ∷ c) b d e = absurd (omega arith)
   each-append n (x ∷ a) [] b d e = absurd (omega arith)
-  each-append n (x ∷ a) (y ∷ c) b d e =
-      rw suc-add
+  each-append n (x ∷ a) (y ∷ c) b d e = rw suc-add
       (each-cons (length a + n) x y (a ++ b) (c ++ d) ∙ ap (λ (l : List ℕ). f x y ∷ l) (each-append n a c b d (omega arith))
       ∙ ap (λ (l : List ℕ). l ++ each f n b d) (sym (each-cons (length a) x y a c)))
 
@@ -66,8 +63,7 @@ module _ (A : Arithmetic) (p : Plan) (xs : List ℕ) (k : ℕ) where
 
   pub key-is-long : length (key A p xs k) ≡ key-length p k
   unfolding key key-length
-  key-is-long =
-      length-append (map (mask p xs k) (span (places p) 0)) (rows (shares A p xs k) (sets-with p k))
+  key-is-long = length-append (map (mask p xs k) (span (places p) 0)) (rows (shares A p xs k) (sets-with p k))
       ∙ ap₂ _+_ (map-span-length (mask p xs k) (places p) 0) (rows-length (shares A p xs k) (p .blocks) shares-length (sets-with p k))
 
   pub key-mask : (i : ℕ) → i < places p → getD (key A p xs k) i 0 ≡ mask p xs k i
@@ -113,8 +109,7 @@ module _ (A : Arithmetic) where
 -- a key is made of elements where the random list is
 pub key-elements : (A : Arithmetic) (n m : ℕ) (L : Laws A n m) (p : Plan) (xs : List ℕ) (k : ℕ) → elements A xs ≡ true → elements A (key A p xs k) ≡ true
 unfolding key mask shares share
-key-elements A n m L p xs k h =
-    elements-append A (map (mask p xs k) (span (places p) 0)) (rows (shares A p xs k) (sets-with p k))
+key-elements A n m L p xs k h = elements-append A (map (mask p xs k) (span (places p) 0)) (rows (shares A p xs k) (sets-with p k))
     (elements-map A (mask p xs k) (span (places p) 0) (λ i l. elements-at A (zero-small A n m L) xs ((k - 1) * places p + i) h))
     (elements-rows A (shares A p xs k) (sets-with p k)
     (λ v l. elements-map A (share A p xs k v) (span (p .blocks) 0) (λ b i. row-value-small A n m L (p .threshold) k _)))

@@ -95,8 +95,7 @@ keep-in false k i l h = inr h
 
 pub members-in : (t : ℕ → Bool) (n k i : ℕ) → In i (members t n k) → (k ≤ i) × (i < k + n) × (t i ≡ true)
 members-in t zero k i h = absurd h
-members-in t (suc n) k i h =
-    ⊎-elim (λ e. (omega (arith, e .0), omega (arith, e .0), ap t (e .0) ∙ e .1))
+members-in t (suc n) k i h = ⊎-elim (λ e. (omega (arith, e .0), omega (arith, e .0), ap t (e .0) ∙ e .1))
     (λ m. let s = members-in t n (suc k) i m in (omega (arith, s .0), omega (arith, s .1), s .2)) (keep-in (t k) k i (members t n (suc k)) h)
 
 in-keep : (b : Bool) (k i : ℕ) (l : List ℕ) → In i l → In i (keep b k l)
@@ -144,8 +143,7 @@ keep-length false k l = omega arith
 
 pub rank-step : (t : ℕ → Bool) (v : ℕ) → rank t (v + 1) ≡ rank t v + cond (t v) 1 0
 unfolding rank
-rank-step t v =
-    ap length (members-append t v 1 0) ∙ length-append (members t v 0) (members t 1 (0 + v))
+rank-step t v = ap length (members-append t v 1 0) ∙ length-append (members t v 0) (members t 1 (0 + v))
     ∙ ap (λ (n : ℕ). length (members t v 0) + n) (keep-length (t (0 + v)) (0 + v) [] ∙ add-zero _ ∙ ap (λ (i : ℕ). cond (t i) 1 0) (zero-add v))
 
 keep-le : (b : Bool) (k n : ℕ) (l : List ℕ) → length l ≤ n → length (keep b k l) ≤ suc n
@@ -170,8 +168,7 @@ rank-lt t n v h e = omega (arith, ap length (members-split t n v h e), length-ap
 
 pub rank-at : (t : ℕ → Bool) (n v : ℕ) → v < n → t v ≡ true → getD (members t n 0) (rank t v) 0 ≡ v
 unfolding rank
-rank-at t n v h e =
-    ap (λ (l : List ℕ). getD l (length (members t v 0)) 0) (members-split t n v h e)
+rank-at t n v h e = ap (λ (l : List ℕ). getD l (length (members t v 0)) 0) (members-split t n v h e)
     ∙ getD-at (members t v 0) v (members t (n - suc v) (suc v)) 0 _ refl
 
 -- ---- rows
@@ -206,8 +203,7 @@ sets-append o at (x ∷ xs) ys =
     ap (λ (k : ℕ). sets (sets (set o at x) (suc at) xs) k ys) e ∙ sets-append (set o at x) (suc at) xs ys
 
 pub sets-more : (o : List ℕ) (at i : ℕ) (f : ℕ → ℕ) → set (sets o at (map f (span i 0))) (at + i) (f i) ≡ sets o at (map f (span (i + 1) 0))
-sets-more o at i f =
-    ap₂ (λ (n x : ℕ). set (sets o at (map f (span i 0))) (at + n) x) (sym (map-span-length f i 0)) (ap f (sym (zero-add i)))
+sets-more o at i f = ap₂ (λ (n x : ℕ). set (sets o at (map f (span i 0))) (at + n) x) (sym (map-span-length f i 0)) (ap f (sym (zero-add i)))
     ∙ sets-append o at (map f (span i 0)) (map f (span 1 (0 + i)))
     ∙ ap (sets o at) (sym (ap (map f) (span-append i 1 0) ∙ map-append f (span i 0) (span 1 (0 + i))))
 

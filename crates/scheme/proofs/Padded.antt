@@ -52,8 +52,7 @@ module _ (size : ℕ) (l : List ℕ) where
 
 -- ---- the first n entries by a rule
 span-more : (f : ℕ → ℕ) (n : ℕ) → map f (span (n + 1) 0) ≡ map f (span n 0) ++ (f n ∷ [])
-span-more f n =
-    ap (map f) (span-append n 1 0) ∙ map-append f (span n 0) (span 1 (0 + n))
+span-more f n = ap (map f) (span-append n 1 0) ∙ map-append f (span n 0) (span 1 (0 + n))
     ∙ ap (λ (i : ℕ). map f (span n 0) ++ (f i ∷ [])) (zero-add n)
 
 module _ (size : ℕ) (f : ℕ → ℕ) where
@@ -85,13 +84,11 @@ module _ (size : ℕ) (f : ℕ → ℕ) where
       ∙ filled-sets n (suc at) (suc j) h (omega arith) (λ i m.
       let a : suc j + i ≡ j + suc i = omega arith in
       let b : at + suc i ≡ suc at + i = omega arith in
-      ap h a ∙ e (suc i) (omega arith) ∙ ap f b)
-      ∙ ap (λ (k : ℕ). filled size k f) d
+      ap h a ∙ e (suc i) (omega arith) ∙ ap f b) ∙ ap (λ (k : ℕ). filled size k f) d
 
   -- several more that are 0
   pub filled-zeros : (n m : ℕ) → n ≤ m → m ≤ size → ((i : ℕ) → n ≤ i → i < m → f i ≡ 0) → filled size n f ≡ filled size m f
-  filled-zeros n m h l z =
-      ext-getD 0 _ _ (filled-length n (omega arith) ∙ sym (filled-length m l)) (λ i k. go i (decLt i n) (decLt i m))
+  filled-zeros n m h l z = ext-getD 0 _ _ (filled-length n (omega arith) ∙ sym (filled-length m l)) (λ i k. go i (decLt i n) (decLt i m))
     where
       go : (i : ℕ) → Dec (i < n) → Dec (i < m) → getD (filled size n f) i 0 ≡ getD (filled size m f) i 0
       go i (yes a) b = filled-at n i a ∙ sym (filled-at m i (omega arith))
@@ -147,6 +144,5 @@ module _ (A : Arithmetic) (f : ℕ → ℕ) where
   sum-map g (x ∷ l) = ap (A .add (f (g x))) (sum-map g l)
 
   pub sum-by-place : (size : ℕ) (l : List ℕ) → sum A l f ≡ sum A (span (length l) 0) (λ a. f (getD (padded size l) a 0))
-  sum-by-place size l =
-      ap (λ (r : List ℕ). sum A r f) (sym (whole-list l)) ∙ sum-map (λ a. getD l a 0) (span (length l) 0)
+  sum-by-place size l = ap (λ (r : List ℕ). sum A r f) (sym (whole-list l)) ∙ sum-map (λ a. getD l a 0) (span (length l) 0)
       ∙ sum-same A (span (length l) 0) _ _ (λ a m. ap f (sym (padded-at size l a (omega (arith, span-in (length l) 0 a m)))))

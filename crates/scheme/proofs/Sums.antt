@@ -55,21 +55,16 @@ module _ (A : Arithmetic) (n m : ℕ) (L : Laws A n m) where
   sum-small (k ∷ l) f = L .add-small (f k) (sum A l f)
 
   pub sum-append : (l r : List ℕ) (f : ℕ → ℕ) → sum A (l ++ r) f ≡ A .add (sum A l f) (sum A r f)
-  sum-append l r f =
-      el-same (sum-small (l ++ r) f) (L .add-small (sum A l f) (sum A r f))
-      (sum-el (l ++ r) f ∙ field-sum-append K l r (λ k. el (f k))
-      ∙ sym (L .el-add (sum A l f) (sum A r f) ∙ ap₂ _⊕_ (sum-el l f) (sum-el r f)))
+  sum-append l r f = el-same (sum-small (l ++ r) f) (L .add-small (sum A l f) (sum A r f))
+      (sum-el (l ++ r) f ∙ field-sum-append K l r (λ k. el (f k)) ∙ sym (L .el-add (sum A l f) (sum A r f) ∙ ap₂ _⊕_ (sum-el l f) (sum-el r f)))
 
   pub coefficient-el : (k j : ℕ) → (1 ≤ k) × (k ≤ n) → (1 ≤ j) × (j ≤ m) → el (A .coefficient k j) ≡ inv (row k ⊕ col j)
   coefficient-el k j h l =
       mul-cancel K (row k ⊕ col j) (L .meet k j h l) (L .coefficient-right k j h l ∙ sym (K .mul-inv (row k ⊕ col j) (L .meet k j h l)))
 
-  pub row-value-el : (u k : ℕ) (f : ℕ → ℕ) → (1 ≤ k) × (k ≤ n) → u ≤ m
-      → el (row-value A u k f) ≡ value K row col (span u 1) k (λ j. el (f j))
+  pub row-value-el : (u k : ℕ) (f : ℕ → ℕ) → (1 ≤ k) × (k ≤ n) → u ≤ m → el (row-value A u k f) ≡ value K row col (span u 1) k (λ j. el (f j))
   unfolding row-value
-  row-value-el u k f h l =
-      sum-el (span u 1) (λ j. A .multiply (A .coefficient k j) (f j))
-      ∙ field-sum-same K (span u 1) _ _ (λ j i.
+  row-value-el u k f h l = sum-el (span u 1) (λ j. A .multiply (A .coefficient k j) (f j)) ∙ field-sum-same K (span u 1) _ _ (λ j i.
       let s = span-in u 1 j i in
       L .el-multiply (A .coefficient k j) (f j) ∙ ap (λ c. c ⊗ el (f j)) (coefficient-el k j h (s .0, omega (arith, s .1))))
 

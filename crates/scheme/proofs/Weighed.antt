@@ -19,16 +19,14 @@ use Rattle.scheme.proofs.Sums.{el-same, sum-el, sum-small, sum-same}
 
 pub weighed-same : (A : Arithmetic) (cs : List ℕ) (n : ℕ) (f g : ℕ → ℕ) → ((i : ℕ) → i < n → f i ≡ g i) → weighed A cs n f ≡ weighed A cs n g
 unfolding weighed
-weighed-same A cs n f g h =
-    sum-same A (span n 0) _ _ (λ i m. ap (A .multiply (getD cs i 0)) (h i (omega (arith, span-in n 0 i m .1))))
+weighed-same A cs n f g h = sum-same A (span n 0) _ _ (λ i m. ap (A .multiply (getD cs i 0)) (h i (omega (arith, span-in n 0 i m .1))))
 
 module _ {A : Arithmetic} {n m : ℕ} (L : Laws A n m) where
   open Laws L using (K, el)
   open Field K using (add as _⊕_)
 
   pub sum-more : (l : List ℕ) (k : ℕ) (f : ℕ → ℕ) → sum A (l ++ (k ∷ [])) f ≡ A .add (sum A l f) (f k)
-  sum-more l k f =
-      el-same A n m L (sum-small A n m L (l ++ (k ∷ [])) f) (L .add-small (sum A l f) (f k))
+  sum-more l k f = el-same A n m L (sum-small A n m L (l ++ (k ∷ [])) f) (L .add-small (sum A l f) (f k))
       (sum-el A n m L (l ++ (k ∷ [])) f ∙ field-sum-append K l (k ∷ []) (λ i. el (f i))
       ∙ ap₂ _⊕_ (sym (sum-el A n m L l f)) (K .add-zero (el (f k))) ∙ sym (L .el-add (sum A l f) (f k)))
 

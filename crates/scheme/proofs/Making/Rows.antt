@@ -52,8 +52,7 @@ module _ {A : Arithmetic} {n m : ℕ} (L : Laws A n m) (t : ℕ → Bool) (k : �
 -- ---- a row put into a list
 sets-other : (vs l : List ℕ) (i j : ℕ) → ((b : ℕ) → b < length vs → j ≢ i + b) → _≡_ {A = ℕ} (getD (sets l i vs) j 0) (getD l j 0)
 sets-other [] l i j h = refl
-sets-other (v ∷ vs) l i j h =
-    sets-other vs (set l i v) (suc i) j (λ b m e. h (suc b) (omega arith) (omega arith))
+sets-other (v ∷ vs) l i j h = sets-other vs (set l i v) (suc i) j (λ b m e. h (suc b) (omega arith) (omega arith))
     ∙ getD-set-other l i j v 0 (λ e. h 0 (omega arith) (omega arith))
 
 sets-at : (vs l : List ℕ) (i b : ℕ) → b < length vs → i + length vs ≤ length l → _≡_ {A = ℕ} (getD (sets l i vs) (i + b) 0) (getD vs b 0)
@@ -66,12 +65,10 @@ sets-at (v ∷ vs) l i (suc b) h m =
 
 module _ (old : List ℕ) (at : ℕ) (f : ℕ → ℕ) (n : ℕ) {new : List ℕ} (e : new ≡ sets old at (map f (span n 0))) where
   pub row-more : {j x : ℕ} → j ≡ at + n → x ≡ f n → set new j x ≡ sets old at (map f (span (n + 1) 0))
-  row-more {j} {x} d y =
-      ap (λ (l : List ℕ). set l j x) e ∙ ap₂ (λ (i z : ℕ). set (sets old at (map f (span n 0))) i z) d y ∙ sets-more old at n f
+  row-more {j} {x} d y = ap (λ (l : List ℕ). set l j x) e ∙ ap₂ (λ (i z : ℕ). set (sets old at (map f (span n 0))) i z) d y ∙ sets-more old at n f
 
   pub row-other : (j : ℕ) → ((b : ℕ) → b < n → j ≢ at + b) → getD new j 0 ≡ getD old j 0
-  row-other j h =
-      ap (λ (l : List ℕ). getD l j 0) e ∙ sets-other (map f (span n 0)) old at j (λ b m. h b (omega (arith, map-span-length f n 0)))
+  row-other j h = ap (λ (l : List ℕ). getD l j 0) e ∙ sets-other (map f (span n 0)) old at j (λ b m. h b (omega (arith, map-span-length f n 0)))
 
   pub row-at : (b j : ℕ) → j ≡ at + b → b < n → at + n ≤ length old → getD new j 0 ≡ f b
   row-at b j d h m =

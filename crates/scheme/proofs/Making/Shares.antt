@@ -30,8 +30,7 @@ weighed-columns {A} {k} {s} {n} {cs} c f =
 
 pub columns-same : (A : Arithmetic) (k s n : ℕ) (f g : ℕ → ℕ) → ((i : ℕ) → i < n → f i ≡ g i) → columns-value A k s n f ≡ columns-value A k s n g
 unfolding columns-value
-columns-same A k s n f g h =
-    sum-same A (span n 0) _ _ (λ i m. ap (A .multiply (A .coefficient k (s + i))) (h i (omega (arith, span-in n 0 i m .1))))
+columns-same A k s n f g h = sum-same A (span n 0) _ _ (λ i m. ap (A .multiply (A .coefficient k (s + i))) (h i (omega (arith, span-in n 0 i m .1))))
 
 module _ {A : Arithmetic} {n m : ℕ} (L : Laws A n m) where
   open Laws L using (K, el)
@@ -48,10 +47,8 @@ module _ {A : Arithmetic} {n m : ℕ} (L : Laws A n m) where
 
   pub columns-sum : (k s c : ℕ) (l : List ℕ) (g : ℕ → ℕ → ℕ)
       → columns-value A k s c (λ i. sum A l (λ j. g j i)) ≡ sum A l (λ j. columns-value A k s c (g j))
-  columns-sum k s c l g =
-      el-same A n m L (columns-small k s c _) (sum-small A n m L l _)
-      (columns-el k s c _
-      ∙ field-sum-same K (span c 0) _ _ (λ i h.
+  columns-sum k s c l g = el-same A n m L (columns-small k s c _) (sum-small A n m L l _)
+      (columns-el k s c _ ∙ field-sum-same K (span c 0) _ _ (λ i h.
       ap (λ x. el (A .coefficient k (s + i)) ⊗ x) (sum-el A n m L l (λ j. g j i))
       ∙ sym (field-sum-scale K (el (A .coefficient k (s + i))) l (λ j. el (g j i))))
       ∙ field-sum-swap K (span c 0) l (λ i j. el (A .coefficient k (s + i)) ⊗ el (g j i))
@@ -101,8 +98,7 @@ module _ {A : Arithmetic} {n m : ℕ} (L : Laws A n m) (p : Plan) (xs : List ℕ
       let l : List ℕ = members (in-set v) (p .users) 1 in
       sum-same A l (λ j. getD zs ((j - 1) * most-blocks + b) 0) (λ j. columns-value A k 1 w (f j)) (λ j i.
       let s = members-in (in-set v) (p .users) 1 j i in
-      z .each (j - 1) (omega (arith, s .0, s .1)) b h)
-      ∙ sym (columns-sum L k 1 w l f)
+      z .each (j - 1) (omega (arith, s .0, s .1)) b h) ∙ sym (columns-sum L k 1 w l f)
       ∙ columns-same A k 1 w (λ i. sum A l (λ j. f j i)) (λ i. column A p xs v b (1 + i)) (λ i s. sym (column-sum A p xs v b i s))
 
   module _ (more : p .collusion ≤ p .threshold) (c : Coefficients A k (1 + items p) (p .collusion) cs) where
@@ -117,6 +113,5 @@ module _ {A : Arithmetic} {n m : ℕ} (L : Laws A n m) (p : Plan) (xs : List ℕ
 
     pub shares-right : (v from : ℕ) → from ≡ noise-start p v 0 → shares-from A p zs cs xs v from ≡ shares A p xs k v
     unfolding shares shares-from
-    shares-right v from e =
-        map-same (share-from A p zs cs xs v from) (share A p xs k v) (span (p .blocks) 0) (λ b i.
+    shares-right v from e = map-same (share-from A p zs cs xs v from) (share A p xs k v) (span (p .blocks) 0) (λ b i.
         rw e (share-right v b (omega (arith, span-in (p .blocks) 0 b i .1))))

@@ -43,8 +43,7 @@ weight-more {q} L {most} {cs} {i} {f} {total} {x} d h =
 pub weight-end : {q most : ℕ} (sums cs : List ℕ) (n : ℕ) (xs : List ℕ) (start from b total : ℕ) → from ≡ start + b * n
     → Unreduced-weight q most cs n (λ i. getD xs (from + i) 0) total → (getD sums b 0 + total) % q ≡ block-value (modular q) sums cs n xs start b
 unfolding block-value
-weight-end {q} sums cs n xs start from b total e d =
-    sym (add-mod-mod (getD sums b 0) total q)
+weight-end {q} sums cs n xs start from b total e d = sym (add-mod-mod (getD sums b 0) total q)
     ∙ ap (λ (x : ℕ). (getD sums b 0 + x) % q) (d .right ∙ weighed-same (modular q) cs n _ (block-item xs start n b) (λ i h.
     let same : from + i ≡ start + (b * n + i) = omega arith in
     ap (λ (j : ℕ). getD xs j 0) same))
@@ -64,21 +63,19 @@ module _ {most : ℕ} {zs : List ℕ} {from n : ℕ} {old new : List ℕ} (a : R
   added-at l b h = row-at old 0 _ n (a .right) b b (sym (zero-add b)) h (omega arith)
 
   pub added-more : (x : ℕ) → (x ≡ getD zs (from + n) 0) × (x ≤ most) → Row-added most zs from (n + 1) old (set new n (getD new n 0 + x))
-  added-more x h =
-      record {
-        small = below-more (λ b. getD zs (from + b) 0 ≤ most) (a .small) (omega (arith, h .0, h .1));
-        right = row-more old 0 _ n (a .right) (sym (zero-add n)) (ap₂ _+_ added-rest (h .0));
-      }
+  added-more x h = record {
+    small = below-more (λ b. getD zs (from + b) 0 ≤ most) (a .small) (omega (arith, h .0, h .1));
+    right = row-more old 0 _ n (a .right) (sym (zero-add n)) (ap₂ _+_ added-rest (h .0));
+  }
 
 -- ---- sums over a set
 pub sums-start : (q most : ℕ) (zs : List ℕ) (v : ℕ) → Unreduced-sums q most zs v 0 (replicate most-blocks 0)
 unfolding sum set-sum
-sums-start q most zs v =
-    record {
-      long = length-replicate {A = ℕ} most-blocks 0;
-      small = λ b h. omega (arith, zeros-at most-blocks b);
-      right = λ b h. ap (λ (x : ℕ). x % q) (zeros-at most-blocks b) ∙ zero-mod q;
-    }
+sums-start q most zs v = record {
+  long = length-replicate {A = ℕ} most-blocks 0;
+  small = λ b h. omega (arith, zeros-at most-blocks b);
+  right = λ b h. ap (λ (x : ℕ). x % q) (zeros-at most-blocks b) ∙ zero-mod q;
+}
 
 module _ {q n m : ℕ} (L : Laws (modular q) n m) {most : ℕ} {zs : List ℕ} {v k : ℕ} {sums : List ℕ} (s : Unreduced-sums q most zs v k sums) where
   pub sums-take : in-set v (k + 1) ≡ true → (from : ℕ) → from ≡ k * most-blocks → (new : List ℕ) → Row-added most zs from most-blocks sums new
@@ -97,12 +94,11 @@ module _ {q n m : ℕ} (L : Laws (modular q) n m) {most : ℕ} {zs : List ℕ} {
 
   pub sums-skip : in-set v (k + 1) ≡ false → Unreduced-sums q most zs v (k + 1) sums
   unfolding set-sum
-  sums-skip e =
-      record {
-        long = s .long;
-        small = λ b h. omega (arith, s .small b h, row-next k most);
-        right = λ b h. s .right b h ∙ sym (sum-skip L (in-set v) k _ e);
-      }
+  sums-skip e = record {
+    long = s .long;
+    small = λ b h. omega (arith, s .small b h, row-next k most);
+    right = λ b h. s .right b h ∙ sym (sum-skip L (in-set v) k _ e);
+  }
 
 pub sums-end : {q most : ℕ} (p : Plan) (zs sums cs xs : List ℕ) (v from : ℕ) → p .blocks ≤ most-blocks → Unreduced-sums q most zs v (p .users) sums
     → block-values (modular q) sums cs (p .collusion) xs from (p .blocks) ≡ shares-from (modular q) p zs cs xs v from
@@ -110,5 +106,4 @@ unfolding block-values block-value shares-from share-from
 sums-end {q} p zs sums cs xs v from few s =
     map-same (block-value (modular q) sums cs (p .collusion) xs from) (share-from (modular q) p zs cs xs v from) (span (p .blocks) 0) (λ b m.
     let w : ℕ = weighed (modular q) cs (p .collusion) (block-item xs from (p .collusion) b) in
-    sym (mod-add-mod (getD sums b 0) q w)
-    ∙ ap (λ (x : ℕ). (x + w) % q) (s .right b (omega (arith, span-in (p .blocks) 0 b m .1))))
+    sym (mod-add-mod (getD sums b 0) q w) ∙ ap (λ (x : ℕ). (x + w) % q) (s .right b (omega (arith, span-in (p .blocks) 0 b m .1))))

@@ -72,8 +72,7 @@ module _ {A : Arithmetic} {n m : ℕ} (L : Laws A n m) where
       record {
         long = length-sets old at (map f (span (p .blocks) 0)) ∙ z .long;
         each = below-more (λ i. (b : ℕ) → b < p .blocks → getD new (i * most-blocks + b) 0 ≡ value i b)
-            (λ i l b s. row-other old at f (p .blocks) refl (i * most-blocks + b) (λ a m same. omega arith) ∙ z .each i l b s)
-            (λ b s.
+            (λ i l b s. row-other old at f (p .blocks) refl (i * most-blocks + b) (λ a m same. omega arith) ∙ z .each i l b s) (λ b s.
             row-at old at f (p .blocks) refl b _ (ap (λ (a : ℕ). a + b) (sym d)) s (omega (arith, z .long)) ∙ alone c xs from b
             ∙ ap (λ (a : ℕ). columns-value A u 1 (items p) (block-item xs a (items p) b)) e);
       }
@@ -92,12 +91,11 @@ written-start A p k xs old row e =
 module _ {A : Arithmetic} {p : Plan} {k : ℕ} {xs old new : List ℕ} {noise at v : ℕ} (g : Written A p k xs old new noise at v) where
   moved : (next : List ℕ) → next ≡ sets old (places p) (rows (shares A p xs k) (members (usable-with p k) (v + 1) 0)) →
       Written A p k xs old next (noise + cond (usable p v) (p .blocks * p .collusion) 0) (at + cond (usable-with p k v) (p .blocks) 0) (v + 1)
-  moved next e =
-      record {
-        noise-is = ap (λ (n : ℕ). n + cond (usable p v) (p .blocks * p .collusion) 0) (g .noise-is) ∙ sym (noise-next p v);
-        at-is = ap (λ (n : ℕ). n + cond (usable-with p k v) (p .blocks) 0) (g .at-is) ∙ sym (reply-next p v k);
-        written = e;
-      }
+  moved next e = record {
+    noise-is = ap (λ (n : ℕ). n + cond (usable p v) (p .blocks * p .collusion) 0) (g .noise-is) ∙ sym (noise-next p v);
+    at-is = ap (λ (n : ℕ). n + cond (usable-with p k v) (p .blocks) 0) (g .at-is) ∙ sym (reply-next p v k);
+    written = e;
+  }
 
   left : usable-with p k v ≡ false → new ≡ sets old (places p) (rows (shares A p xs k) (members (usable-with p k) (v + 1) 0))
   left w = g .written ∙ ap (sets old (places p)) (sym (rows-skip (usable-with p k) (shares A p xs k) v w))
@@ -125,8 +123,7 @@ module _ {A : Arithmetic} {p : Plan} {k : ℕ} {xs old new : List ℕ} {noise at
 
   pub written-end : (row : ℕ) → row ≡ places p → v ≡ 2 ^ p .users → new ≡ sets old row (rows (shares A p xs k) (sets-with p k))
   unfolding sets-with
-  written-end row e d =
-      g .written ∙ ap₂ (λ (a n : ℕ). sets old a (rows (shares A p xs k) (members (usable-with p k) n 0))) (sym e) d
+  written-end row e d = g .written ∙ ap₂ (λ (a n : ℕ). sets old a (rows (shares A p xs k) (members (usable-with p k) n 0))) (sym e) d
 
 -- ---- the whole key
 pub key-whole : (A : Arithmetic) (p : Plan) (k : ℕ) (xs old middle new : List ℕ) (row : ℕ) → row ≡ places p → length old ≡ key-length p k →

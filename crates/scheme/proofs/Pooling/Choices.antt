@@ -24,23 +24,20 @@ use Rattle.scheme.proofs.Pooling.Held.{Part, part}
 use Rattle.scheme.proofs.Pooling.Totals.{all-of-in, at-all-of, in-at, one-choice, some-choice}
 
 -- a test that holds of each number of a list, so another of each number of a part
-all-of-part :
-    (t u : ℕ → Bool) (l m : List ℕ) → ((k : ℕ) → In k m → In k l) → ((k : ℕ) → In k m → t k ≡ true → u k ≡ true) →
+all-of-part : (t u : ℕ → Bool) (l m : List ℕ) → ((k : ℕ) → In k m → In k l) → ((k : ℕ) → In k m → t k ≡ true → u k ≡ true) →
     all-of t l ≡ true → all-of u m ≡ true
 all-of-part t u l m sub step h = at-all-of u m (λ a i. let j = in-at m a i in step _ j (all-of-in t l h _ (sub _ j)))
 
 module _ (A : Arithmetic) (p : Plan) (y : (k block : ℕ) → ℕ) where
   choice-same : (r : ℕ) (f g : (block : ℕ) → List ℕ) → ((b : ℕ) → b < p .blocks → f b ≡ g b) → explains-all A p r y f ≡ true → explains-all A p r y g ≡ true
   unfolding explains-all
-  choice-same r f g same =
-      all-of-part _ _ (span (p .blocks) 0) _ (λ b i. i)
+  choice-same r f g same = all-of-part _ _ (span (p .blocks) 0) _ (λ b i. i)
       (λ b i h. ap (explains A p r (λ k. y k b)) (sym (same b (omega (arith, span-in (p .blocks) 0 b i .1)))) ∙ h)
 
   choice-part : (r v : ℕ) (f : (block : ℕ) → List ℕ) → ((k : ℕ) → 1 ≤ k → in-set v k ≡ true → in-set r k ≡ true)
       → explains-all A p r y f ≡ true → explains-all A p v y f ≡ true
   unfolding explains-all explains users-in
-  choice-part r v f inside =
-      all-of-part _ _ (span (p .blocks) 0) _ (λ b i. i) (λ b i h.
+  choice-part r v f inside = all-of-part _ _ (span (p .blocks) 0) _ (λ b i. i) (λ b i h.
       let s = both (eqb (length (f b)) (p .threshold) && elements A (f b)) _ h in
       let sub : (k : ℕ) → In k (users-in p v) → In k (users-in p r) =
       λ k m. let e = users-in-in p v k m in in-members (in-set r) (p .users) 1 k (e .0) (omega (arith, e .1)) (inside k (e .0) (e .2)) in
@@ -48,8 +45,7 @@ module _ (A : Arithmetic) (p : Plan) (y : (k block : ℕ) → ℕ) where
 
   pub totals-same : (v : ℕ) (x : (k place : ℕ) → ℕ) (f g : (block : ℕ) → List ℕ) → ((b : ℕ) → b < p .blocks → f b ≡ g b) → totals A p v x f ≡ totals A p v x g
   unfolding totals total-of places
-  totals-same v x f g same =
-      map-same _ _ (span (places p) 0) (λ i m.
+  totals-same v x f g same = map-same _ _ (span (places p) 0) (λ i m.
       let l : i < p .blocks * items p = omega (arith, span-in (places p) 0 i m .1) in
       let some : 0 < items p = lt-of-mul-lt-mul-left (p .blocks) (omega (arith, mul-zero (p .blocks))) in
       ap (λ (w : List ℕ). A .subtract (sum A (users-in p v) (λ k. x k i)) (getD w (i % items p) 0))
@@ -69,7 +65,6 @@ module _ (A : Arithmetic) (p : Plan) (y : (k block : ℕ) → ℕ) where
 
       pick : (b : Bool) → explains-all A p r y (c .choice) ≡ b → Choice A p r y ⊎ ((f : (block : ℕ) → List ℕ) → explains-all A p r y f ≡ true → ⊥)
       pick true e = inl (record { choice = c .choice; right = e })
-      pick false e =
-          inr (λ f h.
+      pick false e = inr (λ f h.
           let same = one-choice A p L (few .set) y f (c .choice) (omega (arith, few .size)) (choice-part r (few .set) f (few .inside) h) (c .right) in
           holds (sym e ∙ choice-same r f (c .choice) same h))

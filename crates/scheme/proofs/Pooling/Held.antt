@@ -69,8 +69,7 @@ set-of-below t (suc n) = omega (arith, set-of-step t n, bit-lt (t 1), set-of-bel
 set-of-in-from : (t : ℕ → Bool) (n k : ℕ) → k < n → in-set (set-of t n 1) (suc k) ≡ t (suc k)
 set-of-in-from t zero k h = absurd (omega arith)
 set-of-in-from t (suc n) zero h = ap (λ (v : ℕ). in-set v 1) (set-of-step t n) ∙ in-first (t 1) _
-set-of-in-from t (suc n) (suc k) h =
-    in-half (set-of t (suc n) 1) k
+set-of-in-from t (suc n) (suc k) h = in-half (set-of t (suc n) 1) k
     ∙ ap (λ (v : ℕ). in-set v (suc k)) (ap (λ (v : ℕ). v / 2) (set-of-step t n) ∙ high (set-of (λ i. t (suc i)) n 1) (bit (t 1)) 2 (bit-lt (t 1)))
     ∙ set-of-in-from (λ i. t (suc i)) n k (omega arith)
 
@@ -93,8 +92,7 @@ part (suc n) v u h = pick (decLe u (ones n (v / 2))) (part n (v / 2) u)
         → (k : ℕ) → 1 ≤ k → in-set (w * 2 + bit false) k ≡ true → in-set v k ≡ true
     inside w h zero lo e = absurd (omega arith)
     inside w h (suc zero) lo e = absurd (holds (sym (in-first false w) ∙ e))
-    inside w h (suc (suc k)) lo e =
-        in-half v k
+    inside w h (suc (suc k)) lo e = in-half v k
         ∙ h (suc k) (omega arith) (ap (λ (x : ℕ). in-set x (suc k)) (sym (high w (bit false) 2 (bit-lt false))) ∙ sym (in-half (w * 2 + bit false) k) ∙ e)
 
     pick : Dec (u ≤ ones n (v / 2)) → (u ≤ ones n (v / 2) → Part n (v / 2) u) → Part (suc n) v u

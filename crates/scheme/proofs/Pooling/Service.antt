@@ -50,12 +50,10 @@ module _ (A : Arithmetic) where
   unfolding refusal plan-missing second-plan not-gathering not-replying element-refusal
   not-sixteen (plan-record p) s = then-not (test-not _ 11 refl) (test-not _ 1 refl)
   not-sixteen (open-record r) s = then-not (test-not _ 11 refl) (test-not _ 17 refl)
-  not-sixteen (first-record k i x) s =
-      then-not (then-not (test-not _ 11 refl) (test-not _ 12 refl))
+  not-sixteen (first-record k i x) s = then-not (then-not (test-not _ 11 refl) (test-not _ 12 refl))
       (then-not (then-not (test-not _ 4 refl) (then-not (test-not _ 8 refl) (test-not _ 3 refl))) (test-not _ 13 refl))
   not-sixteen close-record s = then-not (then-not (test-not _ 11 refl) (test-not _ 12 refl)) (test-not _ 15 refl)
-  not-sixteen (reply-record k b x) s =
-      then-not (then-not (test-not _ 11 refl) (test-not _ 12 refl))
+  not-sixteen (reply-record k b x) s = then-not (then-not (test-not _ 11 refl) (test-not _ 12 refl))
       (then-not (then-not (test-not _ 4 refl) (then-not (test-not _ 8 refl) (test-not _ 3 refl))) (then-not (test-not _ 14 refl) (test-not _ 13 refl)))
   not-sixteen finish-record s = then-not (then-not (test-not _ 11 refl) (test-not _ 12 refl)) (test-not _ 15 refl)
 
@@ -86,8 +84,7 @@ module _ (A : Arithmetic) where
   as-new r rs s t l (more _ _ _ u _ _ _ h rest) =
       let o = opened-step r s u (opened r) refl h in
       more (open-record r) rs (planned-state (s .plan)) (opened-state r s) t (opened r) l
-      (accepts (open-record r) (planned-state (s .plan)) refl (opens-as-new r s (o .0)))
-      (subst (λ (u : State). Runs A rs u l t) (o .1) rest)
+      (accepts (open-record r) (planned-state (s .plan)) refl (opens-as-new r s (o .0))) (subst (λ (u : State). Runs A rs u l t) (o .1) rest)
 
   sixteen-step : (r : Record) (s t : State) (a : Answer) → a ≡ refused 16 → Steps A r s a t → Unexplained A r s t
   sixteen-step _ _ _ _ d (refuses r s e) = absurd (not-sixteen r s cc)
@@ -97,8 +94,7 @@ module _ (A : Arithmetic) where
 
   pub sixteen-exactly : Sixteen-exactly A
   unfolding Sixteen-exactly
-  sixteen-exactly r s t =
-      (sixteen-step r s t (refused 16) refl, λ u. rw (u .finish, u .unchanged) (disagrees s (u .enough) (u .no-choice)))
+  sixteen-exactly r s t = (sixteen-step r s t (refused 16) refl, λ u. rw (u .finish, u .unchanged) (disagrees s (u .enough) (u .no-choice)))
 
   answered : (r : Record) (s t : State) (a : Answer) → Well A s → Steps A r s a t → Answered A r s
   answered r s t a w h = record { answer = a; state = t; step = h; well = steps-well A r s t a w h }
@@ -111,8 +107,7 @@ module _ (A : Arithmetic) where
     one-total : (s : State) (f g : (block : ℕ) → List ℕ) → Well A s → refusal A finish-record s ≡ 0
         → explained-by A s f ≡ true → explained-by A s g ≡ true → totals-by A s f ≡ totals-by A s g
     unfolding explained-by totals-by One-choice
-    one-total s f g w e h l =
-        totals-same A (s .plan) (values (s .replies)) (s .survivors) (values (s .firsts)) f g
+    one-total s f g w e h l = totals-same A (s .plan) (values (s .replies)) (s .survivors) (values (s .firsts)) f g
         (one-choice A (s .plan) (laws-here s w e) (replied s) (values (s .replies)) f g (finishing A s e .many) h l)
 
     pub one-answer : One-answer A
@@ -136,8 +131,7 @@ module _ (A : Arithmetic) where
 
     finished : (s : State) → Well A s → refusal A finish-record s ≡ 0 → Answered A finish-record s
     unfolding explained-by
-    finished s w e =
-        ⊎-elim (λ c. answered _ s _ _ w (totals-up s (c .choice) e (c .right))) (λ h. answered _ s _ _ w (disagrees s e h))
+    finished s w e = ⊎-elim (λ c. answered _ s _ _ w (totals-up s (c .choice) e (c .right))) (λ h. answered _ s _ _ w (disagrees s e h))
         (decided A (s .plan) (values (s .replies)) (laws-here s w e) (w .replies-small) (replied s) (finishing A s e .many))
 
     pub always-answers : Always-answers A

@@ -73,11 +73,9 @@ module _ (A : Arithmetic) (p : Plan) (L : Laws A (p .users) (p .threshold)) (r :
 
   columns-right : (k : ℕ) → In k rs → value K row col (span (p .threshold) 1) k columns ≡ el (y k)
   unfolding columns rest solved
-  columns-right k m =
-      ap (λ (n : ℕ). value K row col (span n 1) k columns) one-fewer
+  columns-right k m = ap (λ (n : ℕ). value K row col (span n 1) k columns) one-fewer
       ∙ ap (K .add (K .mul (coefficient K row col k 1) (el c)))
-      (field-sum-same K solved _ _ (λ j h. rw (ne-eqb j 1 (λ e. omega (arith, column-in j h .0)))) ∙ solves system rest k m)
-      ∙ add-sub K _ _
+      (field-sum-same K solved _ _ (λ j h. rw (ne-eqb j 1 (λ e. omega (arith, column-in j h .0)))) ∙ solves system rest k m) ∙ add-sub K _ _
 
   ws : List ℕ
   ws = map (λ j. val (columns j)) (span (p .threshold) 1)
@@ -89,24 +87,19 @@ module _ (A : Arithmetic) (p : Plan) (L : Laws A (p .users) (p .threshold)) (r :
       map-span-at (λ j. val (columns j)) (p .threshold) 1 (j - 1) (omega arith) ∙ ap (λ (j : ℕ). val (columns j)) e
 
   ws-right : ((k : ℕ) → y k < A .size) → (k : ℕ) → In k rs → row-value A (p .threshold) k (unknown ws) ≡ y k
-  ws-right small k m =
-      el-same A _ _ L (row-value-small A _ _ L (p .threshold) k (unknown ws)) (small k)
-      (row-value-el A _ _ L (p .threshold) k (unknown ws) (user k m) (omega arith)
-      ∙ field-sum-same K (span (p .threshold) 1) _ _ (λ j h.
+  ws-right small k m = el-same A _ _ L (row-value-small A _ _ L (p .threshold) k (unknown ws)) (small k)
+      (row-value-el A _ _ L (p .threshold) k (unknown ws) (user k m) (omega arith) ∙ field-sum-same K (span (p .threshold) 1) _ _ (λ j h.
       let s = span-in (p .threshold) 1 j h in
-      ap (K .mul (coefficient K row col k j)) (ap el (ws-at j (s .0) (omega (arith, s .1))) ∙ L .el-val (columns j)))
-      ∙ columns-right k m)
+      ap (K .mul (coefficient K row col k j)) (ap el (ws-at j (s .0) (omega (arith, s .1))) ∙ L .el-val (columns j))) ∙ columns-right k m)
 
 pub sums-open : (A : Arithmetic) (p : Plan) → Laws A (p .users) (p .threshold) → Sums-open A p
 unfolding Sums-open explains ws rs columns
-sums-open A p L r y c fewer small h =
-    record {
-      unknowns = ws A p L r y c fewer;
-      right =
-          joined (joined (eq-eqb _ _ (map-span-length _ (p .threshold) 1)) (elements-map A _ (span (p .threshold) 1) (λ j m. L .val-small _)))
-          (at-all-of _ (users-in p r) (λ a i. eq-eqb _ _ (ws-right A p L r y c fewer small _ (in-at (users-in p r) a i))));
-      first-sum = ws-at A p L r y c fewer 1 (omega arith) (omega arith) ∙ L .val-el c h;
-    }
+sums-open A p L r y c fewer small h = record {
+  unknowns = ws A p L r y c fewer;
+  right = joined (joined (eq-eqb _ _ (map-span-length _ (p .threshold) 1)) (elements-map A _ (span (p .threshold) 1) (λ j m. L .val-small _)))
+      (at-all-of _ (users-in p r) (λ a i. eq-eqb _ _ (ws-right A p L r y c fewer small _ (in-at (users-in p r) a i))));
+  first-sum = ws-at A p L r y c fewer 1 (omega arith) (omega arith) ∙ L .val-el c h;
+}
 
 pub sums-open-sixteen : (p : Plan) → plan-good p ≡ true → Sums-open sixteen p
 sums-open-sixteen p h = sums-open sixteen p (sixteen-laws p h)

@@ -86,13 +86,11 @@ pub record Enough (p : Plan) (rs : List ℕ) : Type 0 where
 
 pub enough : (p : Plan) (r : ℕ) → p .threshold ≤ ones (p .users) r → Enough p (users-in p r)
 unfolding users-in
-enough p r h =
-    record {
-      once = members-once (in-set r) (p .users) 1;
-      inside = λ k m. let s = users-in-in p r k m in (s .0, s .1);
-      many = omega
-          (arith, users-in-size p r);
-    }
+enough p r h = record {
+  once = members-once (in-set r) (p .users) 1;
+  inside = λ k m. let s = users-in-in p r k m in (s .0, s .1);
+  many = omega (arith, users-in-size p r);
+}
 
 -- ---- unknowns that explain the values of the first n rows of a list
 abbrev pub unknown : List ℕ → (j : ℕ) → ℕ
@@ -116,8 +114,7 @@ module _ (A : Arithmetic) (p : Plan) where
   pub explained-back : (r : ℕ) (y : (k block : ℕ) → ℕ) (f : (block : ℕ) → List ℕ)
       → ((b : ℕ) → b < p .blocks → Explained A p (users-in p r) (length (users-in p r)) (λ k. y k b) (f b)) → explains-all A p r y f ≡ true
   unfolding explains-all explains
-  explained-back r y f h =
-      at-all-of _ (span (p .blocks) 0) (λ a i.
+  explained-back r y f h = at-all-of _ (span (p .blocks) 0) (λ a i.
       let e = h (getD (span (p .blocks) 0) a 0) (omega (arith, span-in (p .blocks) 0 _ (in-at (span (p .blocks) 0) a i) .1)) in
       joined (joined (eq-eqb _ _ (e .long)) (e .small)) (at-all-of _ (users-in p r) (λ a i. eq-eqb _ _ (e .fits a i))))
 
@@ -133,8 +130,7 @@ module _ (A : Arithmetic) (p : Plan) where
         sum-same A (span (p .threshold) 1) _ _ (λ j m.
         let s = span-in (p .threshold) 1 j m in
         let e : 1 + (j - 1) ≡ j = omega (arith, s .0) in
-        ap (A .multiply (A .coefficient _ j)) (map-span-at f (p .threshold) 1 (j - 1) (omega (arith, s .0, s .1)) ∙ ap f e))
-        ∙ h a i;
+        ap (A .multiply (A .coefficient _ j)) (map-span-at f (p .threshold) 1 (j - 1) (omega (arith, s .0, s .1)) ∙ ap f e)) ∙ h a i;
   }
 
 module _ (A : Arithmetic) (p : Plan) (L : Laws A (p .users) (p .threshold)) where
@@ -167,21 +163,18 @@ module _ (A : Arithmetic) (p : Plan) (L : Laws A (p .users) (p .threshold)) wher
   pub columns-known : (rs : List ℕ) → Enough p rs → (f g : (j : ℕ) → ℕ)
       → ((a : ℕ) → a < p .threshold → row-value A (p .threshold) (getD rs a 0) f ≡ row-value A (p .threshold) (getD rs a 0) g)
       → (j : ℕ) → 1 ≤ j → j ≤ p .threshold → el (f j) ≡ el (g j)
-  columns-known rs e f g h j lo hi =
-      unique (system rs e) (λ j. el (f j)) (λ j. el (g j)) (λ a m.
+  columns-known rs e f g h j lo hi = unique (system rs e) (λ j. el (f j)) (λ j. el (g j)) (λ a m.
       let i : a < p .threshold = omega (arith, span-in (p .threshold) 0 a m .1) in
       sym (row-el rs e a i f) ∙ ap el (h a i) ∙ row-el rs e a i g) j (in-span (p .threshold) 1 j lo (omega arith))
 
   pub one-explained : (rs : List ℕ) → Enough p rs → (y : (k : ℕ) → ℕ) (n m : ℕ) (w v : List ℕ) → p .threshold ≤ n → p .threshold ≤ m
       → Explained A p rs n y w → Explained A p rs m y v → w ≡ v
-  one-explained rs e y n m w v hn hm g h =
-      ext-getD 0 w v (g .long ∙ sym (h .long)) (λ i l.
+  one-explained rs e y n m w v hn hm g h = ext-getD 0 w v (g .long ∙ sym (h .long)) (λ i l.
       let s : suc i - 1 ≡ i = omega arith in
       el-same A _ _ L (elements-at A (zero-small A _ _ L) w i (g .small)) (elements-at A (zero-small A _ _ L) v i (h .small))
       (ap (λ (a : ℕ). el (getD w a 0)) (sym s)
       ∙ columns-known rs e (unknown w) (unknown v) (λ a m. g .fits a (omega arith) ∙ sym (h .fits a (omega arith))) (suc i) (omega arith)
-      (omega (arith, g .long))
-      ∙ ap (λ (a : ℕ). el (getD v a 0)) s))
+      (omega (arith, g .long)) ∙ ap (λ (a : ℕ). el (getD v a 0)) s))
 
   pub one-choice : One-choice A p
   unfolding One-choice
@@ -207,8 +200,7 @@ module _ (A : Arithmetic) (p : Plan) (L : Laws A (p .users) (p .threshold)) wher
       solved b j = val (solution K (λ a. row (getD rs a 0)) col (span (p .threshold) 0) (span (p .threshold) 1) (λ a. el (y (getD rs a 0) b)) j)
 
       right : (b : ℕ) → Explained A p rs (length rs) (λ k. y k b) (map (solved b) (span (p .threshold) 1))
-      right b =
-          explained-columns A p rs (λ k. y k b) (solved b) (λ j. L .val-small _) (λ a m.
+      right b = explained-columns A p rs (λ k. y k b) (solved b) (λ j. L .val-small _) (λ a m.
           let e = enough p r (omega arith) in
           let i : a < p .threshold = omega (arith, users-in-size p r) in
           el-same A _ _ L (row-value-small A _ _ L (p .threshold) (getD rs a 0) (solved b)) (small (getD rs a 0) b)
@@ -229,8 +221,7 @@ module _ (A : Arithmetic) (p : Plan) (L : Laws A (p .users) (p .threshold)) wher
   unfolding Rules-explain share shares
   rules-explain xs x v r firsts replies ok u rules = record {
     choice = λ b. map (column A p xs v b) (span (p .threshold) 1);
-    right =
-        explained-back A p r replies _ (λ b i.
+    right = explained-back A p r replies _ (λ b i.
         explained-columns A p (users-in p r) (λ k. replies k b) (column A p xs v b) (λ j. column-small xs v b j (list-elements A p xs ok)) (λ a m.
         let k = getD (users-in p r) a 0 in
         let s = users-in-in p r k (in-at (users-in p r) a m) in
@@ -267,8 +258,7 @@ module _ (A : Arithmetic) (p : Plan) (L : Laws A (p .users) (p .threshold)) wher
         (L .el-subtract _ _
         ∙ ap₂ (sub K)
         (sum-el A _ _ L l _ ∙ field-sum-same K l _ _ (λ k m. L .el-add _ _) ∙ sum-add K l (λ k. el (getD (x k) i 0)) (λ k. el (mask p xs k i)))
-        (sum-el A _ _ L l (λ k. mask p xs k i))
-        ∙ sub-is K (K .add-comm _ _) ∙ sym (sum-el A _ _ L l (λ k. getD (x k) i 0)))
+        (sum-el A _ _ L l (λ k. mask p xs k i)) ∙ sub-is K (K .add-comm _ _) ∙ sym (sum-el A _ _ L l (λ k. getD (x k) i 0)))
 
   pub totals-right : Totals-right A p
   unfolding Totals-right totals

@@ -71,14 +71,13 @@ module _ (A : Arithmetic) where
   quiet : (g : Phase) (p : Plan) (r : ℕ) → 0 < A .size → (has-plan g ≡ true → plan-good p ≡ true) → is-replying g ≡ false
       → Well A (record { phase = g; plan = p; round = r; survivors = 0; firsts = nothing; replies = nothing })
   unfolding is-held element-of
-  quiet g p r some ok e =
-      record {
-        good = ok;
-        firsts-small = λ k i. some;
-        replies-small = λ k b. some;
-        replies-own = λ k b h. absurd (holds h);
-        survive = λ h. absurd (holds (sym e ∙ h));
-      }
+  quiet g p r some ok e = record {
+    good = ok;
+    firsts-small = λ k i. some;
+    replies-small = λ k b. some;
+    replies-own = λ k b h. absurd (holds h);
+    survive = λ h. absurd (holds (sym e ∙ h));
+  }
 
   pub new-well : 0 < A .size → Well A new-state
   unfolding new-state has-plan is-replying
@@ -95,14 +94,13 @@ module _ (A : Arithmetic) where
   unfolding refusal next-state planned-state opened-state is-finish is-replying has-plan is-held element-of gathered usable
   next-well (plan-record p) s w f e = quiet _ p 0 (some-element s w) (λ h. unless-zero _ _ (then-zero _ _ e .1)) refl
   next-well (open-record r) s w f e = quiet _ (s .plan) r (some-element s w) (λ h. w .good (plan-here _ (then-zero _ _ e .0))) refl
-  next-well (first-record k i x) s w f e =
-      record {
-        good = w .good;
-        firsts-small = with-small k i x (s .firsts) (A .size) (fits A _ _ _ _ _ (then-zero _ _ (then-zero _ _ e .1) .0) .small) (w .firsts-small);
-        replies-small = w .replies-small;
-        replies-own = w .replies-own;
-        survive = w .survive;
-      }
+  next-well (first-record k i x) s w f e = record {
+    good = w .good;
+    firsts-small = with-small k i x (s .firsts) (A .size) (fits A _ _ _ _ _ (then-zero _ _ (then-zero _ _ e .1) .0) .small) (w .firsts-small);
+    replies-small = w .replies-small;
+    replies-own = w .replies-own;
+    survive = w .survive;
+  }
   next-well close-record s w f e =
       let a = then-zero _ _ e in
       record {

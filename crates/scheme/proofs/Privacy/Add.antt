@@ -41,8 +41,7 @@ module _ (K : Field) (row col : ℕ → Field.F K) (cs : List ℕ) (k : ℕ) whe
 rows-each : (f : ℕ → ℕ → ℕ) (m : ℕ) (s t : ℕ → List ℕ) → ((v : ℕ) → length (s v) ≡ m) → ((v : ℕ) → length (t v) ≡ m) → (l : List ℕ)
     → rows (λ v. each f m (s v) (t v)) l ≡ each f (length l * m) (rows s l) (rows t l)
 rows-each f m s t hs ht [] = rw zero-mul
-rows-each f m s t hs ht (v ∷ l) =
-    ap₂ _++_ (ap (λ (n : ℕ). each f n (s v) (t v)) (sym (hs v))) (rows-each f m s t hs ht l)
+rows-each f m s t hs ht (v ∷ l) = ap₂ _++_ (ap (λ (n : ℕ). each f n (s v) (t v)) (sym (hs v))) (rows-each f m s t hs ht l)
     ∙ sym (each-append f (length l * m) (s v) (t v) (rows s l) (rows t l) (hs v ∙ sym (ht v)))
     ∙ ap (λ (n : ℕ). each f n (s v ++ rows s l) (t v ++ rows t l)) (ap (λ (n : ℕ). n + length l * m) (hs v) ∙ sum-is)
   where
@@ -74,13 +73,10 @@ module _ (A : Arithmetic) (p : Plan) (L : Laws A (p .users) (p .threshold)) (xs 
       at = b * items p + (j - 1)
 
       pick : Dec (j ≤ items p) → el (column A p plus v b j) ≡ el (column A p xs v b j) ⊕ el (column A p ys v b j)
-      pick (yes l) =
-          rw (le-leb j (items p) l)
-          (sum-el A _ _ L (users-in p v) (λ k. mask p plus k at)
-          ∙ sum-same K (users-in p v) _ _ (λ k i.
+      pick (yes l) = rw (le-leb j (items p) l)
+          (sum-el A _ _ L (users-in p v) (λ k. mask p plus k at) ∙ sum-same K (users-in p v) _ _ (λ k i.
           let s = users-in-in p v k i in
-          ap el (mask-add k at (s .0) (s .1) (place-lt p b j h lo l)) ∙ L .el-add (mask p xs k at) (mask p ys k at))
-          ∙ sum-add K (users-in p v) _ _
+          ap el (mask-add k at (s .0) (s .1) (place-lt p b j h lo l)) ∙ L .el-add (mask p xs k at) (mask p ys k at)) ∙ sum-add K (users-in p v) _ _
           ∙ ap₂ (λ a b. a ⊕ b) (sym (sum-el A _ _ L (users-in p v) (λ k. mask p xs k at))) (sym (sum-el A _ _ L (users-in p v) (λ k. mask p ys k at))))
       pick (no l) =
           let i : ℕ = j - suc (items p) in
@@ -103,16 +99,14 @@ module _ (A : Arithmetic) (p : Plan) (L : Laws A (p .users) (p .threshold)) (xs 
       ∙ sym (L .el-add (row-value A n k (column A p xs v b)) (row-value A n k (column A p ys v b))))
 
   map-each : (g h : ℕ → ℕ) (n : ℕ) → map (λ i. A .add (g i) (h i)) (span n 0) ≡ each (A .add) n (map g (span n 0)) (map h (span n 0))
-  map-each g h n =
-      map-same _ _ (span n 0) (λ i m.
+  map-each g h n = map-same _ _ (span n 0) (λ i m.
       let s = span-in n 0 i m in
       let l : i < n = omega (arith, s .1) in
       sym (ap₂ (A .add) (map-span-at g n 0 i l ∙ ap g (zero-add i)) (map-span-at h n 0 i l ∙ ap h (zero-add i))))
 
   key-plus : (k : ℕ) → 1 ≤ k → k ≤ p .users → key A p plus k ≡ each (A .add) (key-length p k) (key A p xs k) (key A p ys k)
   unfolding key key-length sets-with usable-with shares
-  key-plus k lo hi =
-      ap₂ _++_
+  key-plus k lo hi = ap₂ _++_
       (map-same _ _ (span (places p) 0) (λ i m. mask-add k i lo hi (omega (arith, span-in (places p) 0 i m .1)))
       ∙ map-each (mask p xs k) (mask p ys k) (places p))
       (rows-same (shares A p plus k) (λ v. each (A .add) (p .blocks) (shares A p xs k v) (shares A p ys k v)) (sets-with p k) (λ v m.

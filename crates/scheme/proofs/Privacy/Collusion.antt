@@ -121,8 +121,7 @@ module _ (p : Plan) (ok : plan-good p ≡ true) where
           (λ k m. user-same k i (λ d. omega (arith, d, g .users-low, first-out (p .users - 1) k (users-in-in p (first (p .users - 1)) k m .2))));
     };
     no-matching = λ m.
-        let settled =
-        last-total sixteen p L (first (p .users - 1)) (first (p .collusion + 1)) (table 0) (table 1) (zeros p) (m .partner (zeros p))
+        let settled = last-total sixteen p L (first (p .users - 1)) (first (p .collusion + 1)) (table 0) (table 1) (zeros p) (m .partner (zeros p))
         (m .same (zeros p) (zeros-good sixteen p L))
         (first-size (p .users) (p .collusion + 1) (omega (arith, g .collusion-high, g .threshold-high))) (g .collusion-high) (first (p .users)) 0
         (first-usable p (p .users) (omega arith) (omega (arith, g .threshold-high)))

@@ -40,11 +40,9 @@ module _ (p : Plan) (c : ℕ) (more : p .collusion ≤ p .threshold) (few : ones
 -- the solution of a system whose right-hand sides are all zero
 solution-zero : (K : Field) (row col : ℕ → K .F) (rs cs : List ℕ) (f : ℕ → K .F) → ((k : ℕ) → In k rs → f k ≡ K .𝟘) → (i : ℕ) →
     solution K row col rs cs f i ≡ K .𝟘
-solution-zero K row col rs cs f h i =
-    ap (K .mul (weight K col row cs rs i))
+solution-zero K row col rs cs f h i = ap (K .mul (weight K col row cs rs i))
     (sum-zero K rs _ (λ k m. ap (λ x. K .mul (coefficient K row col k i) (K .mul (weight K row col rs cs k) x)) (h k m)
-    ∙ ap (K .mul (coefficient K row col k i)) (mul-zero K _) ∙ mul-zero K _))
-    ∙ mul-zero K _
+    ∙ ap (K .mul (coefficient K row col k i)) (mul-zero K _) ∙ mul-zero K _)) ∙ mul-zero K _
 
 module _ (A : Arithmetic) (p : Plan) (L : Laws A (p .users) (p .threshold)) (c : ℕ) (d : (k place : ℕ) → L .K .F) (e : (set block item : ℕ) → L .K .F)
     (more : p .collusion ≤ p .threshold) (few : ones (p .users) c ≤ p .collusion) where
@@ -92,16 +90,14 @@ module _ (A : Arithmetic) (p : Plan) (L : Laws A (p .users) (p .threshold)) (c :
     -- a colluder in the set sees nothing of the columns' move
     pub shift-hidden : (k : ℕ) → In k (colluders-in p c w) → value K row col (span (p .threshold) 1) k (shift A p L c d e w b) ≡ 𝟘
     unfolding n cs solved rest
-    shift-hidden k m =
-        ap (λ (l : List ℕ). value K row col l k (shift A p L c d e w b))
+    shift-hidden k m = ap (λ (l : List ℕ). value K row col l k (shift A p L c d e w b))
         (ap (λ (i : ℕ). span i 1) (sym (kept-whole p c more few w)) ∙ span-append n (length cs) 1)
         ∙ sum-append K (span n 1) (span (length cs) (1 + n)) _
         ∙ ap₂ (λ x y. x ⊕ y)
         (sum-same K (span n 1) _ _ (λ j h. ap (K .mul (coefficient K row col k j)) (shift-unsolved j (omega (arith, span-in n 1 j h .1)))))
         (ap (λ (i : ℕ). value K row col (span (length cs) i) k (shift A p L c d e w b)) one
         ∙ sum-same K solved _ _ (λ j h. ap (K .mul (coefficient K row col k j)) (shift-solved j (omega (arith, span-in (length cs) (suc n) j h .0))))
-        ∙ solves system rest k m)
-        ∙ K .add-neg _
+        ∙ solves system rest k m) ∙ K .add-neg _
       where
         one : 1 + kept p c w ≡ suc (kept p c w)
         one = omega arith
@@ -113,8 +109,7 @@ module _ (A : Arithmetic) (p : Plan) (L : Laws A (p .users) (p .threshold)) (c :
       where
         pick : Dec (j ≤ kept p c w) → shift A p L c d e w b j ≡ 𝟘
         pick (yes h) = shift-unsolved j h ∙ z j lo
-        pick (no h) =
-            shift-solved j (omega arith)
+        pick (no h) = shift-solved j (omega arith)
             ∙ solution-zero K row col cs solved rest
             (λ k m. ap neg (value-zero K row col (span n 1) k (unsolved A p L c d e w b) (λ i l. z i (span-in n 1 i l .0))) ∙ sym (zero-add K (neg 𝟘))
             ∙ K .add-neg 𝟘) j

@@ -25,8 +25,7 @@ bit-zero m = ap (λ (n : ℕ). first (suc m) / n % 2) (pow-zero 2) ∙ ap (λ (n
 
 bit-suc : (m i : ℕ) → first (suc m) / 2 ^ suc i % 2 ≡ first m / 2 ^ i % 2
 unfolding first
-bit-suc m i =
-    ap (λ (n : ℕ). first (suc m) / n % 2) (pow-suc 2 i ∙ mul-comm (2 ^ i) 2)
+bit-suc m i = ap (λ (n : ℕ). first (suc m) / n % 2) (pow-suc 2 i ∙ mul-comm (2 ^ i) 2)
     ∙ ap (λ (n : ℕ). n % 2) (sym (div-div-eq-div-mul (first (suc m)) 2 (2 ^ i)) ∙ ap (λ (n : ℕ). n / 2 ^ i) (high (first m) 1 2 (omega arith)))
 
 bit-in : (m i : ℕ) → i < m → first m / 2 ^ i % 2 ≡ 1

@@ -42,14 +42,11 @@ module _ (A : Arithmetic) (p : Plan) (L : Laws A (p .users) (p .threshold)) (v c
 
   masked-same : (k i : ℕ) → 1 ≤ k → k ≤ p .users → i < places p → el (getD (x k) i 0) ⊕ el (mask p xs k i) ≡ el (getD (y k) i 0) ⊕ el (mask p ys k i)
   unfolding shown
-  masked-same k i lo hi h =
-      sym (L .el-add _ _)
+  masked-same k i lo hi h = sym (L .el-add _ _)
       ∙ ap el (sym (read-first xs x k i h)
       ∙ ap (λ (l : List ℕ). getD l i 0)
       (map-back (λ k. first-message A p (key A p xs k) (x k)) (λ k. first-message A p (key A p ys k) (y k)) (span (p .users) 1)
-      (ap (λ (s : Shown). s .firsts) same) k (in-span (p .users) 1 k lo (omega arith)))
-      ∙ read-first ys y k i h)
-      ∙ L .el-add _ _
+      (ap (λ (s : Shown). s .firsts) same) k (in-span (p .users) 1 k lo (omega arith))) ∙ read-first ys y k i h) ∙ L .el-add _ _
 
   masks : (zs : List ℕ) (w i : ℕ) → ℕ
   masks zs w i = sum A (users-in p w) (λ k. mask p zs k i)
@@ -57,8 +54,7 @@ module _ (A : Arithmetic) (p : Plan) (L : Laws A (p .users) (p .threshold)) (v c
   spread : (z : Table) (zs : List ℕ) (w i : ℕ) →
       el (total-at A p z w i) ⊕ el (masks zs w i) ≡ field-sum K (users-in p w) (λ k. el (getD (z k) i 0) ⊕ el (mask p zs k i))
   unfolding total-at masks
-  spread z zs w i =
-      ap₂ _⊕_ (sum-el A _ _ L (users-in p w) (λ k. getD (z k) i 0)) (sum-el A _ _ L (users-in p w) (λ k. mask p zs k i))
+  spread z zs w i = ap₂ _⊕_ (sum-el A _ _ L (users-in p w) (λ k. getD (z k) i 0)) (sum-el A _ _ L (users-in p w) (λ k. mask p zs k i))
       ∙ sym (sum-add K (users-in p w) _ _)
 
   sums-same : (w i : ℕ) → i < places p → el (total-at A p x w i) ⊕ el (masks xs w i) ≡ el (total-at A p y w i) ⊕ el (masks ys w i)
@@ -81,8 +77,7 @@ module _ (A : Arithmetic) (p : Plan) (L : Laws A (p .users) (p .threshold)) (v c
       (add-cancel K (el (mask p xs k i))
       (add-comm K _ _ ∙ masked-same k i (s .0) (s .1) h
       ∙ ap (λ (n : ℕ). el (getD (y k) i 0) ⊕ el n)
-      (sym (key-mask A p ys k i h) ∙ ap (λ (l : List ℕ). getD l i 0) (sym (key-same k m)) ∙ key-mask A p xs k i h)
-      ∙ add-comm K _ _)))
+      (sym (key-mask A p ys k i h) ∙ ap (λ (l : List ℕ). getD l i 0) (sym (key-same k m)) ∙ key-mask A p xs k i h) ∙ add-comm K _ _)))
 
   -- ---- T + 1 colluders in a usable set, at a block
   module _ (more : ones (p .users) c ≡ p .collusion + 1) (few : p .collusion < p .threshold) (w b : ℕ) (u : usable p w ≡ true)
@@ -140,36 +135,30 @@ module _ (A : Arithmetic) (p : Plan) (L : Laws A (p .users) (p .threshold)) (v c
     unfolding share shares
     share-value zs k m =
         ap el (ap (λ (l : List ℕ). getD l b 0) (key-reply A p zs k w u (inside k m)) ∙ map-span-at (share A p zs k w) (p .blocks) 0 b h
-        ∙ ap (share A p zs k w) (zero-add b))
-        ∙ row-value-el A _ _ L (p .threshold) k (column A p zs w b) (user k m) (omega arith)
+        ∙ ap (share A p zs k w) (zero-add b)) ∙ row-value-el A _ _ L (p .threshold) k (column A p zs w b) (user k m) (omega arith)
 
     pub last-total : ((j : ℕ) → 1 ≤ j → j < items p → total-at A p x w (place j) ≡ total-at A p y w (place j)) →
         total-at A p x w (place (items p)) ≡ total-at A p y w (place (items p))
     unfolding before items total-at solved
-    last-total others =
-        el-same A _ _ L (sum-small A _ _ L (users-in p w) _) (sum-small A _ _ L (users-in p w) _)
+    last-total others = el-same A _ _ L (sum-small A _ _ L (users-in p w) _) (sum-small A _ _ L (users-in p w) _)
         (add-cancel K (el (masks xs w (place (items p))))
         (add-comm K _ _ ∙ sums-same w (place (items p)) (place-lt p b (items p) h (omega arith) (omega arith))
         ∙ ap (λ t. el (total-at A p y w (place (items p))) ⊕ t)
-        (sym (sum-cell ys (items p) (omega arith)) ∙ sym settled ∙ sum-cell xs (items p) (omega arith))
-        ∙ add-comm K _ _))
+        (sym (sum-cell ys (items p) (omega arith)) ∙ sym settled ∙ sum-cell xs (items p) (omega arith)) ∙ add-comm K _ _))
       where
         low-cell : (j : ℕ) → 1 ≤ j → j < items p → cells xs j ≡ cells ys j
-        low-cell j lo hi =
-            sum-cell xs j (omega arith)
+        low-cell j lo hi = sum-cell xs j (omega arith)
             ∙ add-cancel K (el (total-at A p x w (place j)))
             (sums-same w (place j) (place-lt p b j h lo (omega arith)) ∙ ap (λ (n : ℕ). el n ⊕ el (masks ys w (place j))) (sym (others j lo hi)))
             ∙ sym (sum-cell ys j (omega arith))
 
         before-same : (k : ℕ) → before k (cells xs) ≡ before k (cells ys)
-        before-same k =
-            field-sum-same K (span (items p - 1) 1) _ _ (λ j m.
+        before-same k = field-sum-same K (span (items p - 1) 1) _ _ (λ j m.
             let s = span-in (items p - 1) 1 j m in
             ap (K .mul _) (low-cell j (s .0) (omega (arith, s .1))))
 
         settled : cells xs (items p) ≡ cells ys (items p)
-        settled =
-            unique system (cells xs) (cells ys) (λ k m.
+        settled = unique system (cells xs) (cells ys) (λ k m.
             add-cancel K (before k (cells xs))
             (sym (split k (cells xs)) ∙ sym (share-value xs k m) ∙ ap (λ (l : List ℕ). el (getD (reply p l k w) b 0)) (key-same k m) ∙ share-value ys k m
             ∙ split k (cells ys) ∙ ap (λ t. t ⊕ value K row col solved k (cells ys)) (sym (before-same k)))) (items p)

@@ -51,11 +51,9 @@ module _ (A : Arithmetic) (p : Plan) (L : Laws A (p .users) (p .threshold)) (v c
   pub totals-told : (xs ys : List ℕ) → list-good A p xs ≡ true → list-good A p ys ≡ true → shown A p v c xs x ≡ shown A p v c ys y
       → (i : ℕ) → i < places p → total-at A p x v i ≡ total-at A p y v i
   unfolding shown Totals-right Rules-explain
-  totals-told xs ys ok good same i h =
-      sym (at x) ∙ ap (λ (l : List ℕ). getD l i 0)
+  totals-told xs ys ok good same i h = sym (at x) ∙ ap (λ (l : List ℕ). getD l i 0)
       (sym (totals-right A p L xs x v v firsts replies (found .choice) ok ax u (usable-size p v u) first (found .right))
-      ∙ totals-right A p L ys y v v firsts replies (found .choice) good ay u (usable-size p v u) second (found .right))
-      ∙ at y
+      ∙ totals-right A p L ys y v v firsts replies (found .choice) good ay u (usable-size p v u) second (found .right)) ∙ at y
     where
       firsts : (k place : ℕ) → ℕ
       firsts k i = getD (first-message A p (key A p xs k) (x k)) i 0

@@ -84,27 +84,23 @@ module _ (A : Arithmetic) (p : Plan) (L : Laws A (p .users) (p .threshold)) wher
         i = b * items p + (j - 1)
 
         pick : Dec (j ≤ items p) → unsolved A p L c d e v b j ≡ 𝟘
-        pick (yes l) =
-            rw (le-leb j (items p) l)
+        pick (yes l) = rw (le-leb j (items p) l)
             (sum-sub K (users-in p v) (λ k. el (getD (x k) i 0)) (λ k. el (getD (y k) i 0))
             ∙ ap (λ a. sub K a (field-sum K (users-in p v) (λ k. el (getD (y k) i 0))))
             (sym (sum-el A _ _ L (users-in p v) (λ k. getD (x k) i 0)) ∙ ap el (al .totals i (place-lt p b j h lo l))
-            ∙ sum-el A _ _ L (users-in p v) (λ k. getD (y k) i 0))
-            ∙ sub-is K (K .add-zero _))
+            ∙ sum-el A _ _ L (users-in p v) (λ k. getD (y k) i 0)) ∙ sub-is K (K .add-zero _))
         pick (no l) = let s : items p < j = omega arith in rw (lt-leb j (items p) s)
 
     -- a share to V, and one of a colluder, does not move
     reply-zero : (k b : ℕ) → 1 ≤ k → k ≤ p .users → b < p .blocks → share A p Δ k v b ≡ 0
     unfolding Δ table-delta d e
-    reply-zero k b lo hi h =
-        delta-share A p L c d e more few k v b lo hi u h
+    reply-zero k b lo hi h = delta-share A p L c d e more few k v b lo hi u h
         (value-zero K row col (span (p .threshold) 1) k (shift A p L c d e v b)
         (λ j m. shift-zero A p L c d e more few v b (λ j. unsolved-zero b j h) j (span-in (p .threshold) 1 j m .0)))
 
     colluder-zero : (k w b : ℕ) → 1 ≤ k → k ≤ p .users → in-set c k ≡ true → usable p w ≡ true → in-set w k ≡ true → b < p .blocks → share A p Δ k w b ≡ 0
     unfolding Δ table-delta d e colluders-in
-    colluder-zero k w b lo hi own r i h =
-        delta-share A p L c d e more few k w b lo hi r h
+    colluder-zero k w b lo hi own r i h = delta-share A p L c d e more few k w b lo hi r h
         (shift-hidden A p L c d e more few w b k (in-members (λ k. in-set c k && in-set w k) (p .users) 1 k lo (omega arith) (joined own i)))
 
     module _ (xs : List ℕ) (ok : list-good A p xs ≡ true) where
@@ -119,8 +115,7 @@ module _ (A : Arithmetic) (p : Plan) (L : Laws A (p .users) (p .threshold)) wher
 
       first-same : (k : ℕ) → 1 ≤ k → k ≤ p .users → first-message A p (key A p xs k) (x k) ≡ first-message A p (key A p ys k) (y k)
       unfolding first-message d difference
-      first-same k lo hi =
-          map-same _ _ (span (places p) 0) (λ i m.
+      first-same k lo hi = map-same _ _ (span (places p) 0) (λ i m.
           let h : i < places p = omega (arith, span-in (places p) 0 i m .1) in
           let a : F = el (getD (x k) i 0) in
           let b : F = el (getD (y k) i 0) in
@@ -133,8 +128,7 @@ module _ (A : Arithmetic) (p : Plan) (L : Laws A (p .users) (p .threshold)) wher
       shares-same : (k w : ℕ) → 1 ≤ k → k ≤ p .users → usable p w ≡ true → ((b : ℕ) → b < p .blocks → share A p Δ k w b ≡ 0) →
           shares A p xs k w ≡ shares A p ys k w
       unfolding shares share ys partner Δ
-      shares-same k w lo hi r none =
-          map-same _ _ (span (p .blocks) 0) (λ b m.
+      shares-same k w lo hi r none = map-same _ _ (span (p .blocks) 0) (λ b m.
           let h : b < p .blocks = omega (arith, span-in (p .blocks) 0 b m .1) in
           sym (share-add A p L xs Δ k w b lo hi r h
           ∙ add-none (share A p xs k w b) (share A p Δ k w b) (row-value-small A _ _ L (p .threshold) k _) (ap el (none b h) ∙ L .el-zero)))
@@ -144,8 +138,7 @@ module _ (A : Arithmetic) (p : Plan) (L : Laws A (p .users) (p .threshold)) wher
 
       mask-same : (k i : ℕ) → 1 ≤ k → k ≤ p .users → in-set c k ≡ true → i < places p → mask p xs k i ≡ mask p ys k i
       unfolding mask d difference ys partner Δ
-      mask-same k i lo hi own h =
-          el-same A _ _ L (elements-at A z xs ((k - 1) * places p + i) (list-elements A p xs ok))
+      mask-same k i lo hi own h = el-same A _ _ L (elements-at A z xs ((k - 1) * places p + i) (list-elements A p xs ok))
           (elements-at A z ys ((k - 1) * places p + i) (list-elements A p ys (each-good A p (A .add) (L .add-small) xs Δ)))
           (sym (mask-moved k i lo hi h
           ∙ ap (λ a. el (mask p xs k i) ⊕ a)
@@ -162,16 +155,13 @@ module _ (A : Arithmetic) (p : Plan) (L : Laws A (p .users) (p .threshold)) wher
       pub shown-same : shown A p v c xs x ≡ shown A p v c (partner A p L c x y xs) y
       unfolding shown ys
       shown-same = λ i. record {
-        firsts =
-            map-same (λ k. first-message A p (key A p xs k) (x k)) (λ k. first-message A p (key A p ys k) (y k)) (span (p .users) 1) (λ k m.
+        firsts = map-same (λ k. first-message A p (key A p xs k) (x k)) (λ k. first-message A p (key A p ys k) (y k)) (span (p .users) 1) (λ k m.
             let s = span-in (p .users) 1 k m in
             first-same k (s .0) (omega (arith, s .1))) i;
-        replies =
-            map-same (λ k. reply p (key A p xs k) k v) (λ k. reply p (key A p ys k) k v) (users-in p v) (λ k m.
+        replies = map-same (λ k. reply p (key A p xs k) k v) (λ k. reply p (key A p ys k) k v) (users-in p v) (λ k m.
             let s = users-in-in p v k m in
             reply-same k (s .0) (s .1) (s .2)) i;
-        keys =
-            map-same (key A p xs) (key A p ys) (users-in p c) (λ k m.
+        keys = map-same (key A p xs) (key A p ys) (users-in p c) (λ k m.
             let s = users-in-in p c k m in
             key-same k (s .0) (s .1) (s .2)) i;
       }

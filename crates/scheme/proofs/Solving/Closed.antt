@@ -54,14 +54,12 @@ filled-factors f n cs h e = record { few = h; behind = λ i l. ap (λ (c : List 
 module _ (A : Arithmetic) where
   pub dot-same : (x : ℕ) (ps vs ws : List ℕ) (n : ℕ) → ((a : ℕ) → a < n → getD vs a 0 ≡ getD ws a 0) → dot-of A x ps vs n ≡ dot-of A x ps ws n
   unfolding dot-of
-  dot-same x ps vs ws n e =
-      sum-same A (span n 0) _ _ (λ i m. ap (λ (v : ℕ). A .multiply (A .coefficient x (getD ps i 0)) v) (e i (below n i m)))
+  dot-same x ps vs ws n e = sum-same A (span n 0) _ _ (λ i m. ap (λ (v : ℕ). A .multiply (A .coefficient x (getD ps i 0)) v) (e i (below n i m)))
 
   pub dot-row : (x : ℕ) (cs vs : List ℕ) (n : ℕ) → ((i : ℕ) → i < n → getD cs i 0 ≡ i + 1)
       → dot-of A x cs vs n ≡ row-value A n x (λ j. getD vs (j - 1) 0)
   unfolding dot-of row-value
-  dot-row x cs vs n columns =
-      sum-same A (span n 0) _ _ (λ i m.
+  dot-row x cs vs n columns = sum-same A (span n 0) _ _ (λ i m.
       let e : getD cs i 0 ≡ 1 + i = omega (arith, columns i (below n i m)) in
       let f : i ≡ 1 + i - 1 = omega arith in
       ap₂ (λ (c k : ℕ). A .multiply (A .coefficient x c) (getD vs k 0)) e f)
@@ -70,8 +68,7 @@ module _ (A : Arithmetic) where
   weighed-dot : (x : ℕ) (ps cs g : List ℕ) (n b : ℕ) → n ≤ most-users → cs ≡ filled most-users n (λ i. A .coefficient x (getD ps i 0))
       → weighed A cs n (λ i. cell g i b) ≡ dot-of A x ps (block g b) n
   unfolding weighed dot-of
-  weighed-dot x ps cs g n b h e =
-      sum-same A (span n 0) _ _ (λ i m.
+  weighed-dot x ps cs g n b h e = sum-same A (span n 0) _ _ (λ i m.
       let l = below n i m in
       ap₂ (A .multiply) (ap (λ (c : List ℕ). getD c i 0) e ∙ filled-at most-users _ n i l) (sym (block-at g b i (omega arith))))
 
@@ -94,8 +91,7 @@ module _ (A : Arithmetic) (L : Laws A most-users most-threshold) where
 
   -- summands that are 0 do not count
   add-none : A .add 0 0 ≡ 0
-  add-none =
-      el-same A most-users most-threshold L (L .add-small 0 0) (zero-small A most-users most-threshold L)
+  add-none = el-same A most-users most-threshold L (L .add-small 0 0) (zero-small A most-users most-threshold L)
       (L .el-add 0 0 ∙ ap (λ z. el 0 ⊕ z) (L .el-zero) ∙ K .add-zero (el 0))
 
   sum-none : (n k : ℕ) (f : ℕ → ℕ) → ((i : ℕ) → k ≤ i → f i ≡ 0) → sum A (span n k) f ≡ 0
@@ -116,9 +112,7 @@ module _ (A : Arithmetic) (L : Laws A most-users most-threshold) where
   dot-el : (x : ℕ) (ps vs : List ℕ) (n : ℕ) → (1 ≤ x) × (x ≤ most-users) → Points most-threshold n ps
       → el (dot-of A x ps vs n) ≡ field-sum K (span n 0) (λ i. inv (row x ⊕ column-points A L ps i) ⊗ right-side A L vs i)
   unfolding dot-of
-  dot-el x ps vs n h p =
-      sum-el A most-users most-threshold L (span n 0) _
-      ∙ field-sum-same K (span n 0) _ _ (λ i m.
+  dot-el x ps vs n h p = sum-el A most-users most-threshold L (span n 0) _ ∙ field-sum-same K (span n 0) _ _ (λ i m.
       L .el-multiply _ _
       ∙ ap (λ u. u ⊗ el (getD vs i 0)) (coefficient-el A most-users most-threshold L x (getD ps i 0) h (p .inside i (below n i m))))
 
@@ -163,8 +157,7 @@ module _ (A : Arithmetic) (L : Laws A most-users most-threshold) where
 
       pub solve-right : Square rs cs n → (a : ℕ) → a < n → getD vs a 0 < A .size
           → dot-of A (getD rs a 0) cs (solution-of A L rs cs vs n) n ≡ getD vs a 0
-      solve-right square a h small =
-          el-same A most-users most-threshold L (dot-small (getD rs a 0) cs (solution-of A L rs cs vs n) n) small
+      solve-right square a h small = el-same A most-users most-threshold L (dot-small (getD rs a 0) cs (solution-of A L rs cs vs n) n) small
           (dot-el (getD rs a 0) cs _ n (square .rows-good .inside a h) (square .columns-good)
           ∙ field-sum-same K (span n 0) _ _ (λ i m. ap (λ u. inv (row-points A L rs a ⊕ column-points A L cs i) ⊗ u) (solution-el i (below n i m)))
           ∙ solves (system square) (right-side A L vs) a (in-span n 0 a (omega arith) (omega arith)))
@@ -176,19 +169,14 @@ module _ (A : Arithmetic) (L : Laws A most-users most-threshold) where
           → ((a : ℕ) → a < n → el (getD list a 0) ≡ β i ⊗ (α a ⊗ inv (row-points A L rs a ⊕ column-points A L cs i)))
           → weighed A list n (λ a. cell vs a b) ≡ unknown-at A L rs cs (block vs b) n i
       unfolding weighed unknown-at
-      unknown-right list i b few e =
-          val-of _ _ (sum-small A most-users most-threshold L (span n 0) _)
-          (sum-el A most-users most-threshold L (span n 0) _
-          ∙ field-sum-same K (span n 0) _ _ (λ a m.
+      unknown-right list i b few e = val-of _ _ (sum-small A most-users most-threshold L (span n 0) _)
+          (sum-el A most-users most-threshold L (span n 0) _ ∙ field-sum-same K (span n 0) _ _ (λ a m.
           let l = below n a m in
-          L .el-multiply _ _ ∙ ap₂ _⊗_ (e a l) (ap el (sym (block-at vs b a (omega arith)))) ∙ regroup _ _ _ _)
-          ∙ field-sum-scale K _ (span n 0) _)
+          L .el-multiply _ _ ∙ ap₂ _⊗_ (e a l) (ap el (sym (block-at vs b a (omega arith)))) ∙ regroup _ _ _ _) ∙ field-sum-scale K _ (span n 0) _)
 
       pub unknown-same : (ws : List ℕ) (i : ℕ) → ((a : ℕ) → a < n → getD vs a 0 ≡ getD ws a 0) → unknown-at A L rs cs vs n i ≡ unknown-at A L rs cs ws n i
       unfolding unknown-at
-      unknown-same ws i e =
-          ap (λ u. val (β i ⊗ u))
-          (field-sum-same K (span n 0) _ _ (λ a m.
+      unknown-same ws i e = ap (λ u. val (β i ⊗ u)) (field-sum-same K (span n 0) _ _ (λ a m.
           ap (λ (v : ℕ). inv (row-points A L rs a ⊕ column-points A L cs i) ⊗ (α a ⊗ el v)) (e a (below n a m))))
 
       pub unknowns-at : (i b : ℕ) → i < n → b < most-blocks → cell (unknowns-of A L rs cs vs n) i b ≡ unknown-at A L rs cs (block vs b) n i
@@ -213,15 +201,12 @@ module _ (A : Arithmetic) (L : Laws A most-users most-threshold) where
     weighing-more i w r l h e s = record {
       inside = omega arith;
       small = h;
-      rest =
-          ap (λ u. u ⊗ over (span (n - (i + 1)) (i + 1))) e ∙ regroup _ _ _ _ _
-          ∙ ap (λ l. el w ⊗ over l) (sym (span-next n i l)) ∙ s .rest;
+      rest = ap (λ u. u ⊗ over (span (n - (i + 1)) (i + 1))) e ∙ regroup _ _ _ _ _ ∙ ap (λ l. el w ⊗ over l) (sym (span-next n i l)) ∙ s .rest;
     }
       where
         regroup : (x s g u v : F) → x ⊗ (s ⊗ g) ⊗ (u ⊗ v) ≡ x ⊗ (s ⊗ u ⊗ (g ⊗ v))
         regroup x s g u v = simp expand
 
     pub weighing-end : (i w : ℕ) → n ≤ i → Weighing i w → w ≡ val (weight K x y (span n 0) (span n 0) a)
-    weighing-end i w h s =
-        val-of w _ (s .small)
+    weighing-end i w h s = val-of w _ (s .small)
         (sym (K .mul-one _ ∙ K .mul-one _) ∙ K .mul-assoc _ _ _ ∙ ap (λ l. el w ⊗ over l) (sym (span-end n i h)) ∙ s .rest)

@@ -45,8 +45,7 @@ module _ (A : Arithmetic) (L : Laws A most-users most-threshold) (p : Plan) (use
 
     row-of : (a : ℕ) → a < m → row-value A n (getD users a 0) (unknown (take n W)) ≡ dot-of A (getD rs a 0) cs W n
     unfolding row-value
-    row-of a h =
-        sum-same A (span n 1) _ _ (λ j i.
+    row-of a h = sum-same A (span n 1) _ _ (λ j i.
         let s = span-in n 1 j i in
         ap₂ (λ (k x : ℕ). A .multiply (A .coefficient k j) x) (sym (block .rows a h)) (getD-take n W (j - 1) 0 (omega (arith, s .0, s .1))))
         ∙ sym (dot-row A (getD rs a 0) cs W n (block .columns))
@@ -77,8 +76,7 @@ module _ (A : Arithmetic) (L : Laws A most-users most-threshold) (p : Plan) (use
     pub explains-fits : Explained A p users m y (take (p .threshold) (solution-of A L rs cs vs (p .threshold)))
         → fits-of A rs cs vs (solution-of A L rs cs vs (p .threshold)) (p .threshold) m ≡ true
     unfolding fits-of
-    explains-fits e =
-        at-all-of _ (span (m - n) n) (λ k l.
+    explains-fits e = at-all-of _ (span (m - n) n) (λ k l.
         let s = span-in (m - n) n _ (in-at (span (m - n) n) k l) in
         let a : getD (span (m - n) n) k 0 < m = omega (arith, s .0, s .1) in
         eq-eqb _ _ (sym (row-of _ a) ∙ e .fits _ a ∙ sym (block .values _ a)))

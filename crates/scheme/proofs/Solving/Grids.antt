@@ -34,8 +34,7 @@ module _ (f : (a b : ℕ) → ℕ) where
   is-filled n = refl
 
   pub grid-at : (n a b : ℕ) → a < n → b < most-blocks → cell (grid n f) a b ≡ f a b
-  grid-at n a b h l =
-      ap (λ (g : List ℕ). cell g a b) (is-filled n)
+  grid-at n a b h l = ap (λ (g : List ℕ). cell g a b) (is-filled n)
       ∙ filled-at cells entry (n * most-blocks) (a * most-blocks + b) (digits-lt a n b most-blocks h l) ∙ entry-at a b l
 
   pub grid-small : (n s : ℕ) → 0 < s → ((a b : ℕ) → a < n → b < most-blocks → f a b < s) → (k : ℕ) → getD (grid n f) k 0 < s
@@ -64,11 +63,9 @@ module _ (f : (a b : ℕ) → ℕ) where
   rows-more n i at out new m h few le l same none e r = record {
     inside = omega arith;
     place = omega (arith, r .place);
-    done =
-        e ∙ ap₂ (λ (o : List ℕ) (k : ℕ). sets o k (map h (span m 0))) (r .done ∙ is-filled i) (r .place)
+    done = e ∙ ap₂ (λ (o : List ℕ) (k : ℕ). sets o k (map h (span m 0))) (r .done ∙ is-filled i) (r .place)
         ∙ filled-sets cells entry m (i * most-blocks) 0 h (omega arith) (λ b k. ap h (zero-add b) ∙ same b k ∙ sym (entry-at i b (omega arith)))
-        ∙ filled-zeros cells entry (i * most-blocks + m) ((i + 1) * most-blocks) (omega arith) (omega arith) zeros
-        ∙ sym (is-filled (i + 1));
+        ∙ filled-zeros cells entry (i * most-blocks + m) ((i + 1) * most-blocks) (omega arith) (omega arith) zeros ∙ sym (is-filled (i + 1));
   }
     where
       zeros : (k : ℕ) → i * most-blocks + m ≤ k → k < (i + 1) * most-blocks → entry k ≡ 0

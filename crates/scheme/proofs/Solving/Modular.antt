@@ -80,8 +80,7 @@ module _ {q : ℕ} (prime : Prime q) (large : most-users + most-threshold < q) w
 
   pub gap-shift : (x y : ℕ) → 1 ≤ x → 1 ≤ y → y ≤ most-users → gap-entry q (most-threshold + x - y) ≡ gap-between q x y
   unfolding gap-entry gap-between
-  gap-shift x y h l k =
-      ap₂ (λ (b : Bool) (m : ℕ). cond b 1 (inverse q (m % q))) (go (ℕ-discrete x y)) (omega (arith, mod-eq-of-lt small))
+  gap-shift x y h l k = ap₂ (λ (b : Bool) (m : ℕ). cond b 1 (inverse q (m % q))) (go (ℕ-discrete x y)) (omega (arith, mod-eq-of-lt small))
     where
       small : y < q
       small = omega arith
@@ -102,8 +101,7 @@ module _ {q : ℕ} (prime : Prime q) (large : most-users + most-threshold < q) w
     factor-el : (w i : ℕ) → Points most-users n own → a < n → i < n
         → el (w * ((getD own a 0 + getD other i 0) * gap-between q (getD own a 0) (getD own i 0)) % q)
         ≡ el w ⊗ ((row-points A L own a ⊕ column-points A L other i) ⊗ gap K (row-points A L own) (column-points A L other) a i)
-    factor-el w i p h l =
-        el-times w _
+    factor-el w i p h l = el-times w _
         ∙ ap (λ u. el w ⊗ u)
         (L .el-multiply _ _
         ∙ ap₂ _⊗_ (points-sum (getD own a 0) (getD other i 0))
@@ -141,8 +139,7 @@ module _ {q : ℕ} (prime : Prime q) (large : most-users + most-threshold < q) w
 
     pub inverse-row-right : (list : List ℕ) (b : ℕ) → list ≡ filled most-users n (inverse-at q (getD cs i 0) rs alpha (getD beta i 0))
         → weighed (modular q) list n (λ a. cell vs a b) ≡ unknown-at (modular q) L rs cs (block vs b) n i
-    inverse-row-right list b e =
-        unknown-right A L rs cs n vs list i b (weighted .square .few) (λ a l.
+    inverse-row-right list b e = unknown-right A L rs cs n vs list i b (weighted .square .few) (λ a l.
         ap el (ap (λ (c : List ℕ). getD c a 0) e ∙ filled-at most-users _ n a l) ∙ inverse-el a l)
 
   -- ---- sums that are reduced at their end
@@ -154,8 +151,7 @@ module _ {q : ℕ} (prime : Prime q) (large : most-users + most-threshold < q) w
     pub unreduced-both : (k n m r s : ℕ) → Unreduced q most f k n r → Unreduced q most f (k + n) m s → Unreduced q most f k (n + m) (r + s)
     unreduced-both k n m r s a b = record {
       small = omega (arith, a .small, b .small, add-mul n m most);
-      right =
-          add-mod r s q ∙ ap₂ (λ (x y : ℕ). (x + y) % q) (a .right) (b .right)
+      right = add-mod r s q ∙ ap₂ (λ (x y : ℕ). (x + y) % q) (a .right) (b .right)
           ∙ sym (ap (λ (l : List ℕ). sum A l f) (span-append n m k) ∙ sum-append A most-users most-threshold L (span n k) (span m (k + n)) f);
     }
 
