@@ -38,11 +38,7 @@ span-in (suc n) k i (inr h) = let s = span-in n (suc k) i h in (omega arith, ome
 
 pub in-span : (n k i : ℕ) → k ≤ i → i < k + n → In i (span n k)
 in-span zero k i lo hi = absurd (omega arith)
-in-span (suc n) k i lo hi = pick (ℕ-discrete i k) (in-span n (suc k) i)
-  where
-    pick : Dec (i ≡ k) → (suc k ≤ i → i < suc k + n → In i (span n (suc k))) → In i (span (suc n) k)
-    pick (yes e) rest = inl e
-    pick (no e) rest = inr (rest (omega arith) (omega arith))
+in-span (suc n) k i lo hi = elim (ℕ-discrete i k) [ yes e ↦ inl e | no e ↦ inr (in-span n (suc k) i (omega arith) (omega arith)) ]
 
 pub span-once : (n k : ℕ) → Distinct (span n k)
 span-once zero k = tt
@@ -108,11 +104,9 @@ keep-first false k l e = absurd (holds e)
 
 pub in-members : (t : ℕ → Bool) (n k i : ℕ) → k ≤ i → i < k + n → t i ≡ true → In i (members t n k)
 in-members t zero k i lo hi e = absurd (omega arith)
-in-members t (suc n) k i lo hi e = pick (ℕ-discrete i k) (in-members t n (suc k) i)
-  where
-    pick : Dec (i ≡ k) → (suc k ≤ i → i < suc k + n → t i ≡ true → In i (members t n (suc k))) → In i (members t (suc n) k)
-    pick (yes r) rest = rw r (keep-first (t k) k (members t n (suc k)) (sym (ap t r) ∙ e))
-    pick (no r) rest = in-keep (t k) k i (members t n (suc k)) (rest (omega arith) (omega arith) e)
+in-members t (suc n) k i lo hi e = elim (ℕ-discrete i k) [
+    yes r ↦ rw r (keep-first (t k) k (members t n (suc k)) (sym (ap t r) ∙ e))
+  | no r ↦ in-keep (t k) k i (members t n (suc k)) (in-members t n (suc k) i (omega arith) (omega arith) e) ]
 
 keep-once : (b : Bool) (k : ℕ) (l : List ℕ) → (In k l → ⊥) → Distinct l → Distinct (keep b k l)
 keep-once true k l h d = (h, d)
@@ -146,13 +140,11 @@ unfolding rank
 rank-step t v = ap length (members-append t v 1 0) ∙ length-append (members t v 0) (members t 1 (0 + v))
     ∙ ap (λ (n : ℕ). length (members t v 0) + n) (keep-length (t (0 + v)) (0 + v) [] ∙ add-zero _ ∙ ap (λ (i : ℕ). cond (t i) 1 0) (zero-add v))
 
-keep-le : (b : Bool) (k n : ℕ) (l : List ℕ) → length l ≤ n → length (keep b k l) ≤ suc n
-keep-le true k n l h = omega arith
-keep-le false k n l h = omega arith
-
 pub members-le : (t : ℕ → Bool) (n k : ℕ) → length (members t n k) ≤ n
 members-le t zero k = omega arith
-members-le t (suc n) k = keep-le (t k) k n (members t n (suc k)) (members-le t n (suc k))
+members-le t (suc n) k =
+    let h = members-le t n (suc k) in
+    elim (t k) as (λ b. length (keep b k (members t n (suc k))) ≤ suc n) [ true ↦ omega arith | false ↦ omega arith ]
 
 -- the numbers below v that pass, v, and those above
 members-split : (t : ℕ → Bool) (n v : ℕ) → v < n → t v ≡ true → members t n 0 ≡ members t v 0 ++ (v ∷ members t (n - suc v) (suc v))

@@ -31,11 +31,8 @@ bit-lt false = omega arith
 
 in-first : (b : Bool) (v : ℕ) → in-set (v * 2 + bit b) 1 ≡ b
 unfolding in-set
-in-first b v = ap (λ (x : ℕ). eqb (x % 2) 1) (div-one (v * 2 + bit b)) ∙ ap (λ (x : ℕ). eqb x 1) (low v (bit b) 2 (bit-lt b)) ∙ is b
-  where
-    is : (b : Bool) → eqb (bit b) 1 ≡ b
-    is true = refl
-    is false = refl
+in-first b v = ap (λ (x : ℕ). eqb (x % 2) 1) (div-one (v * 2 + bit b)) ∙ ap (λ (x : ℕ). eqb x 1) (low v (bit b) 2 (bit-lt b))
+    ∙ elim b as (λ b. eqb (bit b) 1 ≡ b) [ true ↦ refl | false ↦ refl ]
 
 in-half : (v k : ℕ) → in-set v (suc (suc k)) ≡ in-set (v / 2) (suc k)
 unfolding in-set
@@ -49,13 +46,11 @@ in-half v k =
 set-of-shift : (t : ℕ → Bool) (n k : ℕ) → set-of t n (suc (suc k)) ≡ set-of (λ i. t (suc i)) n (suc k) * 2
 unfolding set-of
 set-of-shift t zero k = refl
-set-of-shift t (suc n) k = omega (arith, double (t (suc (suc k))), set-of-shift t n (suc k))
-  where
-    double : (b : Bool) → cond b (2 ^ (suc (suc k) - 1)) 0 ≡ cond b (2 ^ (suc k - 1)) 0 * 2
-    double true =
-        let e : suc (suc k) - 1 ≡ suc (suc k - 1) = omega arith in
-        ap (λ (i : ℕ). 2 ^ i) e ∙ pow-suc 2 (suc k - 1)
-    double false = refl
+set-of-shift t (suc n) k =
+    let e : suc (suc k) - 1 ≡ suc (suc k - 1) = omega arith in
+    let double : (b : Bool) → cond b (2 ^ (suc (suc k) - 1)) 0 ≡ cond b (2 ^ (suc k - 1)) 0 * 2
+        = elim [ true ↦ ap (λ (i : ℕ). 2 ^ i) e ∙ pow-suc 2 (suc k - 1) | false ↦ refl ] in
+    omega (arith, double (t (suc (suc k))), set-of-shift t n (suc k))
 
 set-of-step : (t : ℕ → Bool) (n : ℕ) → set-of t (suc n) 1 ≡ set-of (λ i. t (suc i)) n 1 * 2 + bit (t 1)
 unfolding set-of
@@ -122,11 +117,7 @@ module _ (p : Plan) (f : (k at : ℕ) → Option ℕ) (n : ℕ) where
 module _ (k i x : ℕ) (f : (k at : ℕ) → Option ℕ) where
   pub with-small : (m : ℕ) → x < m → ((l j : ℕ) → values f l j < m) → (l j : ℕ) → values (with-element k i x f) l j < m
   unfolding with-element element-of
-  with-small m h small l j = pick (eqb l k && eqb j i)
-    where
-      pick : (b : Bool) → element-of (cond b (some x) (f l j)) < m
-      pick true = h
-      pick false = small l j
+  with-small m h small l j = elim (eqb l k && eqb j i) as (λ b. element-of (cond b (some x) (f l j)) < m) [ true ↦ h | false ↦ small l j ]
 
   pub with-held : (l j : ℕ) → is-held (with-element k i x f l j) ≡ true → (l ≡ k) ⊎ (is-held (f l j) ≡ true)
   unfolding with-element
