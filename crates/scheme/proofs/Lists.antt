@@ -73,8 +73,7 @@ map-span-at f (suc n) k (suc i) h = map-span-at f n (suc k) i (omega arith) ∙ 
 
 -- ---- members
 keep-append : (b : Bool) (k : ℕ) (l m : List ℕ) → keep b k (l ++ m) ≡ keep b k l ++ m
-keep-append true k l m = refl
-keep-append false k l m = refl
+keep-append b k l m = elim b [ true ↦ refl | false ↦ refl ]
 
 pub members-append : (t : ℕ → Bool) (m n k : ℕ) → members t (m + n) k ≡ members t m k ++ members t n (k + m)
 members-append t zero n k = rw (zero-add, add-zero)
@@ -95,8 +94,7 @@ members-in t (suc n) k i h = ⊎-elim (λ e. (omega (arith, e .0), omega (arith,
     (λ m. let s = members-in t n (suc k) i m in (omega (arith, s .0), omega (arith, s .1), s .2)) (keep-in (t k) k i (members t n (suc k)) h)
 
 in-keep : (b : Bool) (k i : ℕ) (l : List ℕ) → In i l → In i (keep b k l)
-in-keep true k i l h = inr h
-in-keep false k i l h = h
+in-keep b k i l h = elim b [ true ↦ inr h | false ↦ h ]
 
 keep-first : (b : Bool) (k : ℕ) (l : List ℕ) → b ≡ true → In k (keep b k l)
 keep-first true k l e = inl refl
@@ -109,8 +107,7 @@ in-members t (suc n) k i lo hi e = elim (ℕ-discrete i k) [
   | no r ↦ in-keep (t k) k i (members t n (suc k)) (in-members t n (suc k) i (omega arith) (omega arith) e) ]
 
 keep-once : (b : Bool) (k : ℕ) (l : List ℕ) → (In k l → ⊥) → Distinct l → Distinct (keep b k l)
-keep-once true k l h d = (h, d)
-keep-once false k l h d = d
+keep-once b k l h d = elim b [ true ↦ (h, d) | false ↦ d ]
 
 pub members-once : (t : ℕ → Bool) (n k : ℕ) → Distinct (members t n k)
 members-once t zero k = tt
@@ -132,8 +129,7 @@ unfolding rank
 rank-zero t = refl
 
 keep-length : (b : Bool) (k : ℕ) (l : List ℕ) → length (keep b k l) ≡ cond b 1 0 + length l
-keep-length true k l = omega arith
-keep-length false k l = omega arith
+keep-length b k l = elim b [ true ↦ omega arith | false ↦ omega arith ]
 
 pub rank-step : (t : ℕ → Bool) (v : ℕ) → rank t (v + 1) ≡ rank t v + cond (t v) 1 0
 unfolding rank

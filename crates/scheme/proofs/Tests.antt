@@ -28,16 +28,13 @@ pub joined : {a b : Bool} → a ≡ true → b ≡ true → (a && b) ≡ true
 joined {a} {b} e f = ap₂ (λ (x y : Bool). x && y) e f
 
 pub and-true : (b : Bool) → (b && true) ≡ b
-and-true true = refl
-and-true false = refl
+and-true b = elim b [ true ↦ refl | false ↦ refl ]
 
 pub and-false : (b : Bool) → (b && false) ≡ false
-and-false true = refl
-and-false false = refl
+and-false b = elim b [ true ↦ refl | false ↦ refl ]
 
 pub not-not : (b : Bool) → not (not b) ≡ b
-not-not true = refl
-not-not false = refl
+not-not b = elim b [ true ↦ refl | false ↦ refl ]
 
 abbrev pub Past : (k n : ℕ) → Type 0
 Past zero n = Unit {0}

@@ -26,8 +26,7 @@ abbrev bit : Bool → ℕ
 bit b = cond b 1 0
 
 bit-lt : (b : Bool) → bit b < 2
-bit-lt true = omega arith
-bit-lt false = omega arith
+bit-lt b = elim b [ true ↦ omega arith | false ↦ omega arith ]
 
 in-first : (b : Bool) (v : ℕ) → in-set (v * 2 + bit b) 1 ≡ b
 unfolding in-set
@@ -121,8 +120,6 @@ module _ (k i x : ℕ) (f : (k at : ℕ) → Option ℕ) where
 
   pub with-held : (l j : ℕ) → is-held (with-element k i x f l j) ≡ true → (l ≡ k) ⊎ (is-held (f l j) ≡ true)
   unfolding with-element
-  with-held l j e = pick (eqb l k && eqb j i) refl e
-    where
-      pick : (b : Bool) → (eqb l k && eqb j i) ≡ b → is-held (cond b (some x) (f l j)) ≡ true → (l ≡ k) ⊎ (is-held (f l j) ≡ true)
-      pick true t e = inl (eqb-true l k (both (eqb l k) (eqb j i) t .0))
-      pick false t e = inr e
+  with-held l j =
+      elim (eqb l k && eqb j i) as (λ b. (eqb l k && eqb j i) ≡ b → is-held (cond b (some x) (f l j)) ≡ true → (l ≡ k) ⊎ (is-held (f l j) ≡ true))
+      [ true ↦ λ t e. inl (eqb-true l k (both (eqb l k) (eqb j i) t .0)) | false ↦ λ t e. inr e ] refl

@@ -211,11 +211,10 @@ module _ (A : Arithmetic) (p : Plan) (L : Laws A (p .users) (p .threshold)) wher
   -- ---- replies that follow the rules are explained by the columns of the random list
   column-small : (xs : List ℕ) (v b j : ℕ) → elements A xs ≡ true → column A p xs v b j < A .size
   unfolding column noise
-  column-small xs v b j ok = pick (leb j (items p))
-    where
-      pick : (t : Bool) → cond t (sum A (users-in p v) (λ k. mask p xs k (b * items p + (j - 1)))) (noise p xs v b (j - suc (items p))) < A .size
-      pick true = sum-small A _ _ L (users-in p v) _
-      pick false = elements-at A (zero-small A _ _ L) xs _ ok
+  column-small xs v b j ok =
+      elim (leb j (items p))
+      as (λ t. cond t (sum A (users-in p v) (λ k. mask p xs k (b * items p + (j - 1)))) (noise p xs v b (j - suc (items p))) < A .size)
+      [ true ↦ sum-small A _ _ L (users-in p v) _ | false ↦ elements-at A (zero-small A _ _ L) xs _ ok ]
 
   pub rules-explain : Rules-explain A p
   unfolding Rules-explain share shares

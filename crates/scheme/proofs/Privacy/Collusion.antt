@@ -64,12 +64,9 @@ module _ (p : Plan) (ok : plan-good p ≡ true) where
 
   figure-small : (n k i : ℕ) → n < 65521 → figure n k i < 65521
   unfolding figure
-  figure-small n k i h = pick (eqb i last) (eqb k (p .users))
-    where
-      pick : (s t : Bool) → cond s (cond t n 0) 0 < 65521
-      pick true true = h
-      pick true false = omega arith
-      pick false t = omega arith
+  figure-small n k i h = elim (eqb i last) as (λ s. cond s (cond (eqb k (p .users)) n 0) 0 < 65521) [
+      true ↦ elim (eqb k (p .users)) as (λ t. cond t n 0 < 65521) [ true ↦ h | false ↦ omega arith ]
+    | false ↦ omega arith ]
 
   table-good : (n : ℕ) → n < 65521 → admissible sixteen p (table n)
   unfolding admissible table

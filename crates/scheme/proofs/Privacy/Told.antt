@@ -78,18 +78,15 @@ module _ (A : Arithmetic) (p : Plan) (L : Laws A (p .users) (p .threshold)) wher
     -- the sums of the survivors' masks do not move
     unsolved-zero : (b j : ℕ) → b < p .blocks → 1 ≤ j → unsolved A p L c d e v b j ≡ 𝟘
     unfolding unsolved d e difference total-at
-    unsolved-zero b j h lo = pick (decLe j (items p))
-      where
-        i : ℕ
-        i = b * items p + (j - 1)
-
-        pick : Dec (j ≤ items p) → unsolved A p L c d e v b j ≡ 𝟘
-        pick (yes l) = rw (le-leb j (items p) l)
+    unsolved-zero b j h lo =
+        let i : ℕ = b * items p + (j - 1) in
+        elim (decLe j (items p)) [
+          yes l ↦ rw (le-leb j (items p) l)
             (sum-sub K (users-in p v) (λ k. el (getD (x k) i 0)) (λ k. el (getD (y k) i 0))
             ∙ ap (λ a. sub K a (field-sum K (users-in p v) (λ k. el (getD (y k) i 0))))
             (sym (sum-el A _ _ L (users-in p v) (λ k. getD (x k) i 0)) ∙ ap el (al .totals i (place-lt p b j h lo l))
             ∙ sum-el A _ _ L (users-in p v) (λ k. getD (y k) i 0)) ∙ sub-is K (K .add-zero _))
-        pick (no l) = let s : items p < j = omega arith in rw (lt-leb j (items p) s)
+        | no l ↦ let s : items p < j = omega arith in rw (lt-leb j (items p) s) ]
 
     -- a share to V, and one of a colluder, does not move
     reply-zero : (k b : ℕ) → 1 ≤ k → k ≤ p .users → b < p .blocks → share A p Δ k v b ≡ 0
