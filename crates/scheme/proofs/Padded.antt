@@ -88,12 +88,11 @@ module _ (size : ℕ) (f : ℕ → ℕ) where
 
   -- several more that are 0
   pub filled-zeros : (n m : ℕ) → n ≤ m → m ≤ size → ((i : ℕ) → n ≤ i → i < m → f i ≡ 0) → filled size n f ≡ filled size m f
-  filled-zeros n m h l z = ext-getD 0 _ _ (filled-length n (omega arith) ∙ sym (filled-length m l)) (λ i k. go i (decLt i n) (decLt i m))
-    where
-      go : (i : ℕ) → Dec (i < n) → Dec (i < m) → getD (filled size n f) i 0 ≡ getD (filled size m f) i 0
-      go i (yes a) b = filled-at n i a ∙ sym (filled-at m i (omega arith))
-      go i (no a) (yes b) = filled-behind n i (omega arith) ∙ sym (filled-at m i b ∙ z i (omega arith) b)
-      go i (no a) (no b) = filled-behind n i (omega arith) ∙ sym (filled-behind m i (omega arith))
+  filled-zeros n m h l z = ext-getD 0 _ _ (filled-length n (omega arith) ∙ sym (filled-length m l)) (λ i k.
+      elim (decLt i n) [
+        yes a ↦ filled-at n i a ∙ sym (filled-at m i (omega arith))
+      | no a ↦ filled-behind n i (omega arith)
+          ∙ elim (decLt i m) [ yes b ↦ sym (filled-at m i b ∙ z i (omega arith) b) | no b ↦ sym (filled-behind m i (omega arith)) ] ])
 
 -- ---- i of n entries are written
 pub record Filling (size : ℕ) (f : ℕ → ℕ) (n i : ℕ) (out : List ℕ) : Type 0 where
@@ -103,10 +102,7 @@ pub record Filling (size : ℕ) (f : ℕ → ℕ) (n i : ℕ) (out : List ℕ) :
 module _ (size : ℕ) (f : ℕ → ℕ) (n : ℕ) where
   pub filling-start : Filling size f n 0 (replicate size 0)
   unfolding filled padded
-  filling-start = record { inside = omega arith; done = ap (λ (k : ℕ). replicate k 0) start }
-    where
-      start : size ≡ size - 0
-      start = omega arith
+  filling-start = let e : size ≡ size - 0 = omega arith in record { inside = omega arith; done = ap (λ (k : ℕ). replicate k 0) e }
 
   pub filling-more : (i x : ℕ) (out : List ℕ) → n ≤ size → i < n → x ≡ f i → Filling size f n i out → Filling size f n (i + 1) (set out i x)
   filling-more i x out h l e s =

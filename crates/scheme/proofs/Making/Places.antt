@@ -28,11 +28,8 @@ rows-in p = omega arith
 
 -- what lies behind the rows of the numbers below v + 1 that pass a test
 rank-next : (t : ℕ → Bool) (v n : ℕ) → rank t (v + 1) * n ≡ rank t v * n + cond (t v) n 0
-rank-next t v n = ap (λ (m : ℕ). m * n) (rank-step t v) ∙ go (t v)
-  where
-    go : (b : Bool) → (rank t v + cond b 1 0) * n ≡ rank t v * n + cond b n 0
-    go true = sym (row-next (rank t v) n)
-    go false = rw (add-zero, add-zero)
+rank-next t v n = ap (λ (m : ℕ). m * n) (rank-step t v) ∙ elim (t v) as (λ b. (rank t v + cond b 1 0) * n ≡ rank t v * n + cond b n 0)
+    [ true ↦ sym (row-next (rank t v) n) | false ↦ rw (add-zero, add-zero) ]
 
 module _ (p : Plan) where
   noise-first : (v : ℕ) → noise-start p v 0 ≡ p .users * places p + rank (usable p) v * (p .blocks * p .collusion)

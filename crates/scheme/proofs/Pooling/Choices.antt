@@ -55,16 +55,12 @@ module _ (A : Arithmetic) (p : Plan) (y : (k block : ℕ) → ℕ) where
   pub decided : Laws A (p .users) (p .threshold) → ((k b : ℕ) → y k b < A .size) → (r : ℕ) → p .threshold ≤ ones (p .users) r
       → Choice A p r y ⊎ ((f : (block : ℕ) → List ℕ) → explains-all A p r y f ≡ true → ⊥)
   unfolding Some-choice One-choice
-  decided L small r many = pick (explains-all A p r y (c .choice)) refl
-    where
-      few : Part (p .users) r (p .threshold)
-      few = part (p .users) r (p .threshold) many
-
-      c : Choice A p (few .set) y
-      c = some-choice A p L (few .set) y (sym (few .size)) small
-
-      pick : (b : Bool) → explains-all A p r y (c .choice) ≡ b → Choice A p r y ⊎ ((f : (block : ℕ) → List ℕ) → explains-all A p r y f ≡ true → ⊥)
-      pick true e = inl (record { choice = c .choice; right = e })
-      pick false e = inr (λ f h.
+  decided L small r many =
+      let few = part (p .users) r (p .threshold) many in
+      let c = some-choice A p L (few .set) y (sym (few .size)) small in
+      elim (explains-all A p r y (c .choice))
+      as (λ b. explains-all A p r y (c .choice) ≡ b → Choice A p r y ⊎ ((f : (block : ℕ) → List ℕ) → explains-all A p r y f ≡ true → ⊥)) [
+        true ↦ λ e. inl (record { choice = c .choice; right = e })
+      | false ↦ λ e. inr (λ f h.
           let same = one-choice A p L (few .set) y f (c .choice) (omega (arith, few .size)) (choice-part r (few .set) f (few .inside) h) (c .right) in
-          holds (sym e ∙ choice-same r f (c .choice) same h))
+          holds (sym e ∙ choice-same r f (c .choice) same h)) ] refl

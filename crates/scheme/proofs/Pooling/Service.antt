@@ -136,7 +136,9 @@ module _ (A : Arithmetic) where
 
     pub always-answers : Always-answers A
     unfolding Always-answers is-finish
-    always-answers r s w = go (refusal A r s) refl
+    always-answers r s w =
+        elim (refusal A r s) as (λ n. refusal A r s ≡ n → Answered A r s)
+        [ zero ↦ taken r | suc n ↦ λ e. answered r s s _ w (refuses r s (λ z. omega arith)) ] refl
       where
         taken : (r : Record) → refusal A r s ≡ 0 → Answered A r s
         taken (plan-record p) e = answered _ s _ _ w (accepts (plan-record p) s refl e)
@@ -145,10 +147,6 @@ module _ (A : Arithmetic) where
         taken close-record e = answered _ s _ _ w (accepts close-record s refl e)
         taken (reply-record k b x) e = answered _ s _ _ w (accepts (reply-record k b x) s refl e)
         taken finish-record e = finished s w e
-
-        go : (n : ℕ) → refusal A r s ≡ n → Answered A r s
-        go zero e = taken r e
-        go (suc n) e = answered r s s _ w (refuses r s (λ z. omega arith))
 
     pub finish-right : Finish-right A
     unfolding Finish-right Rules-explain Totals-right explained-by totals-by is-finish

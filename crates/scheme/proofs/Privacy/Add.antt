@@ -41,12 +41,11 @@ module _ (K : Field) (row col : ℕ → Field.F K) (cs : List ℕ) (k : ℕ) whe
 rows-each : (f : ℕ → ℕ → ℕ) (m : ℕ) (s t : ℕ → List ℕ) → ((v : ℕ) → length (s v) ≡ m) → ((v : ℕ) → length (t v) ≡ m) → (l : List ℕ)
     → rows (λ v. each f m (s v) (t v)) l ≡ each f (length l * m) (rows s l) (rows t l)
 rows-each f m s t hs ht [] = rw zero-mul
-rows-each f m s t hs ht (v ∷ l) = ap₂ _++_ (ap (λ (n : ℕ). each f n (s v) (t v)) (sym (hs v))) (rows-each f m s t hs ht l)
+rows-each f m s t hs ht (v ∷ l) =
+    let e : length (s v) + length l * m ≡ suc (length l) * m = omega (arith, hs v, suc-mul (length l) m) in
+    ap₂ _++_ (ap (λ (n : ℕ). each f n (s v) (t v)) (sym (hs v))) (rows-each f m s t hs ht l)
     ∙ sym (each-append f (length l * m) (s v) (t v) (rows s l) (rows t l) (hs v ∙ sym (ht v)))
-    ∙ ap (λ (n : ℕ). each f n (s v ++ rows s l) (t v ++ rows t l)) (ap (λ (n : ℕ). n + length l * m) (hs v) ∙ sum-is)
-  where
-    sum-is : m + length l * m ≡ suc (length l) * m
-    sum-is = omega (arith, suc-mul (length l) m)
+    ∙ ap (λ (n : ℕ). each f n (s v ++ rows s l) (t v ++ rows t l)) e
 
 module _ (A : Arithmetic) (p : Plan) (L : Laws A (p .users) (p .threshold)) (xs ys : List ℕ) where
   open Laws L using (K, el, row, col)

@@ -55,10 +55,7 @@ first-size zero zero h = refl
 first-size zero (suc m) h = absurd (omega arith)
 first-size (suc n) zero h = zero-add _ ∙ first-size n zero (omega arith)
 first-size (suc n) (suc m) h = ap₂ _+_ (low (first m) 1 2 (omega arith)) (ap (ones n) (high (first m) 1 2 (omega arith)) ∙ first-size n m (omega arith))
-    ∙ one
-  where
-    one : 1 + m ≡ suc m
-    one = omega arith
+    ∙ omega arith
 
 pub first-below : (n m : ℕ) → m ≤ n → first m < 2 ^ n
 unfolding first

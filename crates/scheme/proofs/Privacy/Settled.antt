@@ -99,16 +99,13 @@ module _ (A : Arithmetic) (p : Plan) (L : Laws A (p .users) (p .threshold)) (v c
     system : System K row col (users-in p c) solved
     unfolding solved users-in
     system = record {
-      square = users-in-size p c ∙ more ∙ sym (span-length (suc (p .collusion)) (items p) ∙ one);
+      square = omega (arith, users-in-size p c, span-length (suc (p .collusion)) (items p));
       rows-once = members-once (in-set c) (p .users) 1;
       columns-once = span-once (suc (p .collusion)) (items p);
       rows-apart = λ i k m l. L .rows-apart i k (user i m) (user k l);
       columns-apart = λ i j m l. L .columns-apart i j (column-in i m) (column-in j l);
       meet = λ k j m l. L .meet k j (user k m) (column-in j l);
     }
-      where
-        one : suc (p .collusion) ≡ p .collusion + 1
-        one = omega arith
 
     abbrev cells : (zs : List ℕ) (j : ℕ) → F
     cells zs j = el (column A p zs w b j)

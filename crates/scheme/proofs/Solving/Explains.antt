@@ -67,11 +67,9 @@ module _ (A : Arithmetic) (L : Laws A most-users most-threshold) (p : Plan) (use
     pub fits-explains : fits-of A rs cs vs (solution-of A L rs cs vs (p .threshold)) (p .threshold) m ≡ true
         → Explained A p users m y (take (p .threshold) (solution-of A L rs cs vs (p .threshold)))
     unfolding fits-of
-    fits-explains e = explained-by m (omega arith) (λ a h. go a h (decLt a n))
-      where
-        go : (a : ℕ) → a < m → Dec (a < n) → dot-of A (getD rs a 0) cs W n ≡ getD vs a 0
-        go a h (yes l) = solved a l
-        go a h (no l) = eqb-true _ _ (all-of-in _ (span (m - n) n) e a (in-span (m - n) n a (omega arith) (omega arith)))
+    fits-explains e = explained-by m (omega arith) (λ a h. elim (decLt a n) [
+        yes l ↦ solved a l
+      | no l ↦ eqb-true _ _ (all-of-in _ (span (m - n) n) e a (in-span (m - n) n a (omega arith) (omega arith))) ])
 
     pub explains-fits : Explained A p users m y (take (p .threshold) (solution-of A L rs cs vs (p .threshold)))
         → fits-of A rs cs vs (solution-of A L rs cs vs (p .threshold)) (p .threshold) m ≡ true

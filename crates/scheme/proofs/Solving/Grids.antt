@@ -38,11 +38,9 @@ module _ (f : (a b : ℕ) → ℕ) where
       ∙ filled-at cells entry (n * most-blocks) (a * most-blocks + b) (digits-lt a n b most-blocks h l) ∙ entry-at a b l
 
   pub grid-small : (n s : ℕ) → 0 < s → ((a b : ℕ) → a < n → b < most-blocks → f a b < s) → (k : ℕ) → getD (grid n f) k 0 < s
-  grid-small n s z h k = rw (is-filled n) (go (decLt k (n * most-blocks)))
-    where
-      go : Dec (k < n * most-blocks) → getD (filled cells (n * most-blocks) entry) k 0 < s
-      go (yes l) = rw (filled-at cells entry (n * most-blocks) k l) (h (k / most-blocks) (k % most-blocks) (omega arith) (omega arith))
-      go (no l) = rw (filled-behind cells entry (n * most-blocks) k (omega arith)) z
+  grid-small n s z h k = rw (is-filled n) (elim (decLt k (n * most-blocks)) [
+      yes l ↦ rw (filled-at cells entry (n * most-blocks) k l) (h (k / most-blocks) (k % most-blocks) (omega arith) (omega arith))
+    | no l ↦ rw (filled-behind cells entry (n * most-blocks) k (omega arith)) z ])
 
   -- ---- i rows of a grid are written; the next starts at `at`
   pub record Rows (n i at : ℕ) (out : List ℕ) : Type 0 where

@@ -72,31 +72,25 @@ module _ {q : ℕ} (prime : Prime q) (large : most-users + most-threshold < q) w
 
   gap-el : (x y : ℕ) → el (gap-between q x y) ≡ cond (eqb x y) 𝟙 (inv (sub K (row x) (row y)))
   unfolding gap-between
-  gap-el x y = go (eqb x y)
-    where
-      go : (b : Bool) → el (cond b 1 (inverse q (modular q .subtract x y))) ≡ cond b 𝟙 (inv (sub K (row x) (row y)))
-      go true = el-one
-      go false = el-inverse _ (mod-lt _ (prime-positive prime)) ∙ ap inv (points-difference x y)
+  gap-el x y =
+      elim (eqb x y) as (λ b. el (cond b 1 (inverse q (modular q .subtract x y))) ≡ cond b 𝟙 (inv (sub K (row x) (row y))))
+      [ true ↦ el-one | false ↦ el-inverse _ (mod-lt _ (prime-positive prime)) ∙ ap inv (points-difference x y) ]
 
   pub gap-shift : (x y : ℕ) → 1 ≤ x → 1 ≤ y → y ≤ most-users → gap-entry q (most-threshold + x - y) ≡ gap-between q x y
   unfolding gap-entry gap-between
-  gap-shift x y h l k = ap₂ (λ (b : Bool) (m : ℕ). cond b 1 (inverse q (m % q))) (go (ℕ-discrete x y)) (omega (arith, mod-eq-of-lt small))
-    where
-      small : y < q
-      small = omega arith
-
-      go : Dec (x ≡ y) → eqb (most-threshold + x - y) most-threshold ≡ eqb x y
-      go (yes e) = eq-eqb (most-threshold + x - y) most-threshold (omega arith) ∙ sym (eq-eqb x y e)
-      go (no e) = ne-eqb (most-threshold + x - y) most-threshold (λ d. e (omega arith)) ∙ sym (ne-eqb x y e)
+  gap-shift x y h l k =
+      let small : y < q = omega arith in
+      let same : eqb (most-threshold + x - y) most-threshold ≡ eqb x y = elim (ℕ-discrete x y) [
+          yes e ↦ eq-eqb (most-threshold + x - y) most-threshold (omega arith) ∙ sym (eq-eqb x y e)
+        | no e ↦ ne-eqb (most-threshold + x - y) most-threshold (λ d. e (omega arith)) ∙ sym (ne-eqb x y e) ] in
+      ap₂ (λ (b : Bool) (m : ℕ). cond b 1 (inverse q (m % q))) same (omega (arith, mod-eq-of-lt small))
 
   module _ (own other : List ℕ) (n a : ℕ) where
     -- different positions have different points
     same-test : Points most-users n own → (i : ℕ) → a < n → i < n → eqb (getD own a 0) (getD own i 0) ≡ eqb a i
-    same-test p i h l = go (ℕ-discrete a i)
-      where
-        go : Dec (a ≡ i) → eqb (getD own a 0) (getD own i 0) ≡ eqb a i
-        go (yes e) = eq-eqb _ _ (ap (λ (k : ℕ). getD own k 0) e) ∙ sym (eq-eqb a i e)
-        go (no e) = ne-eqb _ _ (p .apart a i h l e) ∙ sym (ne-eqb a i e)
+    same-test p i h l = elim (ℕ-discrete a i) [
+        yes e ↦ eq-eqb _ _ (ap (λ (k : ℕ). getD own k 0) e) ∙ sym (eq-eqb a i e)
+      | no e ↦ ne-eqb _ _ (p .apart a i h l e) ∙ sym (ne-eqb a i e) ]
 
     factor-el : (w i : ℕ) → Points most-users n own → a < n → i < n
         → el (w * ((getD own a 0 + getD other i 0) * gap-between q (getD own a 0) (getD own i 0)) % q)
