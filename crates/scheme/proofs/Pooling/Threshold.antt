@@ -24,10 +24,11 @@ use Rattle.scheme.specs.Totals.{explains}
 use Rattle.scheme.specs.Laws.{Laws}
 use Rattle.scheme.specs.Sharp.{smallest, Threshold-needed, Sums-open}
 use Rattle.scheme.proofs.Tests.{joined}
-use Rattle.scheme.proofs.Lists.{span-in, span-once, span-length, map-span-length, map-span-at, members-once}
+use Rattle.scheme.proofs.Lists.{span-in, map-span-length, map-span-at, members-once}
 use Rattle.scheme.proofs.Sums.{el-same, row-value-el, row-value-small}
 use Rattle.scheme.proofs.Sets.{users-in-in, users-in-size}
 use Rattle.scheme.proofs.Keys.{elements-map}
+use Rattle.scheme.proofs.Laws.{system-of}
 use Rattle.scheme.proofs.Modular.{sixteen-laws}
 use Rattle.scheme.proofs.Pooling.Totals.{at-all-of, in-at, unknown}
 
@@ -46,24 +47,13 @@ module _ (A : Arithmetic) (p : Plan) (L : Laws A (p .users) (p .threshold)) (r :
   solved : List ℕ
   solved = span (length rs) 2
 
-  column-in : (j : ℕ) → In j solved → (2 ≤ j) × (j ≤ p .threshold)
-  unfolding solved
-  column-in j m = let s = span-in (length rs) 2 j m in (s .0, omega (arith, s .1, one-fewer))
-
   user : (k : ℕ) → In k rs → (1 ≤ k) × (k ≤ p .users)
   unfolding rs
   user k m = let s = users-in-in p r k m in (s .0, s .1)
 
   system : System K row col rs solved
   unfolding rs solved users-in
-  system = record {
-    square = sym (span-length (length rs) 2);
-    rows-once = members-once (in-set r) (p .users) 1;
-    columns-once = span-once (length rs) 2;
-    rows-apart = λ i k h l. L .rows-apart i k (user i h) (user k l);
-    columns-apart = λ i j h l. L .columns-apart i j (omega (arith, column-in i h .0), column-in i h .1) (omega (arith, column-in j l .0), column-in j l .1);
-    meet = λ k j h l. L .meet k j (user k h) (omega (arith, column-in j l .0), column-in j l .1);
-  }
+  system = system-of L (λ k. k) rs (length rs) 2 refl (members-once (in-set r) (p .users) 1) user (λ i k h l ne. ne) (omega arith) (omega (arith, one-fewer))
 
   rest : (k : ℕ) → K .F
   rest k = sub K (el (y k)) (K .mul (coefficient K row col k 1) (el c))
@@ -75,7 +65,7 @@ module _ (A : Arithmetic) (p : Plan) (L : Laws A (p .users) (p .threshold)) (r :
   unfolding columns rest solved
   columns-right k m = ap (λ (n : ℕ). value K row col (span n 1) k columns) one-fewer
       ∙ ap (K .add (K .mul (coefficient K row col k 1) (el c)))
-      (field-sum-same K solved _ _ (λ j h. rw (ne-eqb j 1 (λ e. omega (arith, column-in j h .0)))) ∙ solves system rest k m) ∙ add-sub K _ _
+      (field-sum-same K solved _ _ (λ j h. rw (ne-eqb j 1 (λ e. omega (arith, span-in (length rs) 2 j h .0)))) ∙ solves system rest k m) ∙ add-sub K _ _
 
   ws : List ℕ
   ws = map (λ j. val (columns j)) (span (p .threshold) 1)

@@ -35,6 +35,7 @@ use Rattle.scheme.proofs.Tests.{both, joined}
 use Rattle.scheme.proofs.Lists.{span-in, in-span, span-once, span-length, span-next, span-end, map-same, map-span-length, map-span-at, members-once}
 use Rattle.scheme.proofs.Sums.{el-same, zero-small, sum-same, sum-el, sum-small, row-value-el, row-value-small}
 use Rattle.scheme.proofs.Sets.{users-in-in, users-in-size}
+use Rattle.scheme.proofs.Laws.{system-of}
 use Rattle.scheme.proofs.Keys.{each-at, key-mask, key-reply, elements-at, elements-map, list-elements}
 
 pub all-of-in : (t : ℕ → Bool) (l : List ℕ) → all-of t l ≡ true → (k : ℕ) → In k l → t k ≡ true
@@ -138,23 +139,11 @@ module _ (A : Arithmetic) (p : Plan) (L : Laws A (p .users) (p .threshold)) wher
 
   -- the first U rows, by their places
   system : (rs : List ℕ) → Enough p rs → System K (λ a. row (getD rs a 0)) col (span (p .threshold) 0) (span (p .threshold) 1)
-  system rs e = record {
-    square = span-length (p .threshold) 0 ∙ sym (span-length (p .threshold) 1);
-    rows-once = span-once (p .threshold) 0;
-    columns-once = span-once (p .threshold) 1;
-    rows-apart = λ a b h l ne. L .rows-apart _ _ (user a h) (user b l) (at-apart rs (e .once) a b (place a h) (place b l) ne);
-    columns-apart = λ i j h l. L .columns-apart i j (column-in i h) (column-in j l);
-    meet = λ a j h l. L .meet _ j (user a h) (column-in j l);
-  }
+  system rs e = system-of L (λ a. getD rs a 0) (span (p .threshold) 0) (p .threshold) 1 (span-length (p .threshold) 0) (span-once (p .threshold) 0)
+      (λ a m. e .inside _ (in-at rs a (place a m))) (λ a b h l. at-apart rs (e .once) a b (place a h) (place b l)) (omega arith) (omega arith)
     where
       place : (a : ℕ) → In a (span (p .threshold) 0) → a < length rs
       place a m = omega (arith, span-in (p .threshold) 0 a m .1, e .many)
-
-      user : (a : ℕ) → In a (span (p .threshold) 0) → (1 ≤ getD rs a 0) × (getD rs a 0 ≤ p .users)
-      user a m = e .inside _ (in-at rs a (place a m))
-
-      column-in : (j : ℕ) → In j (span (p .threshold) 1) → (1 ≤ j) × (j ≤ p .threshold)
-      column-in j m = let s = span-in (p .threshold) 1 j m in (s .0, omega (arith, s .1))
 
   row-el : (rs : List ℕ) → Enough p rs → (a : ℕ) → a < p .threshold → (f : (j : ℕ) → ℕ)
       → el (row-value A (p .threshold) (getD rs a 0) f) ≡ value K row col (span (p .threshold) 1) (getD rs a 0) (λ j. el (f j))

@@ -4,7 +4,7 @@
 --   delta-mask, delta-column     the masks and the columns of the translation
 --   delta-share                  a share that a row does not see is 0
 -- Assumes nothing.
-use mathlib.Core.Path.{_≡_, sym, ap, ap₂, _∙_}
+use mathlib.Core.Path.{_≡_, refl, sym, ap, ap₂, _∙_}
 use mathlib.Core.Bool.{true, _&&_}
 use mathlib.Core.List.{List}
 use Prim.Native.Nat.{ℕ, suc, _+_, _*_, _-_, _^_, _≤_, _<_}
@@ -23,9 +23,10 @@ use Rattle.scheme.specs.Lists.{span, rank}
 use Rattle.scheme.specs.Scheme.{Arithmetic, Plan, items, places, in-set, ones, usable, users-in, usable-sets, list-length, mask, noise, noise-start, column, share}
 use Rattle.scheme.specs.Laws.{Laws}
 use Rattle.scheme.specs.Delta.{colluders-in, kept, unsolved, shift, delta, translation}
-use Rattle.scheme.proofs.Lists.{span-append, span-in, span-once, span-length, map-span-at, members-once, rank-at, high, low}
+use Rattle.scheme.proofs.Lists.{span-append, span-in, map-span-at, members-once, rank-at, high, low}
 use Rattle.scheme.proofs.Sums.{el-same, zero-small, sum-el, row-value-el, row-value-small}
 use Rattle.scheme.proofs.Sets.{users-in-in, usable-below, colluders-few, colluders-in-in, place-lt, mask-lt, noise-lt}
+use Rattle.scheme.proofs.Laws.{system-of}
 use Rattle.scheme.proofs.Privacy.Add.{value-zero}
 
 module _ (p : Plan) (c : ℕ) (more : p .collusion ≤ p .threshold) (few : ones (p .users) c ≤ p .collusion) (w : ℕ) where
@@ -64,20 +65,10 @@ module _ (A : Arithmetic) (p : Plan) (L : Laws A (p .users) (p .threshold)) (c :
     rest : ℕ → F
     rest k = neg (value K row col (span n 1) k (unsolved A p L c d e w b))
 
-    in-range : (j : ℕ) → In j solved → (1 ≤ j) × (j ≤ p .threshold)
-    unfolding n cs solved
-    in-range j h = let s = span-in (length cs) (suc n) j h in (omega (arith, s .0), omega (arith, s .1, kept-whole p c more few w))
-
     system : System K row col cs solved
     unfolding n cs solved colluders-in
-    system = record {
-      square = sym (span-length (length cs) (suc n));
-      rows-once = members-once (λ k. in-set c k && in-set w k) (p .users) 1;
-      columns-once = span-once (length cs) (suc n);
-      rows-apart = λ i k h l. L .rows-apart i k (colluders-in-in p c w i h) (colluders-in-in p c w k l);
-      columns-apart = λ i k h l. L .columns-apart i k (in-range i h) (in-range k l);
-      meet = λ k i h l. L .meet k i (colluders-in-in p c w k h) (in-range i l);
-    }
+    system = system-of L (λ k. k) cs (length cs) (suc n) refl (members-once (λ k. in-set c k && in-set w k) (p .users) 1)
+        (colluders-in-in p c w) (λ i k h l ne. ne) (omega arith) (omega (arith, kept-whole p c more few w))
 
     pub shift-unsolved : (j : ℕ) → j ≤ kept p c w → shift A p L c d e w b j ≡ unsolved A p L c d e w b j
     unfolding shift

@@ -23,10 +23,11 @@ use Rattle.scheme.specs.Lists.{span}
 use Rattle.scheme.specs.Scheme.{Arithmetic, sum, Plan, items, places, in-set, ones, usable, users-in, mask, noise, column, share, shares, key, first-message, reply, total-at}
 use Rattle.scheme.specs.Promise.{Table, Shown, admissible, shown}
 use Rattle.scheme.specs.Laws.{Laws}
-use Rattle.scheme.proofs.Lists.{span-append, span-in, in-span, span-once, span-length, map-span-at, members-once}
+use Rattle.scheme.proofs.Lists.{span-append, span-in, in-span, map-span-at, members-once}
 use Rattle.scheme.proofs.Sums.{el-same, zero-small, sum-el, sum-small, row-value-el}
 use Rattle.scheme.proofs.Sets.{users-in-in, users-in-size, place-lt}
 use Rattle.scheme.proofs.Keys.{each-at, key-mask, key-reply, elements-at}
+use Rattle.scheme.proofs.Laws.{system-of}
 use Rattle.scheme.proofs.Privacy.Sharp.{map-back}
 
 module _ (A : Arithmetic) (p : Plan) (L : Laws A (p .users) (p .threshold)) (v c : ℕ) (x y : Table) (xs ys : List ℕ)
@@ -89,23 +90,13 @@ module _ (A : Arithmetic) (p : Plan) (L : Laws A (p .users) (p .threshold)) (v c
     solved : List ℕ
     solved = span (suc (p .collusion)) (items p)
 
-    column-in : (j : ℕ) → In j solved → (1 ≤ j) × (j ≤ p .threshold)
-    unfolding solved items
-    column-in j m = let s = span-in (suc (p .collusion)) (items p) j m in (omega (arith, s .0), omega (arith, s .1))
-
     user : (k : ℕ) → In k (users-in p c) → (1 ≤ k) × (k ≤ p .users)
     user k m = let s = users-in-in p c k m in (s .0, s .1)
 
     system : System K row col (users-in p c) solved
-    unfolding solved users-in
-    system = record {
-      square = omega (arith, users-in-size p c, span-length (suc (p .collusion)) (items p));
-      rows-once = members-once (in-set c) (p .users) 1;
-      columns-once = span-once (suc (p .collusion)) (items p);
-      rows-apart = λ i k m l. L .rows-apart i k (user i m) (user k l);
-      columns-apart = λ i j m l. L .columns-apart i j (column-in i m) (column-in j l);
-      meet = λ k j m l. L .meet k j (user k m) (column-in j l);
-    }
+    unfolding solved users-in items
+    system = system-of L (λ k. k) (users-in p c) (suc (p .collusion)) (items p) (omega (arith, users-in-size p c))
+        (members-once (in-set c) (p .users) 1) user (λ i k m l ne. ne) (omega arith) (omega arith)
 
     abbrev cells : (zs : List ℕ) (j : ℕ) → F
     cells zs j = el (column A p zs w b j)
