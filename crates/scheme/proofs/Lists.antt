@@ -103,8 +103,9 @@ keep-first false k l e = absurd (holds e)
 pub in-members : (t : ℕ → Bool) (n k i : ℕ) → k ≤ i → i < k + n → t i ≡ true → In i (members t n k)
 in-members t zero k i lo hi e = absurd (omega arith)
 in-members t (suc n) k i lo hi e = elim (ℕ-discrete i k) [
-    yes r ↦ rw r (keep-first (t k) k (members t n (suc k)) (sym (ap t r) ∙ e))
-  | no r ↦ in-keep (t k) k i (members t n (suc k)) (in-members t n (suc k) i (omega arith) (omega arith) e) ]
+  | yes r ↦ rw r (keep-first (t k) k (members t n (suc k)) (sym (ap t r) ∙ e))
+  | no r ↦ in-keep (t k) k i (members t n (suc k)) (in-members t n (suc k) i (omega arith) (omega arith) e)
+]
 
 keep-once : (b : Bool) (k : ℕ) (l : List ℕ) → (In k l → ⊥) → Distinct l → Distinct (keep b k l)
 keep-once b k l h d = elim b [ true ↦ (h, d) | false ↦ d ]

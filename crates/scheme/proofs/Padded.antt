@@ -90,9 +90,10 @@ module _ (size : ℕ) (f : ℕ → ℕ) where
   pub filled-zeros : (n m : ℕ) → n ≤ m → m ≤ size → ((i : ℕ) → n ≤ i → i < m → f i ≡ 0) → filled size n f ≡ filled size m f
   filled-zeros n m h l z = ext-getD 0 _ _ (filled-length n (omega arith) ∙ sym (filled-length m l)) (λ i k.
       elim (decLt i n) [
-        yes a ↦ filled-at n i a ∙ sym (filled-at m i (omega arith))
-      | no a ↦ filled-behind n i (omega arith)
-          ∙ elim (decLt i m) [ yes b ↦ sym (filled-at m i b ∙ z i (omega arith) b) | no b ↦ sym (filled-behind m i (omega arith)) ] ])
+        | yes a ↦ filled-at n i a ∙ sym (filled-at m i (omega arith))
+        | no a ↦ filled-behind n i (omega arith)
+          ∙ elim (decLt i m) [ yes b ↦ sym (filled-at m i b ∙ z i (omega arith) b) | no b ↦ sym (filled-behind m i (omega arith)) ]
+      ])
 
 -- ---- i of n entries are written
 pub record Filling (size : ℕ) (f : ℕ → ℕ) (n i : ℕ) (out : List ℕ) : Type 0 where

@@ -60,7 +60,8 @@ module _ (A : Arithmetic) (p : Plan) (y : (k block : ℕ) → ℕ) where
       let c = some-choice A p L (few .set) y (sym (few .size)) small in
       elim (explains-all A p r y (c .choice))
       as (λ b. explains-all A p r y (c .choice) ≡ b → Choice A p r y ⊎ ((f : (block : ℕ) → List ℕ) → explains-all A p r y f ≡ true → ⊥)) [
-        true ↦ λ e. inl (record { choice = c .choice; right = e })
-      | false ↦ λ e. inr (λ f h.
+        | true ↦ λ e. inl (record { choice = c .choice; right = e })
+        | false ↦ λ e. inr (λ f h.
           let same = one-choice A p L (few .set) y f (c .choice) (omega (arith, few .size)) (choice-part r (few .set) f (few .inside) h) (c .right) in
-          holds (sym e ∙ choice-same r f (c .choice) same h)) ] refl
+          holds (sym e ∙ choice-same r f (c .choice) same h))
+      ] refl

@@ -65,8 +65,9 @@ module _ (p : Plan) (ok : plan-good p ≡ true) where
   figure-small : (n k i : ℕ) → n < 65521 → figure n k i < 65521
   unfolding figure
   figure-small n k i h = elim (eqb i last) as (λ s. cond s (cond (eqb k (p .users)) n 0) 0 < 65521) [
-      true ↦ elim (eqb k (p .users)) as (λ t. cond t n 0 < 65521) [ true ↦ h | false ↦ omega arith ]
-    | false ↦ omega arith ]
+    | true ↦ elim (eqb k (p .users)) as (λ t. cond t n 0 < 65521) [ true ↦ h | false ↦ omega arith ]
+    | false ↦ omega arith
+  ]
 
   table-good : (n : ℕ) → n < 65521 → admissible sixteen p (table n)
   unfolding admissible table

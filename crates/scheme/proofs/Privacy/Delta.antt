@@ -97,9 +97,10 @@ module _ (A : Arithmetic) (p : Plan) (L : Laws A (p .users) (p .threshold)) (c :
     pub shift-zero : ((j : ℕ) → 1 ≤ j → unsolved A p L c d e w b j ≡ 𝟘) → (j : ℕ) → 1 ≤ j → shift A p L c d e w b j ≡ 𝟘
     unfolding n cs solved rest
     shift-zero z j lo = elim (decLe j (kept p c w)) [
-        yes h ↦ shift-unsolved j h ∙ z j lo
+      | yes h ↦ shift-unsolved j h ∙ z j lo
       | no h ↦ shift-solved j (omega arith) ∙ solution-zero K row col cs solved rest (λ k m.
-          ap neg (value-zero K row col (span n 1) k (unsolved A p L c d e w b) (λ i l. z i (span-in n 1 i l .0))) ∙ sym (zero-add K (neg 𝟘)) ∙ K .add-neg 𝟘) j ]
+          ap neg (value-zero K row col (span n 1) k (unsolved A p L c d e w b) (λ i l. z i (span-in n 1 i l .0))) ∙ sym (zero-add K (neg 𝟘)) ∙ K .add-neg 𝟘) j
+    ]
 
   -- ---- the translation at a mask, at a noise element and in a column
   abbrev Δ : List ℕ
@@ -145,17 +146,18 @@ module _ (A : Arithmetic) (p : Plan) (L : Laws A (p .users) (p .threshold)) (c :
   delta-column v b j u h lo hi =
       let place : ℕ = b * items p + (j - 1) in
       elim (decLe j (items p)) [
-        yes l ↦
+        | yes l ↦
           let g : unsolved A p L c d e v b j ≡ field-sum K (users-in p v) (λ k. d k place) = rw (le-leb j (items p) l) in
           rw (le-leb j (items p) l)
           (sum-el A _ _ L (users-in p v) (λ k. mask p Δ k place)
           ∙ sum-same K (users-in p v) _ _ (λ k m. let s = users-in-in p v k m in delta-mask k place (s .0) (s .1) (place-lt p b j h lo l))
           ∙ sym (shift-unsolved v b j (omega (arith, kept-items p c more few v)) ∙ g))
-      | no l ↦
+        | no l ↦
           let s : items p < j = omega arith in
           let r : j - suc (items p) < p .collusion = omega arith in
           let f : suc (items p) + (j - suc (items p)) ≡ j = omega arith in
-          rw (lt-leb j (items p) s) (delta-noise v b (j - suc (items p)) u h r ∙ ap (shift A p L c d e v b) f) ]
+          rw (lt-leb j (items p) s) (delta-noise v b (j - suc (items p)) u h r ∙ ap (shift A p L c d e v b) f)
+      ]
 
   -- a share whose row sees nothing of the columns' move
   pub delta-share : (k v b : ℕ) → 1 ≤ k → k ≤ p .users → usable p v ≡ true → b < p .blocks

@@ -68,8 +68,9 @@ module _ (A : Arithmetic) (L : Laws A most-users most-threshold) (p : Plan) (use
         → Explained A p users m y (take (p .threshold) (solution-of A L rs cs vs (p .threshold)))
     unfolding fits-of
     fits-explains e = explained-by m (omega arith) (λ a h. elim (decLt a n) [
-        yes l ↦ solved a l
-      | no l ↦ eqb-true _ _ (all-of-in _ (span (m - n) n) e a (in-span (m - n) n a (omega arith) (omega arith))) ])
+      | yes l ↦ solved a l
+      | no l ↦ eqb-true _ _ (all-of-in _ (span (m - n) n) e a (in-span (m - n) n a (omega arith) (omega arith)))
+    ])
 
     pub explains-fits : Explained A p users m y (take (p .threshold) (solution-of A L rs cs vs (p .threshold)))
         → fits-of A rs cs vs (solution-of A L rs cs vs (p .threshold)) (p .threshold) m ≡ true

@@ -39,8 +39,9 @@ module _ (f : (a b : ℕ) → ℕ) where
 
   pub grid-small : (n s : ℕ) → 0 < s → ((a b : ℕ) → a < n → b < most-blocks → f a b < s) → (k : ℕ) → getD (grid n f) k 0 < s
   grid-small n s z h k = rw (is-filled n) (elim (decLt k (n * most-blocks)) [
-      yes l ↦ rw (filled-at cells entry (n * most-blocks) k l) (h (k / most-blocks) (k % most-blocks) (omega arith) (omega arith))
-    | no l ↦ rw (filled-behind cells entry (n * most-blocks) k (omega arith)) z ])
+    | yes l ↦ rw (filled-at cells entry (n * most-blocks) k l) (h (k / most-blocks) (k % most-blocks) (omega arith) (omega arith))
+    | no l ↦ rw (filled-behind cells entry (n * most-blocks) k (omega arith)) z
+  ])
 
   -- ---- i rows of a grid are written; the next starts at `at`
   pub record Rows (n i at : ℕ) (out : List ℕ) : Type 0 where

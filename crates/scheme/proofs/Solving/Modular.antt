@@ -81,16 +81,18 @@ module _ {q : ℕ} (prime : Prime q) (large : most-users + most-threshold < q) w
   gap-shift x y h l k =
       let small : y < q = omega arith in
       let same : eqb (most-threshold + x - y) most-threshold ≡ eqb x y = elim (ℕ-discrete x y) [
-          yes e ↦ eq-eqb (most-threshold + x - y) most-threshold (omega arith) ∙ sym (eq-eqb x y e)
-        | no e ↦ ne-eqb (most-threshold + x - y) most-threshold (λ d. e (omega arith)) ∙ sym (ne-eqb x y e) ] in
+        | yes e ↦ eq-eqb (most-threshold + x - y) most-threshold (omega arith) ∙ sym (eq-eqb x y e)
+        | no e ↦ ne-eqb (most-threshold + x - y) most-threshold (λ d. e (omega arith)) ∙ sym (ne-eqb x y e)
+      ] in
       ap₂ (λ (b : Bool) (m : ℕ). cond b 1 (inverse q (m % q))) same (omega (arith, mod-eq-of-lt small))
 
   module _ (own other : List ℕ) (n a : ℕ) where
     -- different positions have different points
     same-test : Points most-users n own → (i : ℕ) → a < n → i < n → eqb (getD own a 0) (getD own i 0) ≡ eqb a i
     same-test p i h l = elim (ℕ-discrete a i) [
-        yes e ↦ eq-eqb _ _ (ap (λ (k : ℕ). getD own k 0) e) ∙ sym (eq-eqb a i e)
-      | no e ↦ ne-eqb _ _ (p .apart a i h l e) ∙ sym (ne-eqb a i e) ]
+      | yes e ↦ eq-eqb _ _ (ap (λ (k : ℕ). getD own k 0) e) ∙ sym (eq-eqb a i e)
+      | no e ↦ ne-eqb _ _ (p .apart a i h l e) ∙ sym (ne-eqb a i e)
+    ]
 
     factor-el : (w i : ℕ) → Points most-users n own → a < n → i < n
         → el (w * ((getD own a 0 + getD other i 0) * gap-between q (getD own a 0) (getD own i 0)) % q)
