@@ -97,9 +97,7 @@ module _ (A : Arithmetic) where
   pub elements-append : (xs ys : List ℕ) → elements A xs ≡ true → elements A ys ≡ true → elements A (xs ++ ys) ≡ true
   unfolding elements
   elements-append [] ys h l = l
-  elements-append (x ∷ xs) ys h l =
-      let s = both (ltb x (A .size)) (elements A xs) h in
-      joined (s .0) (elements-append xs ys (s .1) l)
+  elements-append (x ∷ xs) ys h l = let s = both (ltb x (A .size)) (elements A xs) h in joined (s .0) (elements-append xs ys (s .1) l)
 
   pub elements-rows : (f : ℕ → List ℕ) (l : List ℕ) → ((k : ℕ) → In k l → elements A (f k) ≡ true) → elements A (rows f l) ≡ true
   unfolding elements

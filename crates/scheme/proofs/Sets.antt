@@ -1,5 +1,6 @@
 -- Sets of users, and where the masks and the noise stand in the random list.
---   users-in-in, users-in-size      the users of a set; as many as the set number has ones
+--   users-in-in, user-in            the users of a set
+--   users-in-size                   as many as the set number has ones
 --   usable-below, usable-size       what makes a set usable
 --   colluders-few, colluders-in-in  the colluders in a set
 --   place-lt                        the place of a block's item
@@ -24,6 +25,9 @@ use Rattle.scheme.proofs.Lists.{members-in, members-fewer, rank-lt, dig
 pub users-in-in : (p : Plan) (v k : ℕ) → In k (users-in p v) → (1 ≤ k) × (k ≤ p .users) × (in-set v k ≡ true)
 unfolding users-in
 users-in-in p v k h = let s = members-in (in-set v) (p .users) 1 k h in (s .0, omega (arith, s .1), s .2)
+
+pub user-in : (p : Plan) (v k : ℕ) → In k (users-in p v) → (1 ≤ k) × (k ≤ p .users)
+user-in p v k h = let s = users-in-in p v k h in (s .0, s .1)
 
 -- one bit
 bit : (b k : ℕ) (l : List ℕ) → b < 2 → length (keep (eqb b 1) k l) ≡ b + length l

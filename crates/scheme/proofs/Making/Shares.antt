@@ -66,15 +66,11 @@ module _ {A : Arithmetic} {n m : ℕ} (L : Laws A n m) where
 module _ (A : Arithmetic) (p : Plan) (xs : List ℕ) (v b : ℕ) where
   column-sum : (i : ℕ) → i < items p → column A p xs v b (1 + i) ≡ sum A (users-in p v) (λ k. mask p xs k (b * items p + i))
   unfolding column
-  column-sum i h =
-      let d : 1 + i - 1 ≡ i = omega arith in
-      rw (le-leb (1 + i) (items p) (omega arith), d)
+  column-sum i h = let d : 1 + i - 1 ≡ i = omega arith in rw (le-leb (1 + i) (items p) (omega arith), d)
 
   column-noise : (i : ℕ) → column A p xs v b (1 + items p + i) ≡ noise p xs v b i
   unfolding column
-  column-noise i =
-      let d : 1 + items p + i - suc (items p) ≡ i = omega arith in
-      rw (lt-leb (1 + items p + i) (items p) (omega arith), d)
+  column-noise i = let d : 1 + items p + i - suc (items p) ≡ i = omega arith in rw (lt-leb (1 + items p + i) (items p) (omega arith), d)
 
   -- columns U - T + 1 to U: the noise
   last-columns : (k : ℕ) (cs : List ℕ) → Coefficients A k (1 + items p) (p .collusion) cs →

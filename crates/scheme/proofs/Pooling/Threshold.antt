@@ -26,7 +26,7 @@ use Rattle.scheme.specs.Sharp.{smallest, Threshold-needed, Sums-open}
 use Rattle.scheme.proofs.Tests.{joined}
 use Rattle.scheme.proofs.Lists.{span-in, map-span-length, map-span-at, members-once}
 use Rattle.scheme.proofs.Sums.{el-same, row-value-el, row-value-small}
-use Rattle.scheme.proofs.Sets.{users-in-in, users-in-size}
+use Rattle.scheme.proofs.Sets.{user-in, users-in-size}
 use Rattle.scheme.proofs.Keys.{elements-map}
 use Rattle.scheme.proofs.Laws.{system-of}
 use Rattle.scheme.proofs.Modular.{sixteen-laws}
@@ -36,24 +36,19 @@ module _ (A : Arithmetic) (p : Plan) (L : Laws A (p .users) (p .threshold)) (r :
     (fewer : ones (p .users) r + 1 ≡ p .threshold) where
   open Laws L using (K, el, val, row, col)
 
-  rs : List ℕ
+  abbrev rs : List ℕ
   rs = users-in p r
 
   one-fewer : p .threshold ≡ suc (length rs)
-  unfolding rs
   one-fewer = omega (arith, users-in-size p r)
 
   -- the columns that are solved for: all but the first
   solved : List ℕ
   solved = span (length rs) 2
 
-  user : (k : ℕ) → In k rs → (1 ≤ k) × (k ≤ p .users)
-  unfolding rs
-  user k m = let s = users-in-in p r k m in (s .0, s .1)
-
   system : System K row col rs solved
-  unfolding rs solved users-in
-  system = system-of L (λ k. k) rs (length rs) 2 refl (members-once (in-set r) (p .users) 1) user (λ i k h l ne. ne) (omega arith) (omega (arith, one-fewer))
+  unfolding solved users-in
+  system = system-of L (λ k. k) rs (length rs) 2 refl (members-once (in-set r) (p .users) 1) (user-in p r) (λ i k h l ne. ne) (omega arith) (omega (arith, one-fewer))
 
   rest : (k : ℕ) → K .F
   rest k = sub K (el (y k)) (K .mul (coefficient K row col k 1) (el c))
@@ -78,12 +73,12 @@ module _ (A : Arithmetic) (p : Plan) (L : Laws A (p .users) (p .threshold)) (r :
 
   ws-right : ((k : ℕ) → y k < A .size) → (k : ℕ) → In k rs → row-value A (p .threshold) k (unknown ws) ≡ y k
   ws-right small k m = el-same A _ _ L (row-value-small A _ _ L (p .threshold) k (unknown ws)) (small k)
-      (row-value-el A _ _ L (p .threshold) k (unknown ws) (user k m) (omega arith) ∙ field-sum-same K (span (p .threshold) 1) _ _ (λ j h.
+      (row-value-el A _ _ L (p .threshold) k (unknown ws) (user-in p r k m) (omega arith) ∙ field-sum-same K (span (p .threshold) 1) _ _ (λ j h.
       let s = span-in (p .threshold) 1 j h in
       ap (K .mul (coefficient K row col k j)) (ap el (ws-at j (s .0) (omega (arith, s .1))) ∙ L .el-val (columns j))) ∙ columns-right k m)
 
 pub sums-open : (A : Arithmetic) (p : Plan) → Laws A (p .users) (p .threshold) → Sums-open A p
-unfolding Sums-open explains ws rs columns
+unfolding Sums-open explains ws columns
 sums-open A p L r y c fewer small h = record {
   unknowns = ws A p L r y c fewer;
   right = joined (joined (eq-eqb _ _ (map-span-length _ (p .threshold) 1)) (elements-map A _ (span (p .threshold) 1) (λ j m. L .val-small _)))

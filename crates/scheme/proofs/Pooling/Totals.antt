@@ -34,7 +34,7 @@ use Rattle.scheme.specs.Laws.{Laws}
 use Rattle.scheme.proofs.Tests.{both, joined}
 use Rattle.scheme.proofs.Lists.{span-in, in-span, span-once, span-length, span-next, span-end, map-same, map-span-length, map-span-at, members-once}
 use Rattle.scheme.proofs.Sums.{el-same, zero-small, sum-same, sum-el, sum-small, row-value-el, row-value-small}
-use Rattle.scheme.proofs.Sets.{users-in-in, users-in-size}
+use Rattle.scheme.proofs.Sets.{users-in-in, user-in, users-in-size}
 use Rattle.scheme.proofs.Laws.{system-of}
 use Rattle.scheme.proofs.Keys.{each-at, key-mask, key-reply, elements-at, elements-map, list-elements}
 
@@ -89,7 +89,7 @@ pub enough : (p : Plan) (r : ℕ) → p .threshold ≤ ones (p .users) r → Eno
 unfolding users-in
 enough p r h = record {
   once = members-once (in-set r) (p .users) 1;
-  inside = λ k m. let s = users-in-in p r k m in (s .0, s .1);
+  inside = user-in p r;
   many = omega (arith, users-in-size p r);
 }
 

@@ -123,15 +123,8 @@ module _ (A : Arithmetic) (p : Plan) (L : Laws A (p .users) (p .threshold)) (c :
       let r : ℕ = rank (usable p) v in
       let t : p .users * places p + (r * p .blocks + b) * p .collusion + i - p .users * places p ≡ (r * p .blocks + b) * p .collusion + i = omega arith in
       let f : p .users * places p ≤ p .users * places p + (r * p .blocks + b) * p .collusion + i = omega arith in
-      rw (
-        le-ltb _ _ f,
-        t,
-        high (r * p .blocks + b) i (p .collusion) l,
-        low (r * p .blocks + b) i (p .collusion) l,
-        high r b (p .blocks) h,
-        low r b (p .blocks) h,
-        rank-at (usable p) (2 ^ p .users) v (usable-below p v u) u,
-      )
+      rw (le-ltb _ _ f, t, high (r * p .blocks + b) i (p .collusion) l, low (r * p .blocks + b) i (p .collusion) l, high r b (p .blocks) h,
+      low r b (p .blocks) h, rank-at (usable p) (2 ^ p .users) v (usable-below p v u) u)
 
   pub delta-mask : (k i : ℕ) → 1 ≤ k → k ≤ p .users → i < places p → el (mask p Δ k i) ≡ d k i
   unfolding mask list-length

@@ -45,10 +45,7 @@ first-in m k lo hi = ap (λ (n : ℕ). eqb n 1) (bit-in m (k - 1) (omega arith))
 
 pub first-out : (m k : ℕ) → in-set (first m) k ≡ true → k ≤ m
 unfolding in-set
-first-out m k e = elim (decLe k m) [
-  | yes h ↦ h
-  | no h ↦ absurd (holds (sym (ap (λ (n : ℕ). eqb n 1) (bit-out m (k - 1) (omega arith))) ∙ e))
-]
+first-out m k e = elim (decLe k m) [ yes h ↦ h | no h ↦ absurd (holds (sym (ap (λ (n : ℕ). eqb n 1) (bit-out m (k - 1) (omega arith))) ∙ e)) ]
 
 pub first-size : (n m : ℕ) → m ≤ n → ones n (first m) ≡ m
 unfolding first ones

@@ -25,7 +25,7 @@ use Rattle.scheme.specs.Promise.{Table, Shown, admissible, shown}
 use Rattle.scheme.specs.Laws.{Laws}
 use Rattle.scheme.proofs.Lists.{span-append, span-in, in-span, map-span-at, members-once}
 use Rattle.scheme.proofs.Sums.{el-same, zero-small, sum-el, sum-small, row-value-el}
-use Rattle.scheme.proofs.Sets.{users-in-in, users-in-size, place-lt}
+use Rattle.scheme.proofs.Sets.{users-in-in, user-in, users-in-size, place-lt}
 use Rattle.scheme.proofs.Keys.{each-at, key-mask, key-reply, elements-at}
 use Rattle.scheme.proofs.Laws.{system-of}
 use Rattle.scheme.proofs.Privacy.Sharp.{map-back}
@@ -90,13 +90,10 @@ module _ (A : Arithmetic) (p : Plan) (L : Laws A (p .users) (p .threshold)) (v c
     solved : List ℕ
     solved = span (suc (p .collusion)) (items p)
 
-    user : (k : ℕ) → In k (users-in p c) → (1 ≤ k) × (k ≤ p .users)
-    user k m = let s = users-in-in p c k m in (s .0, s .1)
-
     system : System K row col (users-in p c) solved
     unfolding solved users-in items
     system = system-of L (λ k. k) (users-in p c) (suc (p .collusion)) (items p) (omega (arith, users-in-size p c))
-        (members-once (in-set c) (p .users) 1) user (λ i k m l ne. ne) (omega arith) (omega arith)
+        (members-once (in-set c) (p .users) 1) (user-in p c) (λ i k m l ne. ne) (omega arith) (omega arith)
 
     abbrev cells : (zs : List ℕ) (j : ℕ) → F
     cells zs j = el (column A p zs w b j)
@@ -123,7 +120,7 @@ module _ (A : Arithmetic) (p : Plan) (L : Laws A (p .users) (p .threshold)) (v c
     unfolding share shares
     share-value zs k m =
         ap el (ap (λ (l : List ℕ). getD l b 0) (key-reply A p zs k w u (inside k m)) ∙ map-span-at (share A p zs k w) (p .blocks) 0 b h
-        ∙ ap (share A p zs k w) (zero-add b)) ∙ row-value-el A _ _ L (p .threshold) k (column A p zs w b) (user k m) (omega arith)
+        ∙ ap (share A p zs k w) (zero-add b)) ∙ row-value-el A _ _ L (p .threshold) k (column A p zs w b) (user-in p c k m) (omega arith)
 
     pub last-total : ((j : ℕ) → 1 ≤ j → j < items p → total-at A p x w (place j) ≡ total-at A p y w (place j)) →
         total-at A p x w (place (items p)) ≡ total-at A p y w (place (items p))
