@@ -24,7 +24,7 @@ use Rattle.scheme.specs.Scheme.{Arithmetic, elements, Plan, places, in-s
 use Rattle.scheme.specs.Promise.{list-good}
 use Rattle.scheme.specs.Laws.{Laws}
 use Rattle.scheme.proofs.Tests.{both, joined}
-use Rattle.scheme.proofs.Lists.{map-span-length, map-span-at, rows-length, rows-at}
+use Rattle.scheme.proofs.Lists.{map-span-length, map-below-at, rows-length, rows-at}
 use Rattle.scheme.proofs.Sets.{usable-below}
 use Rattle.scheme.proofs.Sums.{zero-small, row-value-small}
 
@@ -42,7 +42,7 @@ module _ (f : ℕ → ℕ → ℕ) where
   each-length n xs ys = map-span-length (λ i. f (getD xs i 0) (getD ys i 0)) n 0
 
   pub each-at : (n : ℕ) (xs ys : List ℕ) (i : ℕ) → i < n → getD (each f n xs ys) i 0 ≡ f (getD xs i 0) (getD ys i 0)
-  each-at n xs ys i h = map-span-at (λ i. f (getD xs i 0) (getD ys i 0)) n 0 i h ∙ ap (λ (i : ℕ). f (getD xs i 0) (getD ys i 0)) (zero-add i)
+  each-at n xs ys i h = map-below-at (λ i. f (getD xs i 0) (getD ys i 0)) n i h
 
   each-cons : (n x y : ℕ) (xs ys : List ℕ) → each f (suc n) (x ∷ xs) (y ∷ ys) ≡ f x y ∷ each f n xs ys
   each-cons n x y xs ys = ap (λ (l : List ℕ). f x y ∷ l) (shifted (λ i. f (getD (x ∷ xs) i 0) (getD (y ∷ ys) i 0)) n 0)
@@ -71,7 +71,7 @@ module _ (A : Arithmetic) (p : Plan) (xs : List ℕ) (k : ℕ) where
   key-mask i h =
       let l : i < length (map (mask p xs k) (span (places p) 0)) = omega (arith, map-span-length (mask p xs k) (places p) 0) in
       List·getD-append (map (mask p xs k) (span (places p) 0)) (rows (shares A p xs k) (sets-with p k)) 0 i l
-      ∙ map-span-at (mask p xs k) (places p) 0 i h ∙ ap (mask p xs k) (zero-add i)
+      ∙ map-below-at (mask p xs k) (places p) i h
 
   pub key-reply : (v : ℕ) → usable p v ≡ true → in-set v k ≡ true → reply p (key A p xs k) k v ≡ shares A p xs k v
   unfolding reply reply-start key sets-with usable-with

@@ -1,7 +1,7 @@
 -- Laws of span, members, rank and rows.
 --   span-append, span-in, in-span, span-once, span-length       the n numbers from k on
 --   span-start, span-next, span-end                             those from i on, of n: all, one and the others, none
---   map-same, map-span-length, map-span-at                      maps over them
+--   map-same, map-span-length, map-span-at, map-below-at        maps over them, and over those below n
 --   members-append, members-in, in-members, members-once, members-fewer, members-le     those that pass a test
 --   rank-zero, rank-step, rank-at, rank-lt                      how many below v pass
 --   rows-same, rows-append, rows-length, rows-at                        one list for each number
@@ -70,6 +70,9 @@ pub map-span-at : (f : ℕ → ℕ) (n k i : ℕ) → i < n → getD (map f (spa
 map-span-at f zero k i h = absurd (omega arith)
 map-span-at f (suc n) k zero h = ap f (sym (add-zero k))
 map-span-at f (suc n) k (suc i) h = map-span-at f n (suc k) i (omega arith) ∙ ap f (suc-add k i ∙ sym (add-suc k i))
+
+pub map-below-at : (f : ℕ → ℕ) (n i : ℕ) → i < n → getD (map f (span n 0)) i 0 ≡ f i
+map-below-at f n i h = map-span-at f n 0 i h ∙ ap f (zero-add i)
 
 -- ---- members
 keep-append : (b : Bool) (k : ℕ) (l m : List ℕ) → keep b k (l ++ m) ≡ keep b k l ++ m

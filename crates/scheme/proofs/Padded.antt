@@ -18,7 +18,7 @@ use lib.ListN.{length, getD, take, set, replicate, length-append, length-replica
 use lib.Seq.{sets, getD-append-add, set-append-seam, take-append-seam, ext-getD}
 use Rattle.scheme.specs.Lists.{span, padded, filled}
 use Rattle.scheme.specs.Scheme.{Arithmetic, sum}
-use Rattle.scheme.proofs.Lists.{span-append, span-in, map-span-length, map-span-at, sets-more, zeros-at}
+use Rattle.scheme.proofs.Lists.{span-append, span-in, map-span-length, map-below-at, sets-more, zeros-at}
 use Rattle.scheme.proofs.Sums.{sum-same}
 use Rattle.scheme.proofs.Keys.{whole-list}
 
@@ -58,7 +58,7 @@ span-more f n = ap (map f) (span-append n 1 0) ∙ map-append f (span n 0) (span
 module _ (size : ℕ) (f : ℕ → ℕ) where
   pub filled-at : (n i : ℕ) → i < n → getD (filled size n f) i 0 ≡ f i
   unfolding filled
-  filled-at n i h = padded-at size (map f (span n 0)) i (omega (arith, map-span-length f n 0)) ∙ map-span-at f n 0 i h ∙ ap f (zero-add i)
+  filled-at n i h = padded-at size (map f (span n 0)) i (omega (arith, map-span-length f n 0)) ∙ map-below-at f n i h
 
   pub filled-behind : (n i : ℕ) → n ≤ i → getD (filled size n f) i 0 ≡ 0
   unfolding filled

@@ -18,7 +18,7 @@ use Rattle.scheme.specs.Lists.{span, keep, members, rows}
 use Rattle.scheme.specs.Scheme.{Arithmetic, sum}
 use Rattle.scheme.specs.Laws.{Laws}
 use Rattle.scheme.proofs.Tests.{none-below}
-use Rattle.scheme.proofs.Lists.{map-span-length, map-span-at, members-append, rows-append, sets-more}
+use Rattle.scheme.proofs.Lists.{map-span-length, map-below-at, members-append, rows-append, sets-more}
 use Rattle.scheme.proofs.Weighed.{sum-more}
 
 pub below-more : (P : ℕ → Type 0) {i : ℕ} → ((j : ℕ) → j < i → P j) → P i → (j : ℕ) → j < i + 1 → P j
@@ -73,5 +73,4 @@ module _ (old : List ℕ) (at : ℕ) (f : ℕ → ℕ) (n : ℕ) {new : List ℕ
   pub row-at : (b j : ℕ) → j ≡ at + b → b < n → at + n ≤ length old → getD new j 0 ≡ f b
   row-at b j d h m =
       let l = map-span-length f n 0 in
-      ap₂ (λ (r : List ℕ) (i : ℕ). getD r i 0) e d ∙ sets-at (map f (span n 0)) old at b (omega (arith, l)) (omega (arith, l))
-      ∙ map-span-at f n 0 b h ∙ ap f (zero-add b)
+      ap₂ (λ (r : List ℕ) (i : ℕ). getD r i 0) e d ∙ sets-at (map f (span n 0)) old at b (omega (arith, l)) (omega (arith, l)) ∙ map-below-at f n b h

@@ -20,7 +20,7 @@ use Rattle.scheme.specs.Laws.{Laws}
 use Rattle.scheme.proofs.Tests.{holds, both, joined}
 use Rattle.scheme.proofs.Lists.{span-in, map-same, in-members}
 use Rattle.scheme.proofs.Sets.{users-in-in}
-use Rattle.scheme.proofs.Pooling.Held.{Part, part}
+use Rattle.scheme.proofs.Pooling.Held.{part}
 use Rattle.scheme.proofs.Pooling.Totals.{all-of-in, at-all-of, in-at, one-choice, some-choice}
 
 -- a test that holds of each number of a list, so another of each number of a part

@@ -136,8 +136,7 @@ module _ (A : Arithmetic) where
 
     pub always-answers : Always-answers A
     unfolding Always-answers is-finish
-    always-answers r s w =
-        elim (refusal A r s) as (λ n. refusal A r s ≡ n → Answered A r s)
+    always-answers r s w = elim (refusal A r s) as (λ n. refusal A r s ≡ n → Answered A r s)
         [ zero ↦ taken r | suc n ↦ λ e. answered r s s _ w (refuses r s (λ z. omega arith)) ] refl
       where
         taken : (r : Record) → refusal A r s ≡ 0 → Answered A r s

@@ -14,7 +14,7 @@ use mathlib.Core.Logic.{_≢_, inl, inr}
 use mathlib.Core.Bool.{Bool, true, false, _&&_, cond}
 use mathlib.Core.List.{List, [], _∷_, map}
 use Prim.Native.Nat.{ℕ, zero, suc, _+_, _*_, _-_, _/_, _%_, _≤_, _<_}
-use native.Mathlib.Nat.{mul-zero, zero-add, div-add-mod', mod-lt, div-lt-iff-lt-mul, lt-of-mul-lt-mul-left}
+use native.Mathlib.Nat.{mul-zero, div-add-mod', mod-lt, div-lt-iff-lt-mul, lt-of-mul-lt-mul-left}
 use native.Mathlib.Omega.{arith}
 use lib.Dec.{leb, eqb}
 use lib.ListN.{length, getD}
@@ -32,7 +32,7 @@ use Rattle.scheme.specs.Promise.{Table, list-good}
 use Rattle.scheme.specs.Totals.{explains, explains-all, total-of, totals, Follows, One-choice, Totals-right, Some-choice, Rules-explain}
 use Rattle.scheme.specs.Laws.{Laws}
 use Rattle.scheme.proofs.Tests.{both, joined}
-use Rattle.scheme.proofs.Lists.{span-in, in-span, span-once, span-length, span-next, span-end, map-same, map-span-length, map-span-at, members-once}
+use Rattle.scheme.proofs.Lists.{span-in, in-span, span-once, span-length, span-next, span-end, map-same, map-span-length, map-span-at, map-below-at, members-once}
 use Rattle.scheme.proofs.Sums.{el-same, zero-small, sum-same, sum-el, sum-small, row-value-el, row-value-small}
 use Rattle.scheme.proofs.Sets.{users-in-in, user-in, users-in-size}
 use Rattle.scheme.proofs.Laws.{system-of}
@@ -87,11 +87,7 @@ pub record Enough (p : Plan) (rs : List ℕ) : Type 0 where
 
 pub enough : (p : Plan) (r : ℕ) → p .threshold ≤ ones (p .users) r → Enough p (users-in p r)
 unfolding users-in
-enough p r h = record {
-  once = members-once (in-set r) (p .users) 1;
-  inside = user-in p r;
-  many = omega (arith, users-in-size p r);
-}
+enough p r h = record { once = members-once (in-set r) (p .users) 1; inside = user-in p r; many = omega (arith, users-in-size p r) }
 
 -- ---- unknowns that explain the values of the first n rows of a list
 abbrev pub unknown : List ℕ → (j : ℕ) → ℕ
@@ -200,8 +196,7 @@ module _ (A : Arithmetic) (p : Plan) (L : Laws A (p .users) (p .threshold)) wher
   -- ---- replies that follow the rules are explained by the columns of the random list
   column-small : (xs : List ℕ) (v b j : ℕ) → elements A xs ≡ true → column A p xs v b j < A .size
   unfolding column noise
-  column-small xs v b j ok =
-      elim (leb j (items p))
+  column-small xs v b j ok = elim (leb j (items p))
       as (λ t. cond t (sum A (users-in p v) (λ k. mask p xs k (b * items p + (j - 1)))) (noise p xs v b (j - suc (items p))) < A .size)
       [ true ↦ sum-small A _ _ L (users-in p v) _ | false ↦ elements-at A (zero-small A _ _ L) xs _ ok ]
 
@@ -214,7 +209,7 @@ module _ (A : Arithmetic) (p : Plan) (L : Laws A (p .users) (p .threshold)) wher
         let k = getD (users-in p r) a 0 in
         let s = users-in-in p r k (in-at (users-in p r) a m) in
         sym (rules .answer k b (s .0) (s .1) (s .2) i ∙ ap (λ (l : List ℕ). getD l b 0) (key-reply A p xs k v u (rules .survives k (s .0) (s .1) (s .2)))
-        ∙ map-span-at (share A p xs k v) (p .blocks) 0 b i ∙ ap (share A p xs k v) (zero-add b))));
+        ∙ map-below-at (share A p xs k v) (p .blocks) b i)));
   }
 
   module _ (xs : List ℕ) (x : Table) (v r : ℕ) (firsts replies : (k at : ℕ) → ℕ) (f : (block : ℕ) → List ℕ) (ok : list-good A p xs ≡ true)

@@ -7,7 +7,7 @@ use mathlib.Core.Path.{_≡_, sym, ap, ap₂, _∙_}
 use mathlib.Core.Bool.{true}
 use mathlib.Core.List.{List, [], _∷_, _++_, map}
 use Prim.Native.Nat.{ℕ, suc, _+_, _*_, _-_, _^_, _≤_, _<_}
-use native.Mathlib.Nat.{zero-mul, suc-mul, zero-add}
+use native.Mathlib.Nat.{zero-mul, suc-mul}
 use native.Mathlib.Decide.{decLe}
 use native.Mathlib.Omega.{arith}
 use lib.ListN.{length}
@@ -22,7 +22,7 @@ use Rattle.scheme.specs.Scheme.{Arithmetic, Plan, items, places, usable,
 use Rattle.scheme.specs.Promise.{Key-add}
 use Rattle.scheme.specs.Laws.{Laws}
 use Rattle.scheme.proofs.Tests.{both}
-use Rattle.scheme.proofs.Lists.{map-same, map-span-length, map-span-at, members-in, rows-same, span-in}
+use Rattle.scheme.proofs.Lists.{map-same, map-span-length, map-below-at, members-in, rows-same, span-in}
 use Rattle.scheme.proofs.Sums.{el-same, sum-el, row-value-el, row-value-small}
 use Rattle.scheme.proofs.Sets.{users-in-in, place-lt, mask-lt, noise-lt}
 use Rattle.scheme.proofs.Keys.{each-at, each-append, shares-length}
@@ -69,8 +69,7 @@ module _ (A : Arithmetic) (p : Plan) (L : Laws A (p .users) (p .threshold)) (xs 
   column-add v b j u h lo hi =
       let at : ℕ = b * items p + (j - 1) in
       elim (decLe j (items p)) [
-        | yes l ↦ rw (le-leb j (items p) l)
-          (sum-el A _ _ L (users-in p v) (λ k. mask p plus k at) ∙ sum-same K (users-in p v) _ _ (λ k i.
+        | yes l ↦ rw (le-leb j (items p) l) (sum-el A _ _ L (users-in p v) (λ k. mask p plus k at) ∙ sum-same K (users-in p v) _ _ (λ k i.
           let s = users-in-in p v k i in
           ap el (mask-add k at (s .0) (s .1) (place-lt p b j h lo l)) ∙ L .el-add (mask p xs k at) (mask p ys k at)) ∙ sum-add K (users-in p v) _ _
           ∙ ap₂ (λ a b. a ⊕ b) (sym (sum-el A _ _ L (users-in p v) (λ k. mask p xs k at))) (sym (sum-el A _ _ L (users-in p v) (λ k. mask p ys k at))))
@@ -99,7 +98,7 @@ module _ (A : Arithmetic) (p : Plan) (L : Laws A (p .users) (p .threshold)) (xs 
   map-each g h n = map-same _ _ (span n 0) (λ i m.
       let s = span-in n 0 i m in
       let l : i < n = omega (arith, s .1) in
-      sym (ap₂ (A .add) (map-span-at g n 0 i l ∙ ap g (zero-add i)) (map-span-at h n 0 i l ∙ ap h (zero-add i))))
+      sym (ap₂ (A .add) (map-below-at g n i l) (map-below-at h n i l)))
 
   key-plus : (k : ℕ) → 1 ≤ k → k ≤ p .users → key A p plus k ≡ each (A .add) (key-length p k) (key A p xs k) (key A p ys k)
   unfolding key key-length sets-with usable-with shares

@@ -8,7 +8,6 @@ use mathlib.Core.Logic.{_≢_}
 use mathlib.Core.Bool.{Bool, true, false, cond}
 use mathlib.Core.List.{map}
 use Prim.Native.Nat.{ℕ, _+_, _*_, _-_, _<_}
-use native.Mathlib.Nat.{zero-add}
 use native.Mathlib.Omega.{arith}
 use lib.Dec.{eqb}
 use lib.ListN.{getD}
@@ -21,7 +20,7 @@ use Rattle.scheme.specs.Promise.{Table, admissible}
 use Rattle.scheme.specs.Good.{Good}
 use Rattle.scheme.specs.Laws.{Laws}
 use Rattle.scheme.specs.Sharp.{Own-needed, Collusion-needed}
-use Rattle.scheme.proofs.Lists.{map-same, map-span-length, map-span-at, members-once}
+use Rattle.scheme.proofs.Lists.{map-same, map-span-length, map-below-at, members-once}
 use Rattle.scheme.proofs.Sums.{el-same, sum-same, sum-el}
 use Rattle.scheme.proofs.Sets.{users-in-in, place-lt}
 use Rattle.scheme.proofs.Keys.{elements-map}
@@ -60,7 +59,7 @@ module _ (p : Plan) (ok : plan-good p ≡ true) where
 
   table-at : (n k i : ℕ) → i < places p → getD (table n k) i 0 ≡ figure n k i
   unfolding table
-  table-at n k i h = map-span-at (figure n k) (places p) 0 i h ∙ ap (figure n k) (zero-add i)
+  table-at n k i h = map-below-at (figure n k) (places p) i h
 
   figure-small : (n k i : ℕ) → n < 65521 → figure n k i < 65521
   unfolding figure

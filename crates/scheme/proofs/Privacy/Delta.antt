@@ -8,7 +8,6 @@ use mathlib.Core.Path.{_≡_, refl, sym, ap, ap₂, _∙_}
 use mathlib.Core.Bool.{true, _&&_}
 use mathlib.Core.List.{List}
 use Prim.Native.Nat.{ℕ, suc, _+_, _*_, _-_, _^_, _≤_, _<_}
-use native.Mathlib.Nat.{zero-add as n-zero-add}
 use native.Mathlib.Decide.{decLe}
 use native.Mathlib.Omega.{arith}
 use lib.ListN.{length, getD}
@@ -23,7 +22,7 @@ use Rattle.scheme.specs.Lists.{span, rank}
 use Rattle.scheme.specs.Scheme.{Arithmetic, Plan, items, places, in-set, ones, usable, users-in, usable-sets, list-length, mask, noise, noise-start, column, share}
 use Rattle.scheme.specs.Laws.{Laws}
 use Rattle.scheme.specs.Delta.{colluders-in, kept, unsolved, shift, delta, translation}
-use Rattle.scheme.proofs.Lists.{span-append, span-in, map-span-at, members-once, rank-at, high, low}
+use Rattle.scheme.proofs.Lists.{span-append, span-in, map-below-at, members-once, rank-at, high, low}
 use Rattle.scheme.proofs.Sums.{el-same, zero-small, sum-el, row-value-el, row-value-small}
 use Rattle.scheme.proofs.Sets.{users-in-in, usable-below, colluders-few, colluders-in-in, place-lt, mask-lt, noise-lt}
 use Rattle.scheme.proofs.Laws.{system-of}
@@ -108,7 +107,7 @@ module _ (A : Arithmetic) (p : Plan) (L : Laws A (p .users) (p .threshold)) (c :
 
   at : (i : ℕ) → i < list-length p → el (getD Δ i 0) ≡ delta A p L c d e i
   unfolding translation
-  at i h = ap el (map-span-at (λ n. val (delta A p L c d e n)) (list-length p) 0 i h) ∙ L .el-val _ ∙ ap (delta A p L c d e) (n-zero-add i)
+  at i h = ap el (map-below-at (λ n. val (delta A p L c d e n)) (list-length p) i h) ∙ L .el-val _
 
   delta-low : (k i : ℕ) → 1 ≤ k → k ≤ p .users → i < places p → delta A p L c d e ((k - 1) * places p + i) ≡ d k i
   unfolding delta

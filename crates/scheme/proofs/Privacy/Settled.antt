@@ -8,7 +8,6 @@ use mathlib.Core.Path.{_≡_, sym, ap, ap₂, _∙_}
 use mathlib.Core.Bool.{Bool, true, cond}
 use mathlib.Core.List.{List}
 use Prim.Native.Nat.{ℕ, suc, _+_, _*_, _-_, _≤_, _<_}
-use native.Mathlib.Nat.{zero-add}
 use native.Mathlib.Omega.{arith}
 use lib.ListN.{getD}
 use lib.Seq.{ext-getD}
@@ -23,7 +22,7 @@ use Rattle.scheme.specs.Lists.{span}
 use Rattle.scheme.specs.Scheme.{Arithmetic, sum, Plan, items, places, in-set, ones, usable, users-in, mask, noise, column, share, shares, key, first-message, reply, total-at}
 use Rattle.scheme.specs.Promise.{Table, Shown, admissible, shown}
 use Rattle.scheme.specs.Laws.{Laws}
-use Rattle.scheme.proofs.Lists.{span-append, span-in, in-span, map-span-at, members-once}
+use Rattle.scheme.proofs.Lists.{span-append, span-in, in-span, map-below-at, members-once}
 use Rattle.scheme.proofs.Sums.{el-same, zero-small, sum-el, sum-small, row-value-el}
 use Rattle.scheme.proofs.Sets.{users-in-in, user-in, users-in-size, place-lt}
 use Rattle.scheme.proofs.Keys.{each-at, key-mask, key-reply, elements-at}
@@ -119,8 +118,8 @@ module _ (A : Arithmetic) (p : Plan) (L : Laws A (p .users) (p .threshold)) (v c
         el (getD (reply p (key A p zs k) k w) b 0) ≡ value K row col (span (p .threshold) 1) k (cells zs)
     unfolding share shares
     share-value zs k m =
-        ap el (ap (λ (l : List ℕ). getD l b 0) (key-reply A p zs k w u (inside k m)) ∙ map-span-at (share A p zs k w) (p .blocks) 0 b h
-        ∙ ap (share A p zs k w) (zero-add b)) ∙ row-value-el A _ _ L (p .threshold) k (column A p zs w b) (user-in p c k m) (omega arith)
+        ap el (ap (λ (l : List ℕ). getD l b 0) (key-reply A p zs k w u (inside k m)) ∙ map-below-at (share A p zs k w) (p .blocks) b h)
+        ∙ row-value-el A _ _ L (p .threshold) k (column A p zs w b) (user-in p c k m) (omega arith)
 
     pub last-total : ((j : ℕ) → 1 ≤ j → j < items p → total-at A p x w (place j) ≡ total-at A p y w (place j)) →
         total-at A p x w (place (items p)) ≡ total-at A p y w (place (items p))

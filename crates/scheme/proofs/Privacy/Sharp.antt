@@ -10,7 +10,6 @@ use mathlib.Core.Logic.{inl, inr}
 use mathlib.Core.Bool.{true}
 use mathlib.Core.List.{List, [], _∷_, map}
 use Prim.Native.Nat.{ℕ, _≤_, _<_}
-use native.Mathlib.Nat.{zero-add}
 use native.Mathlib.Omega.{arith}
 use lib.ListN.{getD}
 use borrow.Author.Tests.{eq-eqb}
@@ -22,7 +21,7 @@ use Rattle.scheme.specs.Totals.{Follows, Totals-right, Choice, Rules-exp
 use Rattle.scheme.specs.Laws.{Laws}
 use Rattle.scheme.specs.Sharp.{Totals-needed}
 use Rattle.scheme.proofs.Tests.{joined}
-use Rattle.scheme.proofs.Lists.{in-span, map-span-length, map-span-at, in-members}
+use Rattle.scheme.proofs.Lists.{in-span, map-span-length, map-below-at, in-members}
 use Rattle.scheme.proofs.Sums.{zero-small}
 use Rattle.scheme.proofs.Sets.{usable-size}
 use Rattle.scheme.proofs.Keys.{elements-map}
@@ -81,7 +80,7 @@ module _ (A : Arithmetic) (p : Plan) (L : Laws A (p .users) (p .threshold)) (v c
       found = rules-explain A p L xs x v v firsts replies ok u first
 
       at : (z : Table) → getD (map (total-at A p z v) (span (places p) 0)) i 0 ≡ total-at A p z v i
-      at z = map-span-at (total-at A p z v) (places p) 0 i h ∙ ap (total-at A p z v) (zero-add i)
+      at z = map-below-at (total-at A p z v) (places p) i h
 
 pub totals-needed : Totals-needed
 unfolding Totals-needed

@@ -91,8 +91,7 @@ module _ (A : Arithmetic) (L : Laws A most-users most-threshold) where
 
   -- summands that are 0 do not count
   add-none : A .add 0 0 ≡ 0
-  add-none = el-same A most-users most-threshold L (L .add-small 0 0) (zero-small A most-users most-threshold L)
-      (L .el-add 0 0 ∙ ap (λ z. el 0 ⊕ z) (L .el-zero) ∙ K .add-zero (el 0))
+  add-none = el-same A _ _ L (L .add-small 0 0) (zero-small A _ _ L) (L .el-add 0 0 ∙ ap (λ z. el 0 ⊕ z) (L .el-zero) ∙ K .add-zero (el 0))
 
   sum-none : (n k : ℕ) (f : ℕ → ℕ) → ((i : ℕ) → k ≤ i → f i ≡ 0) → sum A (span n k) f ≡ 0
   unfolding sum
@@ -107,14 +106,13 @@ module _ (A : Arithmetic) (L : Laws A most-users most-threshold) where
 
   dot-small : (x : ℕ) (ps vs : List ℕ) (n : ℕ) → dot-of A x ps vs n < A .size
   unfolding dot-of
-  dot-small x ps vs n = sum-small A most-users most-threshold L (span n 0) _
+  dot-small x ps vs n = sum-small A _ _ L (span n 0) _
 
   dot-el : (x : ℕ) (ps vs : List ℕ) (n : ℕ) → (1 ≤ x) × (x ≤ most-users) → Points most-threshold n ps
       → el (dot-of A x ps vs n) ≡ field-sum K (span n 0) (λ i. inv (row x ⊕ column-points A L ps i) ⊗ right-side A L vs i)
   unfolding dot-of
-  dot-el x ps vs n h p = sum-el A most-users most-threshold L (span n 0) _ ∙ field-sum-same K (span n 0) _ _ (λ i m.
-      L .el-multiply _ _
-      ∙ ap (λ u. u ⊗ el (getD vs i 0)) (coefficient-el A most-users most-threshold L x (getD ps i 0) h (p .inside i (below n i m))))
+  dot-el x ps vs n h p = sum-el A _ _ L (span n 0) _ ∙ field-sum-same K (span n 0) _ _ (λ i m.
+      L .el-multiply _ _ ∙ ap (λ u. u ⊗ el (getD vs i 0)) (coefficient-el A _ _ L x (getD ps i 0) h (p .inside i (below n i m))))
 
   module _ (rs cs : List ℕ) (n : ℕ) where
     -- the weights of algebra's closed solution
@@ -157,7 +155,7 @@ module _ (A : Arithmetic) (L : Laws A most-users most-threshold) where
 
       pub solve-right : Square rs cs n → (a : ℕ) → a < n → getD vs a 0 < A .size
           → dot-of A (getD rs a 0) cs (solution-of A L rs cs vs n) n ≡ getD vs a 0
-      solve-right square a h small = el-same A most-users most-threshold L (dot-small (getD rs a 0) cs (solution-of A L rs cs vs n) n) small
+      solve-right square a h small = el-same A _ _ L (dot-small (getD rs a 0) cs (solution-of A L rs cs vs n) n) small
           (dot-el (getD rs a 0) cs _ n (square .rows-good .inside a h) (square .columns-good)
           ∙ field-sum-same K (span n 0) _ _ (λ i m. ap (λ u. inv (row-points A L rs a ⊕ column-points A L cs i) ⊗ u) (solution-el i (below n i m)))
           ∙ solves (system square) (right-side A L vs) a (in-span n 0 a (omega arith) (omega arith)))
@@ -169,8 +167,8 @@ module _ (A : Arithmetic) (L : Laws A most-users most-threshold) where
           → ((a : ℕ) → a < n → el (getD list a 0) ≡ β i ⊗ (α a ⊗ inv (row-points A L rs a ⊕ column-points A L cs i)))
           → weighed A list n (λ a. cell vs a b) ≡ unknown-at A L rs cs (block vs b) n i
       unfolding weighed unknown-at
-      unknown-right list i b few e = val-of _ _ (sum-small A most-users most-threshold L (span n 0) _)
-          (sum-el A most-users most-threshold L (span n 0) _ ∙ field-sum-same K (span n 0) _ _ (λ a m.
+      unknown-right list i b few e = val-of _ _ (sum-small A _ _ L (span n 0) _)
+          (sum-el A _ _ L (span n 0) _ ∙ field-sum-same K (span n 0) _ _ (λ a m.
           let l = below n a m in
           L .el-multiply _ _ ∙ ap₂ _⊗_ (e a l) (ap el (sym (block-at vs b a (omega arith)))) ∙ regroup _ _ _ _) ∙ field-sum-scale K _ (span n 0) _)
 

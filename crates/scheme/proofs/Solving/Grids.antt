@@ -14,12 +14,12 @@ use lib.Seq.{sets}
 use Rattle.scheme.specs.Limits.{most-users, most-blocks, cells}
 use Rattle.scheme.specs.Lists.{span, filled}
 use Rattle.scheme.specs.Solve.{cell, grid, block}
-use Rattle.scheme.proofs.Lists.{map-span-at, high, low, digits-lt}
+use Rattle.scheme.proofs.Lists.{map-below-at, high, low, digits-lt}
 use Rattle.scheme.proofs.Padded.{filled-at, filled-behind, filled-length, filled-sets, filled-zeros, filling-start}
 
 pub block-at : (g : List ℕ) (b i : ℕ) → i < most-users → getD (block g b) i 0 ≡ cell g i b
 unfolding block
-block-at g b i h = map-span-at (λ a. cell g a b) most-users 0 i h ∙ ap (λ (a : ℕ). cell g a b) (zero-add i)
+block-at g b i h = map-below-at (λ a. cell g a b) most-users i h
 
 module _ (f : (a b : ℕ) → ℕ) where
   -- the number at a place of a grid

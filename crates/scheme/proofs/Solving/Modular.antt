@@ -72,8 +72,7 @@ module _ {q : ℕ} (prime : Prime q) (large : most-users + most-threshold < q) w
 
   gap-el : (x y : ℕ) → el (gap-between q x y) ≡ cond (eqb x y) 𝟙 (inv (sub K (row x) (row y)))
   unfolding gap-between
-  gap-el x y =
-      elim (eqb x y) as (λ b. el (cond b 1 (inverse q (modular q .subtract x y))) ≡ cond b 𝟙 (inv (sub K (row x) (row y))))
+  gap-el x y = elim (eqb x y) as (λ b. el (cond b 1 (inverse q (modular q .subtract x y))) ≡ cond b 𝟙 (inv (sub K (row x) (row y))))
       [ true ↦ el-one | false ↦ el-inverse _ (mod-lt _ (prime-positive prime)) ∙ ap inv (points-difference x y) ]
 
   pub gap-shift : (x y : ℕ) → 1 ≤ x → 1 ≤ y → y ≤ most-users → gap-entry q (most-threshold + x - y) ≡ gap-between q x y
@@ -131,7 +130,7 @@ module _ {q : ℕ} (prime : Prime q) (large : most-users + most-threshold < q) w
         ∙ ap₂ _⊗_ (ap (λ (ws : List ℕ). el (getD ws i 0)) (weighted .beta-right) ∙ column-weight-el A L rs cs n i h)
         (el-times _ _
         ∙ ap₂ _⊗_ (ap (λ (ws : List ℕ). el (getD ws a 0)) (weighted .alpha-right) ∙ row-weight-el A L rs cs n a l)
-        (coefficient-el A most-users most-threshold L _ _ (s .rows-good .inside a l) (s .columns-good .inside i h)))
+        (coefficient-el A _ _ L _ _ (s .rows-good .inside a l) (s .columns-good .inside i h)))
 
     pub inverse-row-right : (list : List ℕ) (b : ℕ) → list ≡ filled most-users n (inverse-at q (getD cs i 0) rs alpha (getD beta i 0))
         → weighed (modular q) list n (λ a. cell vs a b) ≡ unknown-at (modular q) L rs cs (block vs b) n i
@@ -148,7 +147,7 @@ module _ {q : ℕ} (prime : Prime q) (large : most-users + most-threshold < q) w
     unreduced-both k n m r s a b = record {
       small = omega (arith, a .small, b .small, add-mul n m most);
       right = add-mod r s q ∙ ap₂ (λ (x y : ℕ). (x + y) % q) (a .right) (b .right)
-          ∙ sym (ap (λ (l : List ℕ). sum A l f) (span-append n m k) ∙ sum-append A most-users most-threshold L (span n k) (span m (k + n)) f);
+          ∙ sym (ap (λ (l : List ℕ). sum A l f) (span-append n m k) ∙ sum-append A _ _ L (span n k) (span m (k + n)) f);
     }
 
   -- factors that are 0 do not count
