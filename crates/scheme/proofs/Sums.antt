@@ -1,5 +1,6 @@
 -- The sums of an arithmetic are those of its field.
 --   el-same                     elements with the same residue are the same
+--   zero-small, add-none        0 is an element, and adds nothing
 --   sum-el, sum-small           a sum
 --   sum-same                    the same terms
 --   sum-append, sum-shift       over two lists; over numbers that start further on
@@ -43,6 +44,9 @@ module _ (A : Arithmetic) (n m : ℕ) (L : Laws A n m) where
 
   pub zero-small : 0 < A .size
   zero-small = omega (arith, L .add-small 0 0)
+
+  pub add-none : (a b : ℕ) → a < A .size → el b ≡ 𝟘 → A .add a b ≡ a
+  add-none a b h e = el-same (L .add-small a b) h (L .el-add a b ∙ ap (λ x. el a ⊕ x) e ∙ K .add-zero (el a))
 
   pub sum-el : (l : List ℕ) (f : ℕ → ℕ) → el (sum A l f) ≡ field-sum K l (λ k. el (f k))
   unfolding sum

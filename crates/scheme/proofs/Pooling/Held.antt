@@ -60,16 +60,13 @@ unfolding set-of
 set-of-below t zero = omega arith
 set-of-below t (suc n) = omega (arith, set-of-step t n, bit-lt (t 1), set-of-below (λ i. t (suc i)) n, pow-suc 2 n)
 
-set-of-in-from : (t : ℕ → Bool) (n k : ℕ) → k < n → in-set (set-of t n 1) (suc k) ≡ t (suc k)
-set-of-in-from t zero k h = absurd (omega arith)
-set-of-in-from t (suc n) zero h = ap (λ (v : ℕ). in-set v 1) (set-of-step t n) ∙ in-first (t 1) _
-set-of-in-from t (suc n) (suc k) h = in-half (set-of t (suc n) 1) k
-    ∙ ap (λ (v : ℕ). in-set v (suc k)) (ap (λ (v : ℕ). v / 2) (set-of-step t n) ∙ high (set-of (λ i. t (suc i)) n 1) (bit (t 1)) 2 (bit-lt (t 1)))
-    ∙ set-of-in-from (λ i. t (suc i)) n k (omega arith)
-
 pub set-of-in : (t : ℕ → Bool) (n k : ℕ) → 1 ≤ k → k ≤ n → in-set (set-of t n 1) k ≡ t k
 set-of-in t n zero lo hi = absurd (omega arith)
-set-of-in t n (suc k) lo hi = set-of-in-from t n k hi
+set-of-in t zero (suc k) lo hi = absurd (omega arith)
+set-of-in t (suc n) (suc zero) lo hi = ap (λ (v : ℕ). in-set v 1) (set-of-step t n) ∙ in-first (t 1) _
+set-of-in t (suc n) (suc (suc k)) lo hi = in-half (set-of t (suc n) 1) k
+    ∙ ap (λ (v : ℕ). in-set v (suc k)) (ap (λ (v : ℕ). v / 2) (set-of-step t n) ∙ high (set-of (λ i. t (suc i)) n 1) (bit (t 1)) 2 (bit-lt (t 1)))
+    ∙ set-of-in (λ i. t (suc i)) n (suc k) (omega arith) (omega arith)
 
 -- ---- u of the users of a set: the highest
 pub record Part (n v u : ℕ) : Type 0 where

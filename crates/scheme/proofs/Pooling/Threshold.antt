@@ -43,21 +43,21 @@ module _ (A : Arithmetic) (p : Plan) (L : Laws A (p .users) (p .threshold)) (r :
   one-fewer = omega (arith, users-in-size p r)
 
   -- the columns that are solved for: all but the first
-  solved : List ℕ
+  abbrev solved : List ℕ
   solved = span (length rs) 2
 
   system : System K row col rs solved
-  unfolding solved users-in
+  unfolding users-in
   system = system-of L (λ k. k) rs (length rs) 2 refl (members-once (in-set r) (p .users) 1) (user-in p r) (λ i k h l ne. ne) (omega arith) (omega (arith, one-fewer))
 
-  rest : (k : ℕ) → K .F
+  abbrev rest : (k : ℕ) → K .F
   rest k = sub K (el (y k)) (K .mul (coefficient K row col k 1) (el c))
 
   columns : (j : ℕ) → K .F
   columns j = cond (eqb j 1) (el c) (solution K row col rs solved rest j)
 
   columns-right : (k : ℕ) → In k rs → value K row col (span (p .threshold) 1) k columns ≡ el (y k)
-  unfolding columns rest solved
+  unfolding columns
   columns-right k m = ap (λ (n : ℕ). value K row col (span n 1) k columns) one-fewer
       ∙ ap (K .add (K .mul (coefficient K row col k 1) (el c)))
       (field-sum-same K solved _ _ (λ j h. rw (ne-eqb j 1 (λ e. omega (arith, span-in (length rs) 2 j h .0)))) ∙ solves system rest k m) ∙ add-sub K _ _

@@ -52,20 +52,20 @@ module _ (A : Arithmetic) (p : Plan) (L : Laws A (p .users) (p .threshold)) (c :
   infixl 65 _⊕_
   -- ---- the columns of a set's block
   module _ (w b : ℕ) where
-    n : ℕ
+    abbrev n : ℕ
     n = kept p c w
 
-    cs : List ℕ
+    abbrev cs : List ℕ
     cs = colluders-in p c w
 
-    solved : List ℕ
+    abbrev solved : List ℕ
     solved = span (length cs) (suc n)
 
-    rest : ℕ → F
+    abbrev rest : ℕ → F
     rest k = neg (value K row col (span n 1) k (unsolved A p L c d e w b))
 
     system : System K row col cs solved
-    unfolding n cs solved colluders-in
+    unfolding colluders-in
     system = system-of L (λ k. k) cs (length cs) (suc n) refl (members-once (λ k. in-set c k && in-set w k) (p .users) 1)
         (colluders-in-in p c w) (λ i k h l ne. ne) (omega arith) (omega (arith, kept-whole p c more few w))
 
@@ -74,13 +74,14 @@ module _ (A : Arithmetic) (p : Plan) (L : Laws A (p .users) (p .threshold)) (c :
     shift-unsolved j h = rw (le-leb j (kept p c w) h)
 
     shift-solved : (j : ℕ) → kept p c w < j → shift A p L c d e w b j ≡ solution K row col cs solved rest j
-    unfolding shift n cs solved rest
+    unfolding shift
     shift-solved j h = rw (lt-leb j (kept p c w) h)
 
     -- a colluder in the set sees nothing of the columns' move
     pub shift-hidden : (k : ℕ) → In k (colluders-in p c w) → value K row col (span (p .threshold) 1) k (shift A p L c d e w b) ≡ 𝟘
-    unfolding n cs solved rest
-    shift-hidden k m = ap (λ (l : List ℕ). value K row col l k (shift A p L c d e w b))
+    shift-hidden k m =
+        let one : 1 + kept p c w ≡ suc (kept p c w) = omega arith in
+        ap (λ (l : List ℕ). value K row col l k (shift A p L c d e w b))
         (ap (λ (i : ℕ). span i 1) (sym (kept-whole p c more few w)) ∙ span-append n (length cs) 1)
         ∙ sum-append K (span n 1) (span (length cs) (1 + n)) _
         ∙ ap₂ (λ x y. x ⊕ y)
@@ -88,13 +89,9 @@ module _ (A : Arithmetic) (p : Plan) (L : Laws A (p .users) (p .threshold)) (c :
         (ap (λ (i : ℕ). value K row col (span (length cs) i) k (shift A p L c d e w b)) one
         ∙ sum-same K solved _ _ (λ j h. ap (K .mul (coefficient K row col k j)) (shift-solved j (omega (arith, span-in (length cs) (suc n) j h .0))))
         ∙ solves system rest k m) ∙ K .add-neg _
-      where
-        one : 1 + kept p c w ≡ suc (kept p c w)
-        one = omega arith
 
     -- where no column that is not solved moves, none does
     pub shift-zero : ((j : ℕ) → 1 ≤ j → unsolved A p L c d e w b j ≡ 𝟘) → (j : ℕ) → 1 ≤ j → shift A p L c d e w b j ≡ 𝟘
-    unfolding n cs solved rest
     shift-zero z j lo = elim (decLe j (kept p c w)) [
       | yes h ↦ shift-unsolved j h ∙ z j lo
       | no h ↦ shift-solved j (omega arith) ∙ solution-zero K row col cs solved rest (λ k m.

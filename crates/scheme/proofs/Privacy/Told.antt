@@ -22,7 +22,7 @@ use Rattle.scheme.specs.Laws.{Laws}
 use Rattle.scheme.specs.Delta.{colluders-in, unsolved, shift, difference, table-delta, partner, back}
 use Rattle.scheme.proofs.Tests.{both, joined}
 use Rattle.scheme.proofs.Lists.{map-same, members-in, in-members, rows-same, span-in}
-use Rattle.scheme.proofs.Sums.{el-same, zero-small, sum-el, row-value-small}
+use Rattle.scheme.proofs.Sums.{el-same, zero-small, add-none, sum-el, row-value-small}
 use Rattle.scheme.proofs.Sets.{users-in-in, place-lt}
 use Rattle.scheme.proofs.Keys.{each-at, each-length, whole-list, key-mask, key-reply, elements-at, elements-map, list-long, list-elements}
 use Rattle.scheme.proofs.Privacy.Add.{mask-add, share-add, value-zero}
@@ -52,9 +52,6 @@ module _ (A : Arithmetic) (p : Plan) (L : Laws A (p .users) (p .threshold)) wher
   infixl 65 _⊕_
   z : 0 < A .size
   z = zero-small A _ _ L
-
-  add-none : (a b : ℕ) → a < A .size → el b ≡ 𝟘 → A .add a b ≡ a
-  add-none a b h e = el-same A _ _ L (L .add-small a b) h (L .el-add a b ∙ ap (λ x. el a ⊕ x) e ∙ K .add-zero (el a))
 
   subtract-add : (a b : ℕ) → a < A .size → A .subtract (A .add a b) b ≡ a
   subtract-add a b h = el-same A _ _ L (L .subtract-small _ b) h
@@ -129,7 +126,7 @@ module _ (A : Arithmetic) (p : Plan) (L : Laws A (p .users) (p .threshold)) wher
       shares-same k w lo hi r none = map-same _ _ (span (p .blocks) 0) (λ b m.
           let h : b < p .blocks = omega (arith, span-in (p .blocks) 0 b m .1) in
           sym (share-add A p L xs Δ k w b lo hi r h
-          ∙ add-none (share A p xs k w b) (share A p Δ k w b) (row-value-small A _ _ L (p .threshold) k _) (ap el (none b h) ∙ L .el-zero)))
+          ∙ add-none A _ _ L (share A p xs k w b) (share A p Δ k w b) (row-value-small A _ _ L (p .threshold) k _) (ap el (none b h) ∙ L .el-zero)))
 
       reply-same : (k : ℕ) → 1 ≤ k → k ≤ p .users → in-set v k ≡ true → reply p (key A p xs k) k v ≡ reply p (key A p ys k) k v
       reply-same k lo hi i = key-reply A p xs k v u i ∙ shares-same k v lo hi u (λ b h. reply-zero k b lo hi h) ∙ sym (key-reply A p ys k v u i)
@@ -167,13 +164,10 @@ module _ (A : Arithmetic) (p : Plan) (L : Laws A (p .users) (p .threshold)) wher
   -- for every plan with no more colluders than threshold; the figures need not be admissible
   pub nothing-told : p .collusion ≤ p .threshold → Nothing-told A p
   unfolding Nothing-told partner back
-  nothing-told more v c x y u below few ax ay al = record {
+  nothing-told more v c x y u below few ax ay al = let Δ : List ℕ = table-delta A p L c x y in record {
     partner = partner A p L c x y;
     back = back A p L c x y;
     stays = λ xs ok. (each-good A p (A .add) (L .add-small) xs Δ, each-good A p (A .subtract) (L .subtract-small) xs Δ);
     one-to-one = λ xs ok. (each-undo A p (A .add) (A .subtract) z subtract-add xs Δ ok, each-undo A p (A .subtract) (A .add) z add-subtract xs Δ ok);
     same = shown-same v c x y more few u al;
   }
-    where
-      Δ : List ℕ
-      Δ = table-delta A p L c x y

@@ -30,7 +30,7 @@ use Rattle.scheme.specs.Laws.{Laws}
 use Rattle.scheme.specs.Weighed.{weighed}
 use Rattle.scheme.specs.Solve.{Points, Square, Sums-low, Factors, dot-of, cell, block, row-fits, row-points, column-points, right-side, row-weight, column-weight, row-weights, column-weights, unknown-at, solution-of, unknowns-of}
 use Rattle.scheme.proofs.Lists.{span-in, in-span, span-once, span-start, span-next, span-end}
-use Rattle.scheme.proofs.Sums.{sum-same, sum-shift, el-same, zero-small, sum-el, sum-small, coefficient-el}
+use Rattle.scheme.proofs.Sums.{sum-same, sum-shift, el-same, zero-small, add-none, sum-el, sum-small, coefficient-el}
 use Rattle.scheme.proofs.Padded.{filled-at, filled-behind}
 use Rattle.scheme.proofs.Solving.Grids.{block-at, grid-at}
 
@@ -90,13 +90,11 @@ module _ (A : Arithmetic) (L : Laws A most-users most-threshold) where
   val-of a x h e = sym (L .val-el a h) ∙ ap val e
 
   -- summands that are 0 do not count
-  add-none : A .add 0 0 ≡ 0
-  add-none = el-same A _ _ L (L .add-small 0 0) (zero-small A _ _ L) (L .el-add 0 0 ∙ ap (λ z. el 0 ⊕ z) (L .el-zero) ∙ K .add-zero (el 0))
-
   sum-none : (n k : ℕ) (f : ℕ → ℕ) → ((i : ℕ) → k ≤ i → f i ≡ 0) → sum A (span n k) f ≡ 0
   unfolding sum
   sum-none zero k f z = refl
-  sum-none (suc n) k f z = ap₂ (A .add) (z k (omega arith)) (sum-none n (suc k) f (λ i h. z i (omega arith))) ∙ add-none
+  sum-none (suc n) k f z = ap₂ (A .add) (z k (omega arith)) (sum-none n (suc k) f (λ i h. z i (omega arith)))
+      ∙ add-none A _ _ L 0 0 (zero-small A _ _ L) (L .el-zero)
 
   pub sum-short : (m n k : ℕ) (f : ℕ → ℕ) → n ≤ m → ((i : ℕ) → k + n ≤ i → f i ≡ 0) → sum A (span m k) f ≡ sum A (span n k) f
   unfolding sum

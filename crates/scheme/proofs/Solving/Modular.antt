@@ -61,19 +61,15 @@ module _ {q : ℕ} (prime : Prime q) (large : most-users + most-threshold < q) w
   unfolding modular-laws
   points-sum x y = el-path (simp mods)
 
-  points-difference : (x y : ℕ) → el (modular q .subtract x y) ≡ sub K (row x) (row y)
-  unfolding modular-laws
-  points-difference x y = L .el-subtract x y
-
   -- ---- weights
   pub weights-exchanged : (own other : List ℕ) (n : ℕ) → row-weights (modular q) L own other n ≡ column-weights (modular q) L other own n
   unfolding modular-laws row-weights row-weight column-weights column-weight
   weights-exchanged own other n = refl
 
   gap-el : (x y : ℕ) → el (gap-between q x y) ≡ cond (eqb x y) 𝟙 (inv (sub K (row x) (row y)))
-  unfolding gap-between
+  unfolding gap-between modular-laws
   gap-el x y = elim (eqb x y) as (λ b. el (cond b 1 (inverse q (modular q .subtract x y))) ≡ cond b 𝟙 (inv (sub K (row x) (row y))))
-      [ true ↦ el-one | false ↦ el-inverse _ (mod-lt _ (prime-positive prime)) ∙ ap inv (points-difference x y) ]
+      [ true ↦ el-one | false ↦ el-inverse _ (mod-lt _ (prime-positive prime)) ∙ ap inv (L .el-subtract x y) ]
 
   pub gap-shift : (x y : ℕ) → 1 ≤ x → 1 ≤ y → y ≤ most-users → gap-entry q (most-threshold + x - y) ≡ gap-between q x y
   unfolding gap-entry gap-between
