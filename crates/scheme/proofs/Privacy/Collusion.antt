@@ -36,20 +36,14 @@ own-needed p v c k x y ok ax ay lo hi e ne m =
     let L = sixteen-laws p ok in
     ne (own-same sixteen p L v c x y (zeros p) (m .partner (zeros p)) (m .same (zeros p) (zeros-good sixteen p L)) ax ay k (in-users p c k lo hi e))
 
-module _ (p : Plan) (ok : plan-good p ≡ true) where
-  L : Laws sixteen (p .users) (p .threshold)
-  L = sixteen-laws p ok
-
-  g : Good p
-  g = good p ok
-
+module _ (p : Plan) (L : Laws sixteen (p .users) (p .threshold)) (g : Good p) where
   -- the last item of block 0
   last : ℕ
   last = 0 * items p + (items p - 1)
 
   last-lt : last < places p
   unfolding last items
-  last-lt = place-lt p 0 (items p) (omega (arith, g .blocks-low)) (omega (arith, g .collusion-high)) (omega arith)
+  last-lt = place-lt p 0 (items p) (omega arith) (omega arith) (omega arith)
 
   figure : (n k i : ℕ) → ℕ
   figure n k i = cond (eqb i last) (cond (eqb k (p .users)) n 0) 0
@@ -94,37 +88,36 @@ module _ (p : Plan) (ok : plan-good p ≡ true) where
       ∙ field-sum-same K (users-in p (first (p .users))) _ (λ k. L .el (cond (eqb k (p .users)) n 0)) (λ k m.
       ap (L .el) (table-at n k last last-lt ∙ ap (λ (t : Bool). cond t (cond (eqb k (p .users)) n 0) 0) (eq-eqb last last refl)))
       ∙ sum-pick K (users-in p (first (p .users))) _ (p .users) (members-once (in-set (first (p .users))) (p .users) 1)
-      (in-users p _ (p .users) (omega (arith, g .users-low)) (omega arith)
-      (first-in (p .users) (p .users) (omega (arith, g .users-low)) (omega arith))) (λ k m ne.
+      (in-users p _ (p .users) (omega arith) (omega arith) (first-in (p .users) (p .users) (omega arith) (omega arith))) (λ k m ne.
       ap (λ (t : Bool). L .el (cond t n 0)) (ne-eqb k (p .users) ne) ∙ L .el-zero)
       ∙ ap (λ (t : Bool). L .el (cond t n 0)) (eq-eqb (p .users) (p .users) refl)
 
-  pub collusion-needed : Collusion-needed sixteen p
+  needed : Collusion-needed sixteen p
   unfolding last items table
-  collusion-needed = record {
+  needed = record {
     v = first (p .users - 1);
     c = first (p .collusion + 1);
     x = table 0;
     y = table 1;
-    usable-set = first-usable p (p .users - 1) (omega arith) (omega (arith, g .threshold-high));
-    below = first-below (p .users) (p .collusion + 1) (omega (arith, g .collusion-high, g .threshold-high));
-    one-more = first-size (p .users) (p .collusion + 1) (omega (arith, g .collusion-high, g .threshold-high));
+    usable-set = first-usable p (p .users - 1) (omega arith) (omega arith);
+    below = first-below (p .users) (p .collusion + 1) (omega arith);
+    one-more = first-size (p .users) (p .collusion + 1) (omega arith);
     x-admissible = table-good 0 (omega arith);
     y-admissible = table-good 1 (omega arith);
     alike = record {
-      own = λ k lo hi e. map-same (figure 0 k) (figure 1 k) (span (places p) 0)
-          (λ i m. user-same k i (λ d. omega (arith, d, first-out (p .collusion + 1) k e, g .collusion-high, g .threshold-high)));
+      own = λ k lo hi e. map-same (figure 0 k) (figure 1 k) (span (places p) 0) (λ i m. user-same k i (λ d. omega (arith, first-out (p .collusion + 1) k e)));
       totals = λ i h. totals-same (first (p .users - 1)) i h
-          (λ k m. user-same k i (λ d. omega (arith, d, g .users-low, first-out (p .users - 1) k (users-in-in p (first (p .users - 1)) k m .2))));
+          (λ k m. user-same k i (λ d. omega (arith, first-out (p .users - 1) k (users-in-in p (first (p .users - 1)) k m .2))));
     };
     no-matching = λ m.
         let settled = last-total sixteen p L (first (p .users - 1)) (first (p .collusion + 1)) (table 0) (table 1) (zeros p) (m .partner (zeros p))
-        (m .same (zeros p) (zeros-good sixteen p L))
-        (first-size (p .users) (p .collusion + 1) (omega (arith, g .collusion-high, g .threshold-high))) (g .collusion-high) (first (p .users)) 0
-        (first-usable p (p .users) (omega arith) (omega (arith, g .threshold-high)))
-        (λ k n. let s = users-in-in p (first (p .collusion + 1)) k n in first-in (p .users) k (s .0) (s .1)) (omega (arith, g .blocks-low))
-        (λ j lo hi. totals-same (first (p .users)) _ (place-lt p 0 j (omega (arith, g .blocks-low)) lo (omega arith))
-        (λ k n. place-same k _ (λ d. omega (arith, d)))) in
+        (m .same (zeros p) (zeros-good sixteen p L)) (first-size (p .users) (p .collusion + 1) (omega arith)) (g .collusion-high)
+        (first (p .users)) 0 (first-usable p (p .users) (omega arith) (omega arith))
+        (λ k n. let s = users-in-in p (first (p .collusion + 1)) k n in first-in (p .users) k (s .0) (s .1)) (omega arith)
+        (λ j lo hi. totals-same (first (p .users)) _ (place-lt p 0 j (omega arith) lo (omega arith)) (λ k n. place-same k _ (λ d. omega arith))) in
         let e : _≡_ {A = ℕ} 0 1 = el-same sixteen _ _ L (omega arith) (omega arith) (sym (total-all 0) ∙ ap (L .el) settled ∙ total-all 1) in
         omega arith;
   }
+
+pub collusion-needed : (p : Plan) → plan-good p ≡ true → Collusion-needed sixteen p
+collusion-needed p ok = needed p (sixteen-laws p ok) (good p ok)
