@@ -42,13 +42,13 @@ laws-some {n = n} {m} {k} {l} L few small = record {
 }
   where
     row-in : (i : ℕ) → (1 ≤ i) × (i ≤ k) → (1 ≤ i) × (i ≤ n)
-    row-in i h = (h .0, omega (arith, h .1))
+    row-in i h = (h .0, omega arith)
 
     column-in : (j : ℕ) → (1 ≤ j) × (j ≤ l) → (1 ≤ j) × (j ≤ m)
-    column-in j h = (h .0, omega (arith, h .1))
+    column-in j h = (h .0, omega arith)
 
 unfoldable pub laws-of : {A : Arithmetic} → Laws A most-users most-threshold → (p : Plan) → plan-good p ≡ true → Laws A (p .users) (p .threshold)
-laws-of L p h = let g = good p h in laws-some L (g .users-high) (omega (arith, g .threshold-high, g .users-high))
+laws-of L p h = let g = good p h in laws-some L (g .users-high) (omega arith)
 
 -- row a has the number f a; the columns are k, k + 1, ..
 pub system-of : {A : Arithmetic} {n m : ℕ} (L : Laws A n m) (f : ℕ → ℕ) (rs : List ℕ) (c k : ℕ) → length rs ≡ c → Distinct rs
@@ -64,4 +64,4 @@ system-of {m = m} L f rs c k long once inside apart low high = record {
 }
   where
     column-in : (j : ℕ) → In j (span c k) → (1 ≤ j) × (j ≤ m)
-    column-in j h = let s = span-in c k j h in (omega (arith, s .0), omega (arith, s .1))
+    column-in j h = let s = span-in c k j h in (omega arith, omega arith)

@@ -93,8 +93,8 @@ keep-in false k i l h = inr h
 
 pub members-in : (t : ℕ → Bool) (n k i : ℕ) → In i (members t n k) → (k ≤ i) × (i < k + n) × (t i ≡ true)
 members-in t zero k i h = absurd h
-members-in t (suc n) k i h = ⊎-elim (λ e. (omega (arith, e .0), omega (arith, e .0), ap t (e .0) ∙ e .1))
-    (λ m. let s = members-in t n (suc k) i m in (omega (arith, s .0), omega (arith, s .1), s .2)) (keep-in (t k) k i (members t n (suc k)) h)
+members-in t (suc n) k i h = ⊎-elim (λ e. (omega arith, omega arith, ap t (e .0) ∙ e .1))
+    (λ m. let s = members-in t n (suc k) i m in (omega arith, omega arith, s .2)) (keep-in (t k) k i (members t n (suc k)) h)
 
 in-keep : (b : Bool) (k i : ℕ) (l : List ℕ) → In i l → In i (keep b k l)
 in-keep b k i l h = elim b [ true ↦ inr h | false ↦ h ]
@@ -115,8 +115,7 @@ keep-once b k l h d = elim b [ true ↦ (h, d) | false ↦ d ]
 
 pub members-once : (t : ℕ → Bool) (n k : ℕ) → Distinct (members t n k)
 members-once t zero k = tt
-members-once t (suc n) k =
-    keep-once (t k) k (members t n (suc k)) (λ h. let s = members-in t n (suc k) k h in omega (arith, s .0)) (members-once t n (suc k))
+members-once t (suc n) k = keep-once (t k) k (members t n (suc k)) (λ h. let s = members-in t n (suc k) k h in omega arith) (members-once t n (suc k))
 
 keep-fewer : (a b : Bool) (k : ℕ) (l m : List ℕ) → length l ≤ length m → length (keep (a && b) k l) ≤ length (keep a k m)
 keep-fewer true true k l m h = omega arith

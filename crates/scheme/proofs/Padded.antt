@@ -126,7 +126,7 @@ module _ (f : ℕ → ℕ) (n at : ℕ) (old : List ℕ) where
       record { inside = omega arith; done = ap₂ (λ (o : List ℕ) (y : ℕ). set o (at + b) y) (s .done) e ∙ sets-more old at b f }
 
   pub setting-end : (b : ℕ) (new : List ℕ) → n ≤ b → Setting f n at old b new → new ≡ sets old at (map f (span n 0))
-  setting-end b new h s = let e : b ≡ n = omega (arith, s .inside) in s .done ∙ ap (λ (k : ℕ). sets old at (map f (span k 0))) e
+  setting-end b new h s = let e : b ≡ n = omega arith in s .done ∙ ap (λ (k : ℕ). sets old at (map f (span k 0))) e
 
 -- ---- lists by their places
 pub map-at : (f : ℕ → ℕ) (l : List ℕ) (a : ℕ) → a < length l → getD (map f l) a 0 ≡ f (getD l a 0)

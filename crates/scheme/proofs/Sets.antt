@@ -24,7 +24,7 @@ use Rattle.scheme.proofs.Lists.{members-in, members-fewer, rank-lt, dig
 
 pub users-in-in : (p : Plan) (v k : ℕ) → In k (users-in p v) → (1 ≤ k) × (k ≤ p .users) × (in-set v k ≡ true)
 unfolding users-in
-users-in-in p v k h = let s = members-in (in-set v) (p .users) 1 k h in (s .0, omega (arith, s .1), s .2)
+users-in-in p v k h = let s = members-in (in-set v) (p .users) 1 k h in (s .0, omega arith, s .2)
 
 pub user-in : (p : Plan) (v k : ℕ) → In k (users-in p v) → (1 ≤ k) × (k ≤ p .users)
 user-in p v k h = let s = users-in-in p v k h in (s .0, s .1)
@@ -66,7 +66,7 @@ colluders-few p c w few = omega (arith, members-fewer (in-set c) (in-set w) (p .
 
 pub colluders-in-in : (p : Plan) (c w k : ℕ) → In k (colluders-in p c w) → (1 ≤ k) × (k ≤ p .users)
 unfolding colluders-in
-colluders-in-in p c w k h = let s = members-in (λ k. in-set c k && in-set w k) (p .users) 1 k h in (s .0, omega (arith, s .1))
+colluders-in-in p c w k h = let s = members-in (λ k. in-set c k && in-set w k) (p .users) 1 k h in (s .0, omega arith)
 
 pub place-lt : (p : Plan) (b j : ℕ) → b < p .blocks → 1 ≤ j → j ≤ items p → b * items p + (j - 1) < places p
 unfolding places

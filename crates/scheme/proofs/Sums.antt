@@ -70,7 +70,7 @@ module _ (A : Arithmetic) (n m : ℕ) (L : Laws A n m) where
   unfolding row-value
   row-value-el u k f h l = sum-el (span u 1) (λ j. A .multiply (A .coefficient k j) (f j)) ∙ field-sum-same K (span u 1) _ _ (λ j i.
       let s = span-in u 1 j i in
-      L .el-multiply (A .coefficient k j) (f j) ∙ ap (λ c. c ⊗ el (f j)) (coefficient-el k j h (s .0, omega (arith, s .1))))
+      L .el-multiply (A .coefficient k j) (f j) ∙ ap (λ c. c ⊗ el (f j)) (coefficient-el k j h (s .0, omega arith)))
 
   pub row-value-small : (u k : ℕ) (f : ℕ → ℕ) → row-value A u k f < A .size
   unfolding row-value

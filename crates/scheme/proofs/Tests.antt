@@ -42,7 +42,7 @@ Past (suc k) n = Past k n × (n ≡ k → ⊥)
 
 past : (k n : ℕ) → Past k n → k ≤ n
 past zero n h = omega arith
-past (suc k) n h = let l = past k n (h .0) in omega (arith, h .1)
+past (suc k) n h = let l = past k n (h .0) in omega arith
 
 pub last-arm : (k n : ℕ) → Past k n → n ≤ k → n ≡ k
 last-arm k n h l = le-antisymm l (past k n h)

@@ -94,7 +94,7 @@ module _ {A : Arithmetic} {n m : ℕ} (L : Laws A n m) (p : Plan) (xs : List ℕ
       let l : List ℕ = members (in-set v) (p .users) 1 in
       sum-same A l (λ j. getD zs ((j - 1) * most-blocks + b) 0) (λ j. columns-value A k 1 w (f j)) (λ j i.
       let s = members-in (in-set v) (p .users) 1 j i in
-      z .each (j - 1) (omega (arith, s .0, s .1)) b h) ∙ sym (columns-sum L k 1 w l f)
+      z .each (j - 1) (omega arith) b h) ∙ sym (columns-sum L k 1 w l f)
       ∙ columns-same A k 1 w (λ i. sum A l (λ j. f j i)) (λ i. column A p xs v b (1 + i)) (λ i s. sym (column-sum A p xs v b i s))
 
   module _ (more : p .collusion ≤ p .threshold) (c : Coefficients A k (1 + items p) (p .collusion) cs) where

@@ -35,7 +35,7 @@ pub weight-more : {q n m : ℕ} → Laws (modular q) n m → {most : ℕ} {cs : 
 weight-more {q} L {most} {cs} {i} {f} {total} {x} d h =
     let y : ℕ = getD cs i 0 * f i in
     record {
-      small = omega (arith, d .small, row-next i most);
+      small = omega (arith, row-next i most);
       right = sym (add-mod-mod total x q) ∙ ap (λ (z : ℕ). (total + z) % q) (h .0) ∙ add-mod-mod total y q
           ∙ sym (weighed-more L cs i f ∙ rw (← d .right, mod-add-mod));
     }
@@ -64,7 +64,7 @@ module _ {most : ℕ} {zs : List ℕ} {from n : ℕ} {old new : List ℕ} (a : R
 
   pub added-more : (x : ℕ) → (x ≡ getD zs (from + n) 0) × (x ≤ most) → Row-added most zs from (n + 1) old (set new n (getD new n 0 + x))
   added-more x h = record {
-    small = below-more (λ b. getD zs (from + b) 0 ≤ most) (a .small) (omega (arith, h .0, h .1));
+    small = below-more (λ b. getD zs (from + b) 0 ≤ most) (a .small) (omega arith);
     right = row-more old 0 _ n (a .right) (sym (zero-add n)) (ap₂ _+_ added-rest (h .0));
   }
 
@@ -82,7 +82,7 @@ module _ {q n m : ℕ} (L : Laws (modular q) n m) {most : ℕ} {zs : List ℕ} {
       → Unreduced-sums q most zs v (k + 1) new
   unfolding set-sum
   sums-take e from f new a =
-      let added = added-at a (omega (arith, s .long)) in
+      let added = added-at a (omega arith) in
       record {
         long = added-long a ∙ s .long;
         small = λ b h. omega (arith, added b h, s .small b h, a .small b h, row-next k most);

@@ -73,7 +73,7 @@ module _ {A : Arithmetic} {n m : ℕ} (L : Laws A n m) where
         long = length-sets old at (map f (span (p .blocks) 0)) ∙ z .long;
         each = below-more (λ i. (b : ℕ) → b < p .blocks → getD new (i * most-blocks + b) 0 ≡ value i b)
             (λ i l b s. row-other old at f (p .blocks) refl (i * most-blocks + b) (λ a m same. omega arith) ∙ z .each i l b s) (λ b s.
-            row-at old at f (p .blocks) refl b _ (ap (λ (a : ℕ). a + b) (sym d)) s (omega (arith, z .long)) ∙ alone c xs from b
+            row-at old at f (p .blocks) refl b _ (ap (λ (a : ℕ). a + b) (sym d)) s (omega arith) ∙ alone c xs from b
             ∙ ap (λ (a : ℕ). columns-value A u 1 (items p) (block-item xs a (items p) b)) e);
       }
 

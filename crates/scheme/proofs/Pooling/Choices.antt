@@ -40,7 +40,7 @@ module _ (A : Arithmetic) (p : Plan) (y : (k block : ℕ) → ℕ) where
   choice-part r v f inside = all-of-part _ _ (span (p .blocks) 0) _ (λ b i. i) (λ b i h.
       let s = both (eqb (length (f b)) (p .threshold) && elements A (f b)) _ h in
       let sub : (k : ℕ) → In k (users-in p v) → In k (users-in p r) =
-      λ k m. let e = users-in-in p v k m in in-members (in-set r) (p .users) 1 k (e .0) (omega (arith, e .1)) (inside k (e .0) (e .2)) in
+      λ k m. let e = users-in-in p v k m in in-members (in-set r) (p .users) 1 k (e .0) (omega arith) (inside k (e .0) (e .2)) in
       joined (s .0) (all-of-part _ _ (users-in p r) (users-in p v) sub (λ k m e. e) (s .1)))
 
   pub totals-same : (v : ℕ) (x : (k place : ℕ) → ℕ) (f g : (block : ℕ) → List ℕ) → ((b : ℕ) → b < p .blocks → f b ≡ g b) → totals A p v x f ≡ totals A p v x g
@@ -62,6 +62,6 @@ module _ (A : Arithmetic) (p : Plan) (y : (k block : ℕ) → ℕ) where
       as (λ b. explains-all A p r y (c .choice) ≡ b → Choice A p r y ⊎ ((f : (block : ℕ) → List ℕ) → explains-all A p r y f ≡ true → ⊥)) [
         | true ↦ λ e. inl (record { choice = c .choice; right = e })
         | false ↦ λ e. inr (λ f h.
-          let same = one-choice A p L (few .set) y f (c .choice) (omega (arith, few .size)) (choice-part r (few .set) f (few .inside) h) (c .right) in
+          let same = one-choice A p L (few .set) y f (c .choice) (omega arith) (choice-part r (few .set) f (few .inside) h) (c .right) in
           holds (sym e ∙ choice-same r f (c .choice) same h))
       ] refl

@@ -75,7 +75,7 @@ module _ (A : Arithmetic) (p : Plan) (L : Laws A (p .users) (p .threshold)) (r :
   ws-right small k m = el-same A _ _ L (row-value-small A _ _ L (p .threshold) k (unknown ws)) (small k)
       (row-value-el A _ _ L (p .threshold) k (unknown ws) (user-in p r k m) (omega arith) ∙ field-sum-same K (span (p .threshold) 1) _ _ (λ j h.
       let s = span-in (p .threshold) 1 j h in
-      ap (K .mul (coefficient K row col k j)) (ap el (ws-at j (s .0) (omega (arith, s .1))) ∙ L .el-val (columns j))) ∙ columns-right k m)
+      ap (K .mul (coefficient K row col k j)) (ap el (ws-at j (s .0) (omega arith)) ∙ L .el-val (columns j))) ∙ columns-right k m)
 
 pub sums-open : (A : Arithmetic) (p : Plan) → Laws A (p .users) (p .threshold) → Sums-open A p
 unfolding Sums-open explains ws columns

@@ -126,8 +126,8 @@ module _ (A : Arithmetic) (p : Plan) where
     fits = λ a i.
         sum-same A (span (p .threshold) 1) _ _ (λ j m.
         let s = span-in (p .threshold) 1 j m in
-        let e : 1 + (j - 1) ≡ j = omega (arith, s .0) in
-        ap (A .multiply (A .coefficient _ j)) (map-span-at f (p .threshold) 1 (j - 1) (omega (arith, s .0, s .1)) ∙ ap f e)) ∙ h a i;
+        let e : 1 + (j - 1) ≡ j = omega arith in
+        ap (A .multiply (A .coefficient _ j)) (map-span-at f (p .threshold) 1 (j - 1) (omega arith) ∙ ap f e)) ∙ h a i;
   }
 
 module _ (A : Arithmetic) (p : Plan) (L : Laws A (p .users) (p .threshold)) where
@@ -143,7 +143,7 @@ module _ (A : Arithmetic) (p : Plan) (L : Laws A (p .users) (p .threshold)) wher
 
   row-el : (rs : List ℕ) → Enough p rs → (a : ℕ) → a < p .threshold → (f : (j : ℕ) → ℕ)
       → el (row-value A (p .threshold) (getD rs a 0) f) ≡ value K row col (span (p .threshold) 1) (getD rs a 0) (λ j. el (f j))
-  row-el rs e a i f = row-value-el A _ _ L (p .threshold) (getD rs a 0) f (e .inside _ (in-at rs a (omega (arith, e .many)))) (omega arith)
+  row-el rs e a i f = row-value-el A _ _ L (p .threshold) (getD rs a 0) f (e .inside _ (in-at rs a (omega arith))) (omega arith)
 
   pub columns-known : (rs : List ℕ) → Enough p rs → (f g : (j : ℕ) → ℕ)
       → ((a : ℕ) → a < p .threshold → row-value A (p .threshold) (getD rs a 0) f ≡ row-value A (p .threshold) (getD rs a 0) g)
@@ -159,7 +159,7 @@ module _ (A : Arithmetic) (p : Plan) (L : Laws A (p .users) (p .threshold)) wher
       el-same A _ _ L (elements-at A (zero-small A _ _ L) w i (g .small)) (elements-at A (zero-small A _ _ L) v i (h .small))
       (ap (λ (a : ℕ). el (getD w a 0)) (sym s)
       ∙ columns-known rs e (unknown w) (unknown v) (λ a m. g .fits a (omega arith) ∙ sym (h .fits a (omega arith))) (suc i) (omega arith)
-      (omega (arith, g .long)) ∙ ap (λ (a : ℕ). el (getD v a 0)) s))
+      (omega arith) ∙ ap (λ (a : ℕ). el (getD v a 0)) s))
 
   pub one-choice : One-choice A p
   unfolding One-choice

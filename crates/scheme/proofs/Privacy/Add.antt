@@ -89,7 +89,7 @@ module _ (A : Arithmetic) (p : Plan) (L : Laws A (p .users) (p .threshold)) (xs 
       el-same A _ _ L (row-value-small A _ _ L n k (column A p plus v b)) (L .add-small _ _)
       (row-value-el A _ _ L n k (column A p plus v b) (lo, hi) r
       ∙ sum-same K (span n 1) _ _
-      (λ j i. let s = span-in n 1 j i in ap (K .mul (coefficient K row col k j)) (column-add v b j u h (s .0) (omega (arith, s .1))))
+      (λ j i. let s = span-in n 1 j i in ap (K .mul (coefficient K row col k j)) (column-add v b j u h (s .0) (omega arith)))
       ∙ value-add K row col (span n 1) k (λ j. el (column A p xs v b j)) (λ j. el (column A p ys v b j))
       ∙ ap₂ (λ a b. a ⊕ b) (sym (row-value-el A _ _ L n k (column A p xs v b) (lo, hi) r)) (sym (row-value-el A _ _ L n k (column A p ys v b) (lo, hi) r))
       ∙ sym (L .el-add (row-value A n k (column A p xs v b)) (row-value A n k (column A p ys v b))))
@@ -97,7 +97,7 @@ module _ (A : Arithmetic) (p : Plan) (L : Laws A (p .users) (p .threshold)) (xs 
   map-each : (g h : ℕ → ℕ) (n : ℕ) → map (λ i. A .add (g i) (h i)) (span n 0) ≡ each (A .add) n (map g (span n 0)) (map h (span n 0))
   map-each g h n = map-same _ _ (span n 0) (λ i m.
       let s = span-in n 0 i m in
-      let l : i < n = omega (arith, s .1) in
+      let l : i < n = omega arith in
       sym (ap₂ (A .add) (map-below-at g n i l) (map-below-at h n i l)))
 
   key-plus : (k : ℕ) → 1 ≤ k → k ≤ p .users → key A p plus k ≡ each (A .add) (key-length p k) (key A p xs k) (key A p ys k)

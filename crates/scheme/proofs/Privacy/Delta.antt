@@ -157,5 +157,5 @@ module _ (A : Arithmetic) (p : Plan) (L : Laws A (p .users) (p .threshold)) (c :
       el-same A _ _ L (row-value-small A _ _ L m k (column A p Δ v b)) (zero-small A _ _ L)
       (row-value-el A _ _ L m k (column A p Δ v b) (lo, hi) (omega arith)
       ∙ sum-same K (span m 1) _ _
-      (λ j i. let s = span-in m 1 j i in ap (K .mul (coefficient K row col k j)) (delta-column v b j u h (s .0) (omega (arith, s .1))))
+      (λ j i. let s = span-in m 1 j i in ap (K .mul (coefficient K row col k j)) (delta-column v b j u h (s .0) (omega arith)))
       ∙ z ∙ sym (L .el-zero))

@@ -72,7 +72,7 @@ module _ (A : Arithmetic) (p : Plan) (L : Laws A (p .users) (p .threshold)) (v c
       let a = ax k (s .0) (s .1) in
       let b = ay k (s .0) (s .1) in
       ext-getD 0 (x k) (y k) (a .0 ∙ sym (b .0)) (λ i l.
-      let h : i < places p = omega (arith, a .0) in
+      let h : i < places p = omega arith in
       el-same A _ _ L (elements-at A (zero-small A _ _ L) (x k) i (a .1)) (elements-at A (zero-small A _ _ L) (y k) i (b .1))
       (add-cancel K (el (mask p xs k i))
       (add-comm K _ _ ∙ masked-same k i (s .0) (s .1) h
@@ -139,7 +139,7 @@ module _ (A : Arithmetic) (p : Plan) (L : Laws A (p .users) (p .threshold)) (v c
         before-same : (k : ℕ) → before k (cells xs) ≡ before k (cells ys)
         before-same k = field-sum-same K (span (items p - 1) 1) _ _ (λ j m.
             let s = span-in (items p - 1) 1 j m in
-            ap (K .mul _) (low-cell j (s .0) (omega (arith, s .1))))
+            ap (K .mul _) (low-cell j (s .0) (omega arith)))
 
         settled : cells xs (items p) ≡ cells ys (items p)
         settled = unique system (cells xs) (cells ys) (λ k m.

@@ -152,7 +152,7 @@ module _ (A : Arithmetic) (p : Plan) (L : Laws A (p .users) (p .threshold)) wher
       shown-same = λ i. record {
         firsts = map-same (λ k. first-message A p (key A p xs k) (x k)) (λ k. first-message A p (key A p ys k) (y k)) (span (p .users) 1) (λ k m.
             let s = span-in (p .users) 1 k m in
-            first-same k (s .0) (omega (arith, s .1))) i;
+            first-same k (s .0) (omega arith)) i;
         replies = map-same (λ k. reply p (key A p xs k) k v) (λ k. reply p (key A p ys k) k v) (users-in p v) (λ k m.
             let s = users-in-in p v k m in
             reply-same k (s .0) (s .1) (s .2)) i;

@@ -39,7 +39,7 @@ below n i m = omega (arith, span-in n 0 i m)
 
 pub points-some : {most more n m : ℕ} {xs : List ℕ} → Points most m xs → most ≤ more → n ≤ m → Points more n xs
 points-some p h l = record {
-  inside = λ i a. let x = p .inside i (omega arith) in (x .0, omega (arith, x .1));
+  inside = λ i a. let x = p .inside i (omega arith) in (x .0, omega arith);
   apart = λ i k a b. p .apart i k (omega arith) (omega arith);
 }
 

@@ -47,7 +47,7 @@ module _ (A : Arithmetic) (L : Laws A most-users most-threshold) (p : Plan) (use
     unfolding row-value
     row-of a h = sum-same A (span n 1) _ _ (λ j i.
         let s = span-in n 1 j i in
-        ap₂ (λ (k x : ℕ). A .multiply (A .coefficient k j) x) (sym (block .rows a h)) (getD-take n W (j - 1) 0 (omega (arith, s .0, s .1))))
+        ap₂ (λ (k x : ℕ). A .multiply (A .coefficient k j) x) (sym (block .rows a h)) (getD-take n W (j - 1) 0 (omega arith)))
         ∙ sym (dot-row A (getD rs a 0) cs W n (block .columns))
 
     explained-by : (k : ℕ) → k ≤ m → ((a : ℕ) → a < k → dot-of A (getD rs a 0) cs W n ≡ getD vs a 0) → Explained A p users k y (take n W)
@@ -59,7 +59,7 @@ module _ (A : Arithmetic) (L : Laws A most-users most-threshold) (p : Plan) (use
     }
 
     solved : (a : ℕ) → a < n → dot-of A (getD rs a 0) cs W n ≡ getD vs a 0
-    solved a h = solve-right A L rs cs n vs square a h (block .small a (omega (arith, block .many)))
+    solved a h = solve-right A L rs cs n vs square a h (block .small a (omega arith))
 
     pub explains-first : Explained A p users (p .threshold) y (take (p .threshold) (solution-of A L rs cs vs (p .threshold)))
     explains-first = explained-by n (block .many) solved
@@ -77,5 +77,5 @@ module _ (A : Arithmetic) (L : Laws A most-users most-threshold) (p : Plan) (use
     unfolding fits-of
     explains-fits e = at-all-of _ (span (m - n) n) (λ k l.
         let s = span-in (m - n) n _ (in-at (span (m - n) n) k l) in
-        let a : getD (span (m - n) n) k 0 < m = omega (arith, s .0, s .1) in
+        let a : getD (span (m - n) n) k 0 < m = omega arith in
         eq-eqb _ _ (sym (row-of _ a) ∙ e .fits _ a ∙ sym (block .values _ a)))

@@ -50,7 +50,7 @@ module _ (f : (a b : ℕ) → ℕ) where
     pub done : out ≡ grid i f
 
   pub rows-long : (n i at : ℕ) (out : List ℕ) → n ≤ most-users → Rows n i at out → length out ≡ cells
-  rows-long n i at out h r = ap length (r .done ∙ is-filled i) ∙ filled-length cells entry (i * most-blocks) (omega (arith, r .inside))
+  rows-long n i at out h r = ap length (r .done ∙ is-filled i) ∙ filled-length cells entry (i * most-blocks) (omega arith)
 
   pub rows-start : (n : ℕ) → Rows n 0 0 (replicate cells 0)
   rows-start n = record { inside = omega arith; place = refl; done = filling-start cells entry 0 .done ∙ sym (is-filled 0) }
@@ -61,7 +61,7 @@ module _ (f : (a b : ℕ) → ℕ) where
       → new ≡ sets out at (map h (span m 0)) → Rows n i at out → Rows n (i + 1) (at + most-blocks) new
   rows-more n i at out new m h few le l same none e r = record {
     inside = omega arith;
-    place = omega (arith, r .place);
+    place = omega arith;
     done = e ∙ ap₂ (λ (o : List ℕ) (k : ℕ). sets o k (map h (span m 0))) (r .done ∙ is-filled i) (r .place)
         ∙ filled-sets cells entry m (i * most-blocks) 0 h (omega arith) (λ b k. ap h (zero-add b) ∙ same b k ∙ sym (entry-at i b (omega arith)))
         ∙ filled-zeros cells entry (i * most-blocks + m) ((i + 1) * most-blocks) (omega arith) (omega arith) zeros ∙ sym (is-filled (i + 1));
@@ -73,4 +73,4 @@ module _ (f : (a b : ℕ) → ℕ) where
           ap entry d ∙ entry-at i (k - i * most-blocks) (omega arith) ∙ none (k - i * most-blocks) (omega arith) (omega arith)
 
   pub rows-end : (n i at : ℕ) (out : List ℕ) → n ≤ i → Rows n i at out → out ≡ grid n f
-  rows-end n i at out h r = let e : i ≡ n = omega (arith, r .inside) in r .done ∙ ap (λ (k : ℕ). grid k f) e
+  rows-end n i at out h r = let e : i ≡ n = omega arith in r .done ∙ ap (λ (k : ℕ). grid k f) e

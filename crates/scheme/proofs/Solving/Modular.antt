@@ -141,7 +141,7 @@ module _ {q : ℕ} (prime : Prime q) (large : most-users + most-threshold < q) w
 
     pub unreduced-both : (k n m r s : ℕ) → Unreduced q most f k n r → Unreduced q most f (k + n) m s → Unreduced q most f k (n + m) (r + s)
     unreduced-both k n m r s a b = record {
-      small = omega (arith, a .small, b .small, add-mul n m most);
+      small = omega (arith, add-mul n m most);
       right = add-mod r s q ∙ ap₂ (λ (x y : ℕ). (x + y) % q) (a .right) (b .right)
           ∙ sym (ap (λ (l : List ℕ). sum A l f) (span-append n m k) ∙ sum-append A _ _ L (span n k) (span m (k + n)) f);
     }
