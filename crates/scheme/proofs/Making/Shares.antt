@@ -41,13 +41,10 @@ module _ {A : Arithmetic} {n m : ℕ} (L : Laws A n m) where
   unfolding columns-value
   columns-el k s c f = sum-el A n m L (span c 0) _ ∙ field-sum-same K (span c 0) _ _ (λ i h. L .el-multiply (A .coefficient k (s + i)) (f i))
 
-  columns-small : (k s c : ℕ) (f : ℕ → ℕ) → columns-value A k s c f < A .size
-  unfolding columns-value
-  columns-small k s c f = sum-small A n m L (span c 0) _
-
   pub columns-sum : (k s c : ℕ) (l : List ℕ) (g : ℕ → ℕ → ℕ)
       → columns-value A k s c (λ i. sum A l (λ j. g j i)) ≡ sum A l (λ j. columns-value A k s c (g j))
-  columns-sum k s c l g = el-same A n m L (columns-small k s c _) (sum-small A n m L l _)
+  unfolding columns-value
+  columns-sum k s c l g = el-same A n m L (sum-small A n m L (span c 0) _) (sum-small A n m L l _)
       (columns-el k s c _ ∙ field-sum-same K (span c 0) _ _ (λ i h.
       ap (λ x. el (A .coefficient k (s + i)) ⊗ x) (sum-el A n m L l (λ j. g j i))
       ∙ sym (field-sum-scale K (el (A .coefficient k (s + i))) l (λ j. el (g j i))))

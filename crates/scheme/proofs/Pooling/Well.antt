@@ -86,10 +86,6 @@ module _ (A : Arithmetic) where
   some-element : (s : State) → Well A s → 0 < A .size
   some-element s w = omega (arith, w .firsts-small 0 0)
 
-  idle-well : (s : State) → Well A s → has-plan (s .phase) ≡ true → Well A (idle-state s)
-  unfolding idle-state is-replying
-  idle-well s w h = quiet _ _ (s .round) (some-element s w) (λ g. w .good h) refl
-
   next-well : (r : Record) (s : State) → Well A s → is-finish r ≡ false → refusal A r s ≡ 0 → Well A (next-state r s)
   unfolding refusal next-state planned-state opened-state is-finish is-replying has-plan is-held element-of gathered usable
   next-well (plan-record p) s w f e = quiet _ p 0 (some-element s w) (λ h. unless-zero _ _ (then-zero _ _ e .1)) refl
@@ -123,9 +119,10 @@ module _ (A : Arithmetic) where
   next-well finish-record s w f e = absurd (holds (sym f))
 
   pub steps-well : (r : Record) (s t : State) (a : Answer) → Well A s → Steps A r s a t → Well A t
+  unfolding idle-state is-replying
   steps-well _ _ _ _ w (refuses r s e) = w
   steps-well _ _ _ _ w (accepts r s f e) = next-well r s w f e
-  steps-well _ _ _ _ w (totals-up s f e h) = idle-well s w (finishing A s e .planned)
+  steps-well _ _ _ _ w (totals-up s f e h) = quiet _ _ (s .round) (some-element s w) (λ g. w .good (finishing A s e .planned)) refl
   steps-well _ _ _ _ w (disagrees s e h) = w
 
   runs-well : (rs : List Record) (l : List Answer) (s t : State) → Well A s → Runs A rs s l t → Well A t

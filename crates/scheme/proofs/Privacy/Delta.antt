@@ -126,12 +126,8 @@ module _ (A : Arithmetic) (p : Plan) (L : Laws A (p .users) (p .threshold)) (c :
   unfolding mask list-length
   delta-mask k i lo hi h = at ((k - 1) * places p + i) (omega (arith, mask-lt p k i lo hi h)) ∙ delta-low k i lo hi h
 
-  delta-noise : (v b i : ℕ) → usable p v ≡ true → b < p .blocks → i < p .collusion → el (noise p Δ v b i) ≡ shift A p L c d e v b (suc (items p) + i)
-  unfolding noise
-  delta-noise v b i u h l = at (noise-start p v b + i) (noise-lt p v b i u h l) ∙ delta-high v b i u h l
-
   pub delta-column : (v b j : ℕ) → usable p v ≡ true → b < p .blocks → 1 ≤ j → j ≤ p .threshold → el (column A p Δ v b j) ≡ shift A p L c d e v b j
-  unfolding column items unsolved
+  unfolding column items unsolved noise
   delta-column v b j u h lo hi =
       let place : ℕ = b * items p + (j - 1) in
       elim (decLe j (items p)) [
@@ -145,7 +141,7 @@ module _ (A : Arithmetic) (p : Plan) (L : Laws A (p .users) (p .threshold)) (c :
           let s : items p < j = omega arith in
           let r : j - suc (items p) < p .collusion = omega arith in
           let f : suc (items p) + (j - suc (items p)) ≡ j = omega arith in
-          rw (lt-leb j (items p) s) (delta-noise v b (j - suc (items p)) u h r ∙ ap (shift A p L c d e v b) f)
+          rw (lt-leb j (items p) s) (at _ (noise-lt p v b _ u h r) ∙ delta-high v b (j - suc (items p)) u h r ∙ ap (shift A p L c d e v b) f)
       ]
 
   -- a share whose row sees nothing of the columns' move

@@ -19,18 +19,15 @@ pub first : (m : ℕ) → ℕ
 first zero = 0
 first (suc m) = first m * 2 + 1
 
-bit-zero : (m : ℕ) → first (suc m) / 2 ^ 0 % 2 ≡ 1
-unfolding first
-bit-zero m = ap (λ (n : ℕ). first (suc m) / n % 2) (pow-zero 2) ∙ ap (λ (n : ℕ). n % 2) (div-one _) ∙ low (first m) 1 2 (omega arith)
-
 bit-suc : (m i : ℕ) → first (suc m) / 2 ^ suc i % 2 ≡ first m / 2 ^ i % 2
 unfolding first
 bit-suc m i = ap (λ (n : ℕ). first (suc m) / n % 2) (pow-suc 2 i ∙ mul-comm (2 ^ i) 2)
     ∙ ap (λ (n : ℕ). n % 2) (sym (div-div-eq-div-mul (first (suc m)) 2 (2 ^ i)) ∙ ap (λ (n : ℕ). n / 2 ^ i) (high (first m) 1 2 (omega arith)))
 
 bit-in : (m i : ℕ) → i < m → first m / 2 ^ i % 2 ≡ 1
+unfolding first
 bit-in zero i h = absurd (omega arith)
-bit-in (suc m) zero h = bit-zero m
+bit-in (suc m) zero h = ap (λ (n : ℕ). first (suc m) / n % 2) (pow-zero 2) ∙ ap (λ (n : ℕ). n % 2) (div-one _) ∙ low (first m) 1 2 (omega arith)
 bit-in (suc m) (suc i) h = bit-suc m i ∙ bit-in m i (omega arith)
 
 bit-out : (m i : ℕ) → m ≤ i → first m / 2 ^ i % 2 ≡ 0

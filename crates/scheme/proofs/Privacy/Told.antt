@@ -128,9 +128,6 @@ module _ (A : Arithmetic) (p : Plan) (L : Laws A (p .users) (p .threshold)) wher
           sym (share-add A p L xs Δ k w b lo hi r h
           ∙ add-none A _ _ L (share A p xs k w b) (share A p Δ k w b) (row-value-small A _ _ L (p .threshold) k _) (ap el (none b h) ∙ L .el-zero)))
 
-      reply-same : (k : ℕ) → 1 ≤ k → k ≤ p .users → in-set v k ≡ true → reply p (key A p xs k) k v ≡ reply p (key A p ys k) k v
-      reply-same k lo hi i = key-reply A p xs k v u i ∙ shares-same k v lo hi u (λ b h. reply-zero k b lo hi h) ∙ sym (key-reply A p ys k v u i)
-
       mask-same : (k i : ℕ) → 1 ≤ k → k ≤ p .users → in-set c k ≡ true → i < places p → mask p xs k i ≡ mask p ys k i
       unfolding mask d difference ys partner Δ
       mask-same k i lo hi own h = el-same A _ _ L (elements-at A z xs ((k - 1) * places p + i) (list-elements A p xs ok))
@@ -155,7 +152,7 @@ module _ (A : Arithmetic) (p : Plan) (L : Laws A (p .users) (p .threshold)) wher
             first-same k (s .0) (omega arith)) i;
         replies = map-same (λ k. reply p (key A p xs k) k v) (λ k. reply p (key A p ys k) k v) (users-in p v) (λ k m.
             let s = users-in-in p v k m in
-            reply-same k (s .0) (s .1) (s .2)) i;
+            key-reply A p xs k v u (s .2) ∙ shares-same k v (s .0) (s .1) u (λ b. reply-zero k b (s .0) (s .1)) ∙ sym (key-reply A p ys k v u (s .2))) i;
         keys = map-same (key A p xs) (key A p ys) (users-in p c) (λ k m.
             let s = users-in-in p c k m in
             key-same k (s .0) (s .1) (s .2)) i;

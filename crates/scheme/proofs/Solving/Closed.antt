@@ -102,10 +102,6 @@ module _ (A : Arithmetic) (L : Laws A most-users most-threshold) where
   sum-short zero (suc n) k f h z = absurd (omega arith)
   sum-short (suc m) (suc n) k f h z = ap (A .add (f k)) (sum-short m n (suc k) f (omega arith) (λ i l. z i (omega arith)))
 
-  dot-small : (x : ℕ) (ps vs : List ℕ) (n : ℕ) → dot-of A x ps vs n < A .size
-  unfolding dot-of
-  dot-small x ps vs n = sum-small A _ _ L (span n 0) _
-
   dot-el : (x : ℕ) (ps vs : List ℕ) (n : ℕ) → (1 ≤ x) × (x ≤ most-users) → Points most-threshold n ps
       → el (dot-of A x ps vs n) ≡ field-sum K (span n 0) (λ i. inv (row x ⊕ column-points A L ps i) ⊗ right-side A L vs i)
   unfolding dot-of
@@ -153,8 +149,9 @@ module _ (A : Arithmetic) (L : Laws A most-users most-threshold) where
 
       pub solve-right : Square rs cs n → (a : ℕ) → a < n → getD vs a 0 < A .size
           → dot-of A (getD rs a 0) cs (solution-of A L rs cs vs n) n ≡ getD vs a 0
-      solve-right square a h small = el-same A _ _ L (dot-small (getD rs a 0) cs (solution-of A L rs cs vs n) n) small
-          (dot-el (getD rs a 0) cs _ n (square .rows-good .inside a h) (square .columns-good)
+      unfolding dot-of
+      solve-right square a h small = el-same A _ _ L (sum-small A _ _ L (span n 0) _) small
+          (dot-el (getD rs a 0) cs (solution-of A L rs cs vs n) n (square .rows-good .inside a h) (square .columns-good)
           ∙ field-sum-same K (span n 0) _ _ (λ i m. ap (λ u. inv (row-points A L rs a ⊕ column-points A L cs i) ⊗ u) (solution-el i (below n i m)))
           ∙ solves (system square) (right-side A L vs) a (in-span n 0 a (omega arith) (omega arith)))
 
