@@ -1,7 +1,8 @@
 -- Laws of span, members, rank and rows.
 --   span-append, span-in, in-span, span-once, span-length       the n numbers from k on
 --   span-start, span-next, span-end                             those from i on, of n: all, one and the others, none
---   map-same, map-span-length, map-span-at, map-below-at        maps over them, and over those below n
+--   map-same, map-span-length, map-span-at                      maps over them
+--   map-below-same, map-below-at                                and over those below n
 --   members-append, members-in, in-members, members-once, members-fewer, members-le     those that pass a test
 --   rank-zero, rank-step, rank-at, rank-lt                      how many below v pass
 --   rows-same, rows-append, rows-length, rows-at                        one list for each number
@@ -61,6 +62,9 @@ span-end n i h = let e : n - i ≡ 0 = omega arith in rw e
 pub map-same : {A : Type 0} (f g : ℕ → A) (l : List ℕ) → ((k : ℕ) → In k l → f k ≡ g k) → map f l ≡ map g l
 map-same f g [] h = refl
 map-same f g (k ∷ l) h = ap₂ _∷_ (h k (inl refl)) (map-same f g l (λ i m. h i (inr m)))
+
+pub map-below-same : {A : Type 0} (f g : ℕ → A) (n : ℕ) → ((i : ℕ) → i < n → f i ≡ g i) → map f (span n 0) ≡ map g (span n 0)
+map-below-same f g n h = map-same f g (span n 0) (λ i m. h i (omega (arith, span-in n 0 i m)))
 
 pub map-span-length : (f : ℕ → ℕ) (n k : ℕ) → length (map f (span n k)) ≡ n
 map-span-length f zero k = refl

@@ -19,7 +19,7 @@ use Rattle.scheme.specs.Scheme.{Arithmetic, sum, Plan, items, places, in
 use Rattle.scheme.specs.Laws.{Laws}
 use Rattle.scheme.specs.Weighed.{weighed}
 use Rattle.scheme.specs.KeyParts.{columns-value, Coefficients, block-item, Products, set-sum, share-from, shares-from}
-use Rattle.scheme.proofs.Lists.{span-in, span-append, map-same, members-in}
+use Rattle.scheme.proofs.Lists.{span-in, span-append, map-below-same, members-in}
 use Rattle.scheme.proofs.Sums.{el-same, sum-el, sum-small, sum-same, sum-append, sum-shift}
 use Rattle.scheme.proofs.Making.Places.{noise-block}
 
@@ -90,8 +90,7 @@ module _ {A : Arithmetic} {n m : ℕ} (L : Laws A n m) (p : Plan) (xs : List ℕ
       let f : ℕ → ℕ → ℕ = λ j. block-item xs ((j - 1) * places p) w b in
       let l : List ℕ = members (in-set v) (p .users) 1 in
       sum-same A l (λ j. getD zs ((j - 1) * most-blocks + b) 0) (λ j. columns-value A k 1 w (f j)) (λ j i.
-      let s = members-in (in-set v) (p .users) 1 j i in
-      z .each (j - 1) (omega arith) b h) ∙ sym (columns-sum L k 1 w l f)
+      let s = members-in (in-set v) (p .users) 1 j i in z .each (j - 1) (omega arith) b h) ∙ sym (columns-sum L k 1 w l f)
       ∙ columns-same A k 1 w (λ i. sum A l (λ j. f j i)) (λ i. column A p xs v b (1 + i)) (λ i s. sym (column-sum A p xs v b i s))
 
   module _ (more : p .collusion ≤ p .threshold) (c : Coefficients A k (1 + items p) (p .collusion) cs) where
@@ -106,5 +105,4 @@ module _ {A : Arithmetic} {n m : ℕ} (L : Laws A n m) (p : Plan) (xs : List ℕ
 
     pub shares-right : (v from : ℕ) → from ≡ noise-start p v 0 → shares-from A p zs cs xs v from ≡ shares A p xs k v
     unfolding shares shares-from
-    shares-right v from e = map-same (share-from A p zs cs xs v from) (share A p xs k v) (span (p .blocks) 0) (λ b i.
-        rw e (share-right v b (omega (arith, span-in (p .blocks) 0 b i .1))))
+    shares-right v from e = map-below-same (share-from A p zs cs xs v from) (share A p xs k v) (p .blocks) (λ b h. rw e (share-right v b h))

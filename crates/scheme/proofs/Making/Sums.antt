@@ -14,13 +14,12 @@ use native.Mathlib.Omega.{arith}
 use lib.ListN.{length, getD, set, replicate, length-replicate}
 use lib.Seq.{length-sets}
 use Rattle.scheme.specs.Limits.{most-blocks}
-use Rattle.scheme.specs.Lists.{span}
 use Rattle.scheme.specs.Scheme.{modular, sum, Plan, in-set}
 use Rattle.scheme.specs.Laws.{Laws}
 use Rattle.scheme.specs.Weighed.{weighed}
 use Rattle.scheme.specs.KeyParts.{block-item, block-value, block-values, set-sum, share-from, shares-from, Row-added, Unreduced-weight, Unreduced-sums}
 use Rattle.scheme.proofs.Tests.{none-below}
-use Rattle.scheme.proofs.Lists.{span-in, map-same, zeros-at}
+use Rattle.scheme.proofs.Lists.{map-below-same, zeros-at}
 use Rattle.scheme.proofs.Weighed.{weighed-same, weighed-more}
 use Rattle.scheme.proofs.Making.Rows.{below-more, sum-take, sum-skip, row-more, row-at, row-other}
 use Rattle.scheme.proofs.Making.Places.{row-next}
@@ -45,8 +44,7 @@ pub weight-end : {q most : ℕ} (sums cs : List ℕ) (n : ℕ) (xs : List ℕ) (
 unfolding block-value
 weight-end {q} sums cs n xs start from b total e d = sym (add-mod-mod (getD sums b 0) total q)
     ∙ ap (λ (x : ℕ). (getD sums b 0 + x) % q) (d .right ∙ weighed-same (modular q) cs n _ (block-item xs start n b) (λ i h.
-    let same : from + i ≡ start + (b * n + i) = omega arith in
-    ap (λ (j : ℕ). getD xs j 0) same))
+    let same : from + i ≡ start + (b * n + i) = omega arith in ap (λ (j : ℕ). getD xs j 0) same))
 
 -- ---- a row added to sums
 pub added-start : (most : ℕ) (zs : List ℕ) (from : ℕ) (old : List ℕ) → Row-added most zs from 0 old old
@@ -104,6 +102,6 @@ pub sums-end : {q most : ℕ} (p : Plan) (zs sums cs xs : List ℕ) (v from : �
     → block-values (modular q) sums cs (p .collusion) xs from (p .blocks) ≡ shares-from (modular q) p zs cs xs v from
 unfolding block-values block-value shares-from share-from
 sums-end {q} p zs sums cs xs v from few s =
-    map-same (block-value (modular q) sums cs (p .collusion) xs from) (share-from (modular q) p zs cs xs v from) (span (p .blocks) 0) (λ b m.
+    map-below-same (block-value (modular q) sums cs (p .collusion) xs from) (share-from (modular q) p zs cs xs v from) (p .blocks) (λ b h.
     let w : ℕ = weighed (modular q) cs (p .collusion) (block-item xs from (p .collusion) b) in
-    sym (mod-add-mod (getD sums b 0) q w) ∙ ap (λ (x : ℕ). (x + w) % q) (s .right b (omega (arith, span-in (p .blocks) 0 b m .1))))
+    sym (mod-add-mod (getD sums b 0) q w) ∙ ap (λ (x : ℕ). (x + w) % q) (s .right b (omega arith)))

@@ -7,7 +7,7 @@ use mathlib.Core.Path.{_≡_, refl, sym, ap, _∙_}
 use mathlib.Core.Logic.{_⊎_, inl, inr}
 use mathlib.Core.Bool.{Bool, true, false, _&&_}
 use mathlib.Core.List.{List}
-use Prim.Native.Nat.{ℕ, _*_, _/_, _%_, _≤_, _<_}
+use Prim.Native.Nat.{ℕ, _/_, _%_, _≤_, _<_}
 use native.Mathlib.Nat.{mul-zero, div-lt-iff-lt-mul, lt-of-mul-lt-mul-left}
 use native.Mathlib.Omega.{arith}
 use lib.Dec.{eqb}
@@ -18,7 +18,7 @@ use Rattle.scheme.specs.Scheme.{Arithmetic, elements, sum, Plan, items, 
 use Rattle.scheme.specs.Totals.{explains, explains-all, total-of, totals, Choice, One-choice, Some-choice}
 use Rattle.scheme.specs.Laws.{Laws}
 use Rattle.scheme.proofs.Tests.{holds, both, joined}
-use Rattle.scheme.proofs.Lists.{span-in, map-same, in-members}
+use Rattle.scheme.proofs.Lists.{span-in, map-below-same, in-members}
 use Rattle.scheme.proofs.Sets.{users-in-in}
 use Rattle.scheme.proofs.Pooling.Held.{part}
 use Rattle.scheme.proofs.Pooling.Totals.{all-of-in, at-all-of, in-at, one-choice, some-choice}
@@ -45,8 +45,7 @@ module _ (A : Arithmetic) (p : Plan) (y : (k block : ℕ) → ℕ) where
 
   pub totals-same : (v : ℕ) (x : (k place : ℕ) → ℕ) (f g : (block : ℕ) → List ℕ) → ((b : ℕ) → b < p .blocks → f b ≡ g b) → totals A p v x f ≡ totals A p v x g
   unfolding totals total-of places
-  totals-same v x f g same = map-same _ _ (span (places p) 0) (λ i m.
-      let l : i < p .blocks * items p = omega (arith, span-in (places p) 0 i m .1) in
+  totals-same v x f g same = map-below-same _ _ (places p) (λ i l.
       let some : 0 < items p = lt-of-mul-lt-mul-left (p .blocks) (omega (arith, mul-zero (p .blocks))) in
       ap (λ (w : List ℕ). A .subtract (sum A (users-in p v) (λ k. x k i)) (getD w (i % items p) 0))
       (same (i / items p) (div-lt-iff-lt-mul {k = items p} {x = i} {y = p .blocks} some .1 l)))

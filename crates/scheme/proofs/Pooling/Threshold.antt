@@ -48,7 +48,8 @@ module _ (A : Arithmetic) (p : Plan) (L : Laws A (p .users) (p .threshold)) (r :
 
   system : System K row col rs solved
   unfolding users-in
-  system = system-of L (λ k. k) rs (length rs) 2 refl (members-once (in-set r) (p .users) 1) (user-in p r) (λ i k h l ne. ne) (omega arith) (omega (arith, one-fewer))
+  system = system-of L (λ k. k) rs (length rs) 2 refl (members-once (in-set r) (p .users) 1) (user-in p r) (λ i k h l ne. ne)
+      (omega arith) (omega (arith, one-fewer))
 
   abbrev rest : (k : ℕ) → K .F
   rest k = sub K (el (y k)) (K .mul (coefficient K row col k 1) (el c))

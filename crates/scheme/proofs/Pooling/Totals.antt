@@ -32,7 +32,7 @@ use Rattle.scheme.specs.Promise.{Table, list-good}
 use Rattle.scheme.specs.Totals.{explains, explains-all, total-of, totals, Follows, One-choice, Totals-right, Some-choice, Rules-explain}
 use Rattle.scheme.specs.Laws.{Laws}
 use Rattle.scheme.proofs.Tests.{both, joined}
-use Rattle.scheme.proofs.Lists.{span-in, in-span, span-once, span-length, span-next, span-end, map-same, map-span-length, map-span-at, map-below-at, members-once}
+use Rattle.scheme.proofs.Lists.{span-in, in-span, span-once, span-length, span-next, span-end, map-below-same, map-span-length, map-span-at, map-below-at, members-once}
 use Rattle.scheme.proofs.Sums.{el-same, zero-small, sum-same, sum-el, sum-small, row-value-el, row-value-small}
 use Rattle.scheme.proofs.Sets.{users-in-in, user-in, users-in-size}
 use Rattle.scheme.proofs.Laws.{system-of}
@@ -246,4 +246,4 @@ module _ (A : Arithmetic) (p : Plan) (L : Laws A (p .users) (p .threshold)) wher
   pub totals-right : Totals-right A p
   unfolding Totals-right totals
   totals-right xs x v r firsts replies f ok ax u many rules h =
-      map-same _ _ (span (places p) 0) (λ i m. total-right xs x v r firsts replies f ok u many rules h i (omega (arith, span-in (places p) 0 i m .1)))
+      map-below-same _ _ (places p) (total-right xs x v r firsts replies f ok u many rules h)

@@ -22,7 +22,7 @@ use Rattle.scheme.specs.Scheme.{Arithmetic, Plan, items, places, usable,
 use Rattle.scheme.specs.Promise.{Key-add}
 use Rattle.scheme.specs.Laws.{Laws}
 use Rattle.scheme.proofs.Tests.{both}
-use Rattle.scheme.proofs.Lists.{map-same, map-span-length, map-below-at, members-in, rows-same, span-in}
+use Rattle.scheme.proofs.Lists.{map-below-same, map-span-length, map-below-at, members-in, rows-same, span-in}
 use Rattle.scheme.proofs.Sums.{el-same, sum-el, row-value-el, row-value-small}
 use Rattle.scheme.proofs.Sets.{users-in-in, place-lt, mask-lt, noise-lt}
 use Rattle.scheme.proofs.Keys.{each-at, each-append, shares-length}
@@ -95,20 +95,15 @@ module _ (A : Arithmetic) (p : Plan) (L : Laws A (p .users) (p .threshold)) (xs 
       ∙ sym (L .el-add (row-value A n k (column A p xs v b)) (row-value A n k (column A p ys v b))))
 
   map-each : (g h : ℕ → ℕ) (n : ℕ) → map (λ i. A .add (g i) (h i)) (span n 0) ≡ each (A .add) n (map g (span n 0)) (map h (span n 0))
-  map-each g h n = map-same _ _ (span n 0) (λ i m.
-      let s = span-in n 0 i m in
-      let l : i < n = omega arith in
-      sym (ap₂ (A .add) (map-below-at g n i l) (map-below-at h n i l)))
+  map-each g h n = map-below-same _ _ n (λ i l. sym (ap₂ (A .add) (map-below-at g n i l) (map-below-at h n i l)))
 
   key-plus : (k : ℕ) → 1 ≤ k → k ≤ p .users → key A p plus k ≡ each (A .add) (key-length p k) (key A p xs k) (key A p ys k)
   unfolding key key-length sets-with usable-with shares
   key-plus k lo hi = ap₂ _++_
-      (map-same _ _ (span (places p) 0) (λ i m. mask-add k i lo hi (omega (arith, span-in (places p) 0 i m .1)))
-      ∙ map-each (mask p xs k) (mask p ys k) (places p))
+      (map-below-same _ _ (places p) (λ i h. mask-add k i lo hi h) ∙ map-each (mask p xs k) (mask p ys k) (places p))
       (rows-same (shares A p plus k) (λ v. each (A .add) (p .blocks) (shares A p xs k v) (shares A p ys k v)) (sets-with p k) (λ v m.
       let u = both _ _ (members-in (usable-with p k) (2 ^ p .users) 0 v m .2) .0 in
-      map-same _ _ (span (p .blocks) 0) (λ b i. share-add k v b lo hi u (omega (arith, span-in (p .blocks) 0 b i .1)))
-      ∙ map-each (share A p xs k v) (share A p ys k v) (p .blocks))
+      map-below-same _ _ (p .blocks) (λ b h. share-add k v b lo hi u h) ∙ map-each (share A p xs k v) (share A p ys k v) (p .blocks))
       ∙ rows-each (A .add) (p .blocks) (shares A p xs k) (shares A p ys k) (shares-length A p xs k) (shares-length A p ys k) (sets-with p k))
       ∙ ap (λ (n : ℕ). each (A .add) n (map (mask p xs k) (span (places p) 0)) (map (mask p ys k) (span (places p) 0)) ++ each (A .add)
       (length (sets-with p k) * p .blocks) (rows (shares A p xs k) (sets-with p k)) (rows (shares A p ys k) (sets-with p k)))

@@ -138,8 +138,7 @@ module _ (A : Arithmetic) (p : Plan) (L : Laws A (p .users) (p .threshold)) (v c
 
         before-same : (k : ℕ) → before k (cells xs) ≡ before k (cells ys)
         before-same k = field-sum-same K (span (items p - 1) 1) _ _ (λ j m.
-            let s = span-in (items p - 1) 1 j m in
-            ap (K .mul _) (low-cell j (s .0) (omega arith)))
+            let s = span-in (items p - 1) 1 j m in ap (K .mul _) (low-cell j (s .0) (omega arith)))
 
         settled : cells xs (items p) ≡ cells ys (items p)
         settled = unique system (cells xs) (cells ys) (λ k m.

@@ -21,7 +21,7 @@ use Rattle.scheme.specs.Promise.{Table, list-good, shown, Alike, Nothing
 use Rattle.scheme.specs.Laws.{Laws}
 use Rattle.scheme.specs.Delta.{colluders-in, unsolved, shift, difference, table-delta, partner, back}
 use Rattle.scheme.proofs.Tests.{both, joined}
-use Rattle.scheme.proofs.Lists.{map-same, members-in, in-members, rows-same, span-in}
+use Rattle.scheme.proofs.Lists.{map-same, map-below-same, members-in, in-members, rows-same, span-in}
 use Rattle.scheme.proofs.Sums.{el-same, zero-small, add-none, sum-el, row-value-small}
 use Rattle.scheme.proofs.Sets.{users-in-in, place-lt}
 use Rattle.scheme.proofs.Keys.{each-at, each-length, whole-list, key-mask, key-reply, elements-at, elements-map, list-long, list-elements}
@@ -110,8 +110,7 @@ module _ (A : Arithmetic) (p : Plan) (L : Laws A (p .users) (p .threshold)) wher
 
       first-same : (k : ℕ) → 1 ≤ k → k ≤ p .users → first-message A p (key A p xs k) (x k) ≡ first-message A p (key A p ys k) (y k)
       unfolding first-message d difference
-      first-same k lo hi = map-same _ _ (span (places p) 0) (λ i m.
-          let h : i < places p = omega (arith, span-in (places p) 0 i m .1) in
+      first-same k lo hi = map-below-same _ _ (places p) (λ i h.
           let a : F = el (getD (x k) i 0) in
           let b : F = el (getD (y k) i 0) in
           ap (A .add (getD (x k) i 0)) (key-mask A p xs k i h)
@@ -123,8 +122,7 @@ module _ (A : Arithmetic) (p : Plan) (L : Laws A (p .users) (p .threshold)) wher
       shares-same : (k w : ℕ) → 1 ≤ k → k ≤ p .users → usable p w ≡ true → ((b : ℕ) → b < p .blocks → share A p Δ k w b ≡ 0) →
           shares A p xs k w ≡ shares A p ys k w
       unfolding shares share ys partner Δ
-      shares-same k w lo hi r none = map-same _ _ (span (p .blocks) 0) (λ b m.
-          let h : b < p .blocks = omega (arith, span-in (p .blocks) 0 b m .1) in
+      shares-same k w lo hi r none = map-below-same _ _ (p .blocks) (λ b h.
           sym (share-add A p L xs Δ k w b lo hi r h
           ∙ add-none A _ _ L (share A p xs k w b) (share A p Δ k w b) (row-value-small A _ _ L (p .threshold) k _) (ap el (none b h) ∙ L .el-zero)))
 
@@ -138,8 +136,7 @@ module _ (A : Arithmetic) (p : Plan) (L : Laws A (p .users) (p .threshold)) wher
 
       key-same : (k : ℕ) → 1 ≤ k → k ≤ p .users → in-set c k ≡ true → key A p xs k ≡ key A p ys k
       unfolding key sets-with usable-with
-      key-same k lo hi own =
-          ap₂ _++_ (map-same (mask p xs k) (mask p ys k) (span (places p) 0) (λ i m. mask-same k i lo hi own (omega (arith, span-in (places p) 0 i m .1))))
+      key-same k lo hi own = ap₂ _++_ (map-below-same (mask p xs k) (mask p ys k) (places p) (λ i h. mask-same k i lo hi own h))
           (rows-same (shares A p xs k) (shares A p ys k) (sets-with p k) (λ w m.
           let t = both (usable p w) (in-set w k) (members-in (usable-with p k) (2 ^ p .users) 0 w m .2) in
           shares-same k w lo hi (t .0) (λ b h. colluder-zero k w b lo hi own (t .0) (t .1) h)))
@@ -148,14 +145,12 @@ module _ (A : Arithmetic) (p : Plan) (L : Laws A (p .users) (p .threshold)) wher
       unfolding shown ys
       shown-same = λ i. record {
         firsts = map-same (λ k. first-message A p (key A p xs k) (x k)) (λ k. first-message A p (key A p ys k) (y k)) (span (p .users) 1) (λ k m.
-            let s = span-in (p .users) 1 k m in
-            first-same k (s .0) (omega arith)) i;
+            let s = span-in (p .users) 1 k m in first-same k (s .0) (omega arith)) i;
         replies = map-same (λ k. reply p (key A p xs k) k v) (λ k. reply p (key A p ys k) k v) (users-in p v) (λ k m.
             let s = users-in-in p v k m in
             key-reply A p xs k v u (s .2) ∙ shares-same k v (s .0) (s .1) u (λ b. reply-zero k b (s .0) (s .1)) ∙ sym (key-reply A p ys k v u (s .2))) i;
         keys = map-same (key A p xs) (key A p ys) (users-in p c) (λ k m.
-            let s = users-in-in p c k m in
-            key-same k (s .0) (s .1) (s .2)) i;
+            let s = users-in-in p c k m in key-same k (s .0) (s .1) (s .2)) i;
       }
 
   -- for every plan with no more colluders than threshold; the figures need not be admissible
