@@ -37,15 +37,19 @@ module _ (K : Field) (row col : ℕ → Field.F K) (cs : List ℕ) (k : ℕ) whe
   pub value-zero : (w : ℕ → F) → ((i : ℕ) → In i cs → w i ≡ 𝟘) → value K row col cs k w ≡ 𝟘
   value-zero w h = sum-zero K cs _ (λ i m. ap (K .mul (coefficient K row col k i)) (h i m) ∙ mul-zero K _)
 
+-- each f of two parts
+each-parts : (f : ℕ → ℕ → ℕ) (l n : ℕ) (a c b d : List ℕ) → length a ≡ l → length c ≡ l
+    → each f (l + n) (a ++ b) (c ++ d) ≡ each f l a c ++ each f n b d
+each-parts f l n a c b d e g = rw (← e) (each-append f n a c b d (e ∙ sym g))
+
 -- each f of rows, list by list
 rows-each : (f : ℕ → ℕ → ℕ) (m : ℕ) (s t : ℕ → List ℕ) → ((v : ℕ) → length (s v) ≡ m) → ((v : ℕ) → length (t v) ≡ m) → (l : List ℕ)
     → rows (λ v. each f m (s v) (t v)) l ≡ each f (length l * m) (rows s l) (rows t l)
 rows-each f m s t hs ht [] = rw zero-mul
 rows-each f m s t hs ht (v ∷ l) =
-    let e : length (s v) + length l * m ≡ suc (length l) * m = omega (arith, hs v, suc-mul (length l) m) in
-    ap₂ _++_ (ap (λ (n : ℕ). each f n (s v) (t v)) (sym (hs v))) (rows-each f m s t hs ht l)
-    ∙ sym (each-append f (length l * m) (s v) (t v) (rows s l) (rows t l) (hs v ∙ sym (ht v)))
-    ∙ ap (λ (n : ℕ). each f n (s v ++ rows s l) (t v ++ rows t l)) e
+    let e : m + length l * m ≡ suc (length l) * m = omega (arith, suc-mul (length l) m) in
+    ap (λ (r : List ℕ). each f m (s v) (t v) ++ r) (rows-each f m s t hs ht l)
+    ∙ sym (each-parts f m (length l * m) (s v) (t v) (rows s l) (rows t l) (hs v) (ht v)) ∙ ap (λ (n : ℕ). each f n (s v ++ rows s l) (t v ++ rows t l)) e
 
 module _ (A : Arithmetic) (p : Plan) (L : Laws A (p .users) (p .threshold)) (xs ys : List ℕ) where
   open Laws L using (K, el, row, col)
@@ -105,13 +109,9 @@ module _ (A : Arithmetic) (p : Plan) (L : Laws A (p .users) (p .threshold)) (xs 
       let u = both _ _ (members-in (usable-with p k) (2 ^ p .users) 0 v m .2) .0 in
       map-below-same _ _ (p .blocks) (λ b h. share-add k v b lo hi u h) ∙ map-each (share A p xs k v) (share A p ys k v) (p .blocks))
       ∙ rows-each (A .add) (p .blocks) (shares A p xs k) (shares A p ys k) (shares-length A p xs k) (shares-length A p ys k) (sets-with p k))
-      ∙ ap (λ (n : ℕ). each (A .add) n (map (mask p xs k) (span (places p) 0)) (map (mask p ys k) (span (places p) 0)) ++ each (A .add)
-      (length (sets-with p k) * p .blocks) (rows (shares A p xs k) (sets-with p k)) (rows (shares A p ys k) (sets-with p k)))
-      (sym (map-span-length (mask p xs k) (places p) 0))
-      ∙ sym (each-append (A .add) (length (sets-with p k) * p .blocks) (map (mask p xs k) (span (places p) 0)) (map (mask p ys k) (span (places p) 0))
-      (rows (shares A p xs k) (sets-with p k)) (rows (shares A p ys k) (sets-with p k))
-      (map-span-length (mask p xs k) (places p) 0 ∙ sym (map-span-length (mask p ys k) (places p) 0)))
-      ∙ ap (λ (n : ℕ). each (A .add) (n + length (sets-with p k) * p .blocks) (key A p xs k) (key A p ys k)) (map-span-length (mask p xs k) (places p) 0)
+      ∙ sym (each-parts (A .add) (places p) (length (sets-with p k) * p .blocks) (map (mask p xs k) (span (places p) 0))
+      (map (mask p ys k) (span (places p) 0)) (rows (shares A p xs k) (sets-with p k)) (rows (shares A p ys k) (sets-with p k))
+      (map-span-length (mask p xs k) (places p) 0) (map-span-length (mask p ys k) (places p) 0))
 
 pub key-add : (A : Arithmetic) (p : Plan) → Laws A (p .users) (p .threshold) → Key-add A p
 unfolding Key-add
