@@ -30,8 +30,15 @@ good p h =
 
 pub good-back : (p : Plan) → Good p → plan-good p ≡ true
 unfolding plan-good
-good-back p g = simp (le-leb _ _ (g .users-low), le-leb _ _ (g .users-high), le-leb _ _ (g .collusion-low), lt-ltb _ _ (g .collusion-high),
-    lt-ltb _ _ (g .threshold-high), le-leb _ _ (g .blocks-low), le-leb _ _ (g .blocks-high))
+good-back p g = simp (
+  le-leb _ _ (g .users-low),
+  le-leb _ _ (g .users-high),
+  le-leb _ _ (g .collusion-low),
+  lt-ltb _ _ (g .collusion-high),
+  lt-ltb _ _ (g .threshold-high),
+  le-leb _ _ (g .blocks-low),
+  le-leb _ _ (g .blocks-high),
+)
 
 pub bad : (p : Plan) → (Good p → ⊥) → plan-good p ≡ false
 bad p h = is-false (plan-good p) (λ e. h (good p e))

@@ -92,7 +92,7 @@ module _ (size : ℕ) (f : ℕ → ℕ) where
       elim (decLt i n) [
         | yes a ↦ filled-at n i a ∙ sym (filled-at m i (omega arith))
         | no a ↦ filled-behind n i (omega arith)
-          ∙ elim (decLt i m) [ yes b ↦ sym (filled-at m i b ∙ z i (omega arith) b) | no b ↦ sym (filled-behind m i (omega arith)) ]
+            ∙ elim (decLt i m) [ yes b ↦ sym (filled-at m i b ∙ z i (omega arith) b) | no b ↦ sym (filled-behind m i (omega arith)) ]
       ])
 
 -- ---- i of n entries are written

@@ -61,6 +61,6 @@ module _ (A : Arithmetic) (p : Plan) (y : (k block : ℕ) → ℕ) where
       as (λ b. explains-all A p r y (c .choice) ≡ b → Choice A p r y ⊎ ((f : (block : ℕ) → List ℕ) → explains-all A p r y f ≡ true → ⊥)) [
         | true ↦ λ e. inl (record { choice = c .choice; right = e })
         | false ↦ λ e. inr (λ f h.
-          let same = one-choice A p L (few .set) y f (c .choice) (omega arith) (choice-part r (few .set) f (few .inside) h) (c .right) in
-          holds (sym e ∙ choice-same r f (c .choice) same h))
+            let same = one-choice A p L (few .set) y f (c .choice) (omega arith) (choice-part r (few .set) f (few .inside) h) (c .right) in
+            holds (sym e ∙ choice-same r f (c .choice) same h))
       ] refl

@@ -48,7 +48,7 @@ set-of-shift t zero k = refl
 set-of-shift t (suc n) k =
     let e : suc (suc k) - 1 ≡ suc (suc k - 1) = omega arith in
     let double : (b : Bool) → cond b (2 ^ (suc (suc k) - 1)) 0 ≡ cond b (2 ^ (suc k - 1)) 0 * 2
-        = elim [ true ↦ ap (λ (i : ℕ). 2 ^ i) e ∙ pow-suc 2 (suc k - 1) | false ↦ refl ] in
+    = elim [ true ↦ ap (λ (i : ℕ). 2 ^ i) e ∙ pow-suc 2 (suc k - 1) | false ↦ refl ] in
     omega (arith, double (t (suc (suc k))), set-of-shift t n (suc k))
 
 set-of-step : (t : ℕ → Bool) (n : ℕ) → set-of t (suc n) 1 ≡ set-of (λ i. t (suc i)) n 1 * 2 + bit (t 1)

@@ -74,14 +74,14 @@ module _ (A : Arithmetic) (p : Plan) (L : Laws A (p .users) (p .threshold)) (xs 
       let at : ℕ = b * items p + (j - 1) in
       elim (decLe j (items p)) [
         | yes l ↦ rw (le-leb j (items p) l) (sum-el A _ _ L (users-in p v) (λ k. mask p plus k at) ∙ sum-same K (users-in p v) _ _ (λ k i.
-          let s = users-in-in p v k i in
-          ap el (mask-add k at (s .0) (s .1) (place-lt p b j h lo l)) ∙ L .el-add (mask p xs k at) (mask p ys k at)) ∙ sum-add K (users-in p v) _ _
-          ∙ ap₂ (λ a b. a ⊕ b) (sym (sum-el A _ _ L (users-in p v) (λ k. mask p xs k at))) (sym (sum-el A _ _ L (users-in p v) (λ k. mask p ys k at))))
+            let s = users-in-in p v k i in
+            ap el (mask-add k at (s .0) (s .1) (place-lt p b j h lo l)) ∙ L .el-add (mask p xs k at) (mask p ys k at)) ∙ sum-add K (users-in p v) _ _
+            ∙ ap₂ (λ a b. a ⊕ b) (sym (sum-el A _ _ L (users-in p v) (λ k. mask p xs k at))) (sym (sum-el A _ _ L (users-in p v) (λ k. mask p ys k at))))
         | no l ↦
-          let i : ℕ = j - suc (items p) in
-          let s : items p < j = omega arith in
-          let r : j - suc (items p) < p .collusion = omega arith in
-          rw (lt-leb j (items p) s) (ap el (noise-add v b (j - suc (items p)) u h r) ∙ L .el-add (noise p xs v b i) (noise p ys v b i))
+            let i : ℕ = j - suc (items p) in
+            let s : items p < j = omega arith in
+            let r : j - suc (items p) < p .collusion = omega arith in
+            rw (lt-leb j (items p) s) (ap el (noise-add v b (j - suc (items p)) u h r) ∙ L .el-add (noise p xs v b i) (noise p ys v b i))
       ]
 
   pub share-add : (k v b : ℕ) → 1 ≤ k → k ≤ p .users → usable p v ≡ true → b < p .blocks →

@@ -119,8 +119,15 @@ module _ (A : Arithmetic) (p : Plan) (L : Laws A (p .users) (p .threshold)) (c :
       let r : ℕ = rank (usable p) v in
       let t : p .users * places p + (r * p .blocks + b) * p .collusion + i - p .users * places p ≡ (r * p .blocks + b) * p .collusion + i = omega arith in
       let f : p .users * places p ≤ p .users * places p + (r * p .blocks + b) * p .collusion + i = omega arith in
-      rw (le-ltb _ _ f, t, high (r * p .blocks + b) i (p .collusion) l, low (r * p .blocks + b) i (p .collusion) l, high r b (p .blocks) h,
-      low r b (p .blocks) h, rank-at (usable p) (2 ^ p .users) v (usable-below p v u) u)
+      rw (
+        le-ltb _ _ f,
+        t,
+        high (r * p .blocks + b) i (p .collusion) l,
+        low (r * p .blocks + b) i (p .collusion) l,
+        high r b (p .blocks) h,
+        low r b (p .blocks) h,
+        rank-at (usable p) (2 ^ p .users) v (usable-below p v u) u,
+      )
 
   pub delta-mask : (k i : ℕ) → 1 ≤ k → k ≤ p .users → i < places p → el (mask p Δ k i) ≡ d k i
   unfolding mask list-length
@@ -132,16 +139,16 @@ module _ (A : Arithmetic) (p : Plan) (L : Laws A (p .users) (p .threshold)) (c :
       let place : ℕ = b * items p + (j - 1) in
       elim (decLe j (items p)) [
         | yes l ↦
-          let g : unsolved A p L c d e v b j ≡ field-sum K (users-in p v) (λ k. d k place) = rw (le-leb j (items p) l) in
-          rw (le-leb j (items p) l)
-          (sum-el A _ _ L (users-in p v) (λ k. mask p Δ k place)
-          ∙ sum-same K (users-in p v) _ _ (λ k m. let s = users-in-in p v k m in delta-mask k place (s .0) (s .1) (place-lt p b j h lo l))
-          ∙ sym (shift-unsolved v b j (omega (arith, kept-items p c more few v)) ∙ g))
+            let g : unsolved A p L c d e v b j ≡ field-sum K (users-in p v) (λ k. d k place) = rw (le-leb j (items p) l) in
+            rw (le-leb j (items p) l)
+            (sum-el A _ _ L (users-in p v) (λ k. mask p Δ k place)
+            ∙ sum-same K (users-in p v) _ _ (λ k m. let s = users-in-in p v k m in delta-mask k place (s .0) (s .1) (place-lt p b j h lo l))
+            ∙ sym (shift-unsolved v b j (omega (arith, kept-items p c more few v)) ∙ g))
         | no l ↦
-          let s : items p < j = omega arith in
-          let r : j - suc (items p) < p .collusion = omega arith in
-          let f : suc (items p) + (j - suc (items p)) ≡ j = omega arith in
-          rw (lt-leb j (items p) s) (at _ (noise-lt p v b _ u h r) ∙ delta-high v b (j - suc (items p)) u h r ∙ ap (shift A p L c d e v b) f)
+            let s : items p < j = omega arith in
+            let r : j - suc (items p) < p .collusion = omega arith in
+            let f : suc (items p) + (j - suc (items p)) ≡ j = omega arith in
+            rw (lt-leb j (items p) s) (at _ (noise-lt p v b _ u h r) ∙ delta-high v b (j - suc (items p)) u h r ∙ ap (shift A p L c d e v b) f)
       ]
 
   -- a share whose row sees nothing of the columns' move

@@ -79,10 +79,10 @@ module _ (A : Arithmetic) (p : Plan) (L : Laws A (p .users) (p .threshold)) wher
         let i : ℕ = b * items p + (j - 1) in
         elim (decLe j (items p)) [
           | yes l ↦ rw (le-leb j (items p) l)
-            (sum-sub K (users-in p v) (λ k. el (getD (x k) i 0)) (λ k. el (getD (y k) i 0))
-            ∙ ap (λ a. sub K a (field-sum K (users-in p v) (λ k. el (getD (y k) i 0))))
-            (sym (sum-el A _ _ L (users-in p v) (λ k. getD (x k) i 0)) ∙ ap el (al .totals i (place-lt p b j h lo l))
-            ∙ sum-el A _ _ L (users-in p v) (λ k. getD (y k) i 0)) ∙ sub-is K (K .add-zero _))
+              (sum-sub K (users-in p v) (λ k. el (getD (x k) i 0)) (λ k. el (getD (y k) i 0))
+              ∙ ap (λ a. sub K a (field-sum K (users-in p v) (λ k. el (getD (y k) i 0))))
+              (sym (sum-el A _ _ L (users-in p v) (λ k. getD (x k) i 0)) ∙ ap el (al .totals i (place-lt p b j h lo l))
+              ∙ sum-el A _ _ L (users-in p v) (λ k. getD (y k) i 0)) ∙ sub-is K (K .add-zero _))
           | no l ↦ let s : items p < j = omega arith in rw (lt-leb j (items p) s)
         ]
 
