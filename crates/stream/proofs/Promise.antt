@@ -60,23 +60,17 @@ whole-taken (broken o ∷ l) = refl
 whole-then : (s : Service) (l : List Item) → text (answers s l) ≡ text (answers s (whole-of l)) ++ text (ending l)
 unfolding whole-of ending answers text
 whole-then s [] = refl
-whole-then s (taken o r ∷ l) =
-    let t : Service = step s r .service in
-    ap (λ (x : List ℕ). line o (step s r .answer) ++ x) (whole-then t l)
-    ∙ sym (append-assoc (line o (step s r .answer)) (text (answers t (whole-of l))) (text (ending l)))
+whole-then s (taken o r ∷ l) = rw (whole-then (step s r .service) l, append-assoc)
 whole-then s (broken o ∷ l) = refl
 
 pub lines-right : Lines-right
 unfolding Lines-right Answers-run lines
-lines-right s o b w =
-    let l = items o b in
-    record { steps = answers-run s (whole-of l) w (whole-taken l); said = whole-then s l }
+lines-right s o b w = record { steps = answers-run s _ w (whole-taken (items o b)); said = whole-then s (items o b) }
 
 -- ---- the input cut in two after whole records
 pub cut-free : Cut-free
 unfolding Cut-free lines
-cut-free s o a c e =
-    ap (λ (l : List Item). text (answers s l)) (items-append o a c e) ∙ text-append s (items o a) (items (o + length a) c) e
+cut-free s o a c e = rw (items-append o a c e) (text-append s (items o a) (items (o + length a) c) e)
 
 -- ---- a chunk at a time
 stops : (b : List ℕ) (o n at w : ℕ) → at ≤ length b → ready-at b at (n - w) ≡ false → Stops (stop-at b at) b o n at w
@@ -149,5 +143,4 @@ broken-line s o (k ∷ c) h =
 
 pub seven-ends : Seven-ends
 unfolding Seven-ends Cut-free
-seven-ends s o a c e h =
-    cut-free s o a c e ∙ ap (λ (l : List ℕ). lines s o a ++ l) (broken-line (last-state s (items o a)) (o + length a) c h)
+seven-ends s o a c e h = rw (cut-free s o a c e, broken-line (last-state s (items o a)) (o + length a) c h)

@@ -3,8 +3,10 @@
 use mathlib.Core.Path.{_≡_, ap}
 use native.Mathlib.Omega.{arith}
 use borrow.Author.Needs.{needs}
-use Rattle.stream.specs.Stream.{record-length, length-at}
-use Rattle.stream.proofs.Turns.{turn-reply}
+use Rattle.scheme.specs.Service.{silent}
+use Rattle.service.specs.Calls.{reply-step}
+use Rattle.stream.specs.Stream.{record-length, length-at, record-at, step}
+use Rattle.stream.proofs.Turns.{turn-told}
 use Rattle.stream.proofs.take_reply.Statement.{statement}
 use Rattle.stream.proofs.take_reply.Tie as tie
 
@@ -43,13 +45,15 @@ same-length : tie.Need-same-length
 same-length c = search needs
 
 returns : tie.Need-returns
-returns c =
+unfolding step reply-step record-at
+returns c first =
     let element = c .before .before in
     let held = element .before .before in
     let read = held .before .before in
     let user = read .before .before in
-    turn-reply _ _ (from user .pre .2) (user .byte-at .ensures) (read .before .byte-at2 .ensures) (read .two-at .ensures .0)
-    (held .put-reply .ensures .0) (held .put-reply .ensures .1) (element .put-element .ensures)
+    let said = held .put-reply .ensures in
+    rw (from user .pre .2)
+    (turn-told _ silent (cc (user .byte-at .ensures, read .before .byte-at2 .ensures, read .two-at .ensures .0, said .0, said .1)) (element .put-element .ensures))
 
 pub take-reply-spec : {M : Type 1} → statement M
 take-reply-spec =
