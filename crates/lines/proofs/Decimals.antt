@@ -105,7 +105,8 @@ unfolding spell
 decimal-split zero n lo hi = simp (div-one, append-nil)
 decimal-split (suc k) n lo hi =
     let p = one-le-pow k 10 (lit< tt) in
-    rw (decimal-last n (omega (arith, pow-suc 10 k)) hi, decimal-split k (n / 10) (omega (arith, pow-suc 10 k)) (omega arith), append-assoc, high-tenth k n)
+    let q = pow-suc 10 k in
+    rw (decimal-last n (omega arith) hi, decimal-split k (n / 10) (omega arith) (omega arith), append-assoc, high-tenth k n)
 
 pub decimal-whole : (k n : ℕ) → n / 10 ^ k < 10 → 10 ^ k ≤ n → n < 10 ^ 20 → spell (1 + k) n ≡ decimal n
 decimal-whole k n one lo hi = rw (decimal-split k n lo hi, ← decimal-one (n / 10 ^ k) one) (spell-split 1 k n)

@@ -100,9 +100,8 @@ module _ (s : Service) (b : List ℕ) (o n : ℕ) where
         formed = λ f. subst (Formed sixteen) (sym (g .state)) (answers-run s (items o (take at b)) f (g .whole) .formed);
         written = g .written;
         same = λ rest.
-            ap (λ (l : List ℕ). lines s o (l ++ rest)) (sym (take-append-drop at b)) ∙ ap (lines s o) (append-assoc (take at b) (drop at b) rest)
-            ∙ cut-free s o (take at b) (drop at b ++ rest) (g .whole)
-            ∙ ap₂ (λ (u : Service) (i : ℕ). lines s o (take at b) ++ lines u (o + i) (drop at b ++ rest)) (sym (g .state)) (length-take-le at b (g .inside));
+            rw (← append-assoc (take at b) (drop at b) rest, take-append-drop at b, ← g .state, length-take-le at b (g .inside))
+            at (cut-free s o (take at b) (drop at b ++ rest) (g .whole));
         why = y;
       }
 

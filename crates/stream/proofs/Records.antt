@@ -109,10 +109,8 @@ module _ (c : List ℕ) where
           let far : o + record-length k + length (after k b) ≡ o + length (k ∷ b) = omega (arith, length-drop (record-length k) (k ∷ b)) in
           let long : record-length k ≤ length (k ∷ (b ++ c)) = omega (arith, length-append b c) in
           rw (ne-eqb (record-length k) 0 ne, le-ltb (length (k ∷ b)) (record-length k) h, le-ltb (length (k ∷ (b ++ c))) (record-length k) long)
-          (λ e. ap₂ (λ (r : Record) (l : List Item). taken o r ∷ l)
-          (sym (record-same (k ∷ b) (k ∷ (b ++ c)) 0 0 (λ i l. sym (List·getD-append (k ∷ b) c 0 (0 + i) (omega arith))) ne))
-          (ap (items-from m (o + record-length k)) (drop-append-le (record-length k) (k ∷ b) c h) ∙ ih (omega arith) e
-          ∙ ap (λ (i : ℕ). items-from n (o + record-length k) (after k b) ++ items i c) far))
+          (λ e. rw (← record-same (k ∷ b) (k ∷ (b ++ c)) 0 0 (λ i l. sym (List·getD-append (k ∷ b) c 0 (0 + i) (omega arith))) ne,
+          drop-append-le (record-length k) (k ∷ b) c h, ih (omega arith) e, far))
 
 pub items-append : (o : ℕ) (a c : List ℕ) → all-taken (items o a) ≡ true → items o (a ++ c) ≡ items o a ++ items (o + length a) c
 unfolding items
@@ -137,8 +135,7 @@ module _ (o : ℕ) (b : List ℕ) (at : ℕ) (ne : length-at b at ≢ 0) (l : at
   items-here =
       let long : length bytes ≡ length-at b at = length-take-le (length-at b at) (drop at b) (omega (arith, length-drop at b)) in
       let same : length-at b at ≡ length-at bytes 0 = ap record-length (ap (λ (i : ℕ). getD b i 0) (sym (add-zero at)) ∙ here 0 (omega arith)) in
-      items-one (o + at) bytes (λ z. ne (same ∙ z)) (sym same ∙ sym long)
-      ∙ ap (λ (r : Record). taken (o + at) r ∷ []) (sym (record-same b bytes at 0 here ne))
+      rw (record-same b bytes at 0 here ne) (items-one (o + at) bytes (λ z. ne (same ∙ z)) (sym same ∙ sym long))
 
   pub items-next : all-taken (items o (take at b)) ≡ true
       → items o (take (at + length-at b at) b) ≡ items o (take at b) ++ (taken (o + at) (record-at b at) ∷ [])

@@ -73,7 +73,8 @@ pub open-says : (s : Service) (i : ℕ) {r : Stepped} → r ≡ open-step s i �
 unfolding step
 open-says s i e = rw e
 
-pub close-says : (s : Service) {r : Closed} → r ≡ close-step s → outcome (r .number) (closed (s .head .round) (r .set)) (r .service) ≡ step s close-record
+pub close-says : (s : Service) {r : Closed} → r ≡ close-step s
+    → outcome (r .number) (closed (s .head .round) (r .set)) (r .service) ≡ step s close-record
 unfolding step
 close-says s e = rw e
 
@@ -138,7 +139,8 @@ module _ (o : ℕ) where
 
   pub line-short : (s : Service) (r : Record) → length (line o (step s r .answer)) ≤ room
   unfolding step line
-  line-short s (plan-record p) = told-short _ _ (λ e. simp length-append (omega (arith, numbers-short (p .users ∷ p .threshold ∷ p .collusion ∷ p .blocks ∷ []))))
+  line-short s (plan-record p) =
+      told-short _ _ (λ e. simp length-append (omega (arith, numbers-short (p .users ∷ p .threshold ∷ p .collusion ∷ p .blocks ∷ []))))
   line-short s (open-record r) = told-short _ _ (λ e. simp length-append (omega (arith, numbers-short (r ∷ []))))
   line-short s (first-record k i x) = told-short _ _ (λ e. omega arith)
   line-short s close-record = told-short _ _ (λ e. simp length-append (omega (arith, numbers-short (s .head .round ∷ close-step s .set ∷ []))))

@@ -26,14 +26,14 @@ sub-if3 c = search needs
 returns-3 : tie.Need-returns-3
 unfolding ready-at
 returns-3 c =
-    let known = c .before in
-    simp (← known .before .record-length .ensures, lt-ltb _ _ (known .before .before .before .if1 .left), ne-eqb _ _ (known .if2 .left), lt-leb _ _ (c .if3 .taken))
+    let n = c .before .before in
+    simp (← n .record-length .ensures, lt-ltb _ _ (n .before .before .if1 .left), ne-eqb _ _ (c .before .if2 .left), lt-leb _ _ (c .if3 .taken))
 
 returns-4 : tie.Need-returns-4
 unfolding ready-at
 returns-4 c =
-    let known = c .before in
-    simp (← known .before .record-length .ensures, lt-ltb _ _ (known .before .before .before .if1 .left), ne-eqb _ _ (known .if2 .left), le-leb _ _ (c .if3 .left))
+    let n = c .before .before in
+    simp (← n .record-length .ensures, lt-ltb _ _ (n .before .before .if1 .left), ne-eqb _ _ (c .before .if2 .left), le-leb _ _ (c .if3 .left))
 
 pub ready-at-spec : {M : Type 1} → statement M
 ready-at-spec =

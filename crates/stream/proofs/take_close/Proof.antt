@@ -16,8 +16,8 @@ same-length c = search needs
 
 returns : tie.Need-returns
 returns c =
-    let put = c .before .before in
-    turn-refused _ _ (close-says _ (put .before .before .before .before .close-lent .ensures)) (put .before .before .if1 .taken) (put .put-refusal .ensures .1)
+    let test = c .before .before .before .before in
+    turn-refused _ _ (close-says _ (test .before .before .close-lent .ensures)) (test .if1 .taken) (c .before .before .put-refusal .ensures .1)
 
 put-survivors-requires : tie.Need-put-survivors-requires
 put-survivors-requires c κs = search needs
@@ -27,8 +27,8 @@ same-length-2 c = search needs
 
 returns-2 : tie.Need-returns-2
 returns-2 c =
-    let put = c .before .before in
-    turn-taken _ _ (close-says _ (put .before .before .before .before .close-lent .ensures)) (put .before .before .if1 .left) (put .put-survivors .ensures .1 _)
+    let test = c .before .before .before .before in
+    turn-taken _ _ (close-says _ (test .before .before .close-lent .ensures)) (test .if1 .left) (c .before .before .put-survivors .ensures .1 _)
 
 pub take-close-spec : {M : Type 1} → statement M
 take-close-spec =

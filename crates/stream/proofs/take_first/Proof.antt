@@ -10,9 +10,6 @@ use Rattle.stream.proofs.Turns.{turn-told}
 use Rattle.stream.proofs.take_first.Statement.{statement}
 use Rattle.stream.proofs.take_first.Tie as tie
 
-abbrev from : tie.After-byte-at → tie.Start
-from c = c .before .before .before
-
 long : (c : tie.Start) → length-at (c .args .b .now) (c .args .start) ≡ 6
 unfolding record-length
 long c = ap record-length (c .pre .2)
@@ -27,13 +24,13 @@ add-two-at : tie.Need-add-two-at
 add-two-at c = search needs
 
 two-at-requires : tie.Need-two-at-requires
-two-at-requires c κs = omega (arith, long (from c))
+two-at-requires c κs = omega (arith, long (c .before .before .before))
 
 add-two-at-2 : tie.Need-add-two-at-2
 add-two-at-2 c = search needs
 
 two-at-requires-2 : tie.Need-two-at-requires-2
-two-at-requires-2 c κs = omega (arith, long (from (c .before)))
+two-at-requires-2 c κs = omega (arith, long (c .before .before .before .before))
 
 put-first-requires : tie.Need-put-first-requires
 put-first-requires c κs = search needs
@@ -51,9 +48,7 @@ returns c reply =
     let held = element .before .before in
     let read = held .before .before in
     let user = read .before .before in
-    let said = held .put-first .ensures in
-    rw (from user .pre .2)
-    (turn-told _ silent (cc (user .byte-at .ensures, read .before .two-at .ensures .0, read .two-at2 .ensures .0, said .0, said .1)) (element .put-element .ensures))
+    rw (user .before .before .before .pre .2) (turn-told _ silent (cc) (element .put-element .ensures))
 
 pub take-first-spec : {M : Type 1} → statement M
 take-first-spec =

@@ -16,8 +16,8 @@ same-length c = search needs
 
 returns : tie.Need-returns
 returns c =
-    let put = c .before .before in
-    turn-refused _ _ (open-says _ _ (put .before .before .before .before .open-lent .ensures)) (put .before .before .if1 .taken) (put .put-refusal .ensures .1)
+    let test = c .before .before .before .before in
+    turn-refused _ _ (open-says _ _ (test .before .before .open-lent .ensures)) (test .if1 .taken) (c .before .before .put-refusal .ensures .1)
 
 put-open-requires : tie.Need-put-open-requires
 put-open-requires c κs = search needs
@@ -27,8 +27,8 @@ same-length-2 c = search needs
 
 returns-2 : tie.Need-returns-2
 returns-2 c =
-    let put = c .before .before in
-    turn-taken _ _ (open-says _ _ (put .before .before .before .before .open-lent .ensures)) (put .before .before .if1 .left) (put .put-open .ensures .1 _)
+    let test = c .before .before .before .before in
+    turn-taken _ _ (open-says _ _ (test .before .before .open-lent .ensures)) (test .if1 .left) (c .before .before .put-open .ensures .1 _)
 
 pub take-open-spec : {M : Type 1} → statement M
 take-open-spec =

@@ -16,8 +16,8 @@ same-length c = search needs
 
 returns : tie.Need-returns
 returns c =
-    let put = c .before .before in
-    turn-refused _ _ (plan-says _ _ (put .before .before .before .before .plan-lent .ensures)) (put .before .before .if1 .taken) (put .put-refusal .ensures .1)
+    let test = c .before .before .before .before in
+    turn-refused _ _ (plan-says _ _ (test .before .before .plan-lent .ensures)) (test .if1 .taken) (c .before .before .put-refusal .ensures .1)
 
 put-plan-requires : tie.Need-put-plan-requires
 put-plan-requires c κs = search needs
@@ -27,8 +27,8 @@ same-length-2 c = search needs
 
 returns-2 : tie.Need-returns-2
 returns-2 c =
-    let put = c .before .before in
-    turn-taken _ _ (plan-says _ _ (put .before .before .before .before .plan-lent .ensures)) (put .before .before .if1 .left) (put .put-plan .ensures .1 _)
+    let test = c .before .before .before .before in
+    turn-taken _ _ (plan-says _ _ (test .before .before .plan-lent .ensures)) (test .if1 .left) (c .before .before .put-plan .ensures .1 _)
 
 pub take-plan-spec : {M : Type 1} → statement M
 take-plan-spec =
