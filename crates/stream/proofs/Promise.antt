@@ -1,7 +1,7 @@
 -- That the lines of the record stream are those of document 01's service.
 --   step-right, answers-run, lines-right, cut-free, fed-right, opens-as-new, seven-ends     the statements of specs/Promise.antt
 -- Assumes nothing.
-use mathlib.Core.Path.{_≡_, refl, sym, ap, ap₂, _∙_, subst}
+use mathlib.Core.Path.{_≡_, refl, sym, ap, subst}
 use mathlib.Core.Bool.{Bool, true, false}
 use mathlib.Core.List.{List, [], _∷_, _++_, append-assoc}
 use Prim.Native.Nat.{ℕ, zero, suc, _+_, _-_, _^_, _≤_, _<_}

@@ -15,7 +15,7 @@ use native.Mathlib.Omega.{arith}
 use lib.ListN.{length, getD, take, drop, length-append, length-drop, List·getD-append}
 use lib.Seq.{getD-take, getD-drop, drop-append-le, drop-length, take-add, length-take-le}
 use borrow.Author.Tests.{eq-eqb, ne-eqb, lt-ltb, le-ltb}
-use Rattle.scheme.specs.Service.{Record, refused}
+use Rattle.scheme.specs.Service.{refused}
 use Rattle.scheme.proofs.Tests.{holds}
 use Rattle.service.specs.declared.Service.{Service}
 use Rattle.lines.specs.Text.{line}

@@ -81,8 +81,8 @@ unfolding record-length
 loop-again c =
     let turn = c .before .before in
     let test = turn .before .before .before .before in
-    let here = test .before .before in
-    going-more (here .before .before .loop .inv) (taken here) (sym (ap record-length (test .if2 .taken))) (turn .take-first .ensures _)
+    let top = test .before .before in
+    going-more (top .before .before .loop .inv) (taken top) (sym (ap record-length (test .if2 .taken))) (turn .take-first .ensures _)
 
 take-reply-requires : tie.Need-take-reply-requires Inv-loop μ-loop
 take-reply-requires c κs =
@@ -104,8 +104,8 @@ unfolding record-length
 loop-again-2 c =
     let turn = c .before .before in
     let test = turn .before .before .before .before in
-    let here = test .before .before .before in
-    going-more (here .before .before .loop .inv) (taken here) (sym (ap record-length (test .if3 .taken))) (turn .take-reply .ensures _)
+    let top = test .before .before .before in
+    going-more (top .before .before .loop .inv) (taken top) (sym (ap record-length (test .if3 .taken))) (turn .take-reply .ensures _)
 
 -- plan, open, close or finish
 other : (c : tie.Else3 Inv-loop μ-loop) → let turn = c .before .before .before in Other (bytes turn) (at-loop turn .loop .at)
@@ -149,7 +149,8 @@ loop-less-4 c = omega (arith, here (from-other c) .known, here (from-other c) .w
 
 loop-again-4 : tie.Need-loop-again-4 Inv-loop μ-loop
 loop-again-4 c =
-    going-more (from-other c .before .before .loop .inv) (taken (from-other c)) (c .record-length2 .ensures) (c .before .before .before .before .take-other .ensures)
+    let top = from-other c in
+    going-more (top .before .before .loop .inv) (taken top) (c .record-length2 .ensures) (c .before .before .before .before .take-other .ensures)
 
 stop-at-requires : tie.Need-stop-at-requires Inv-loop μ-loop
 stop-at-requires c κs = search needs

@@ -1,10 +1,9 @@
 -- `stream::put_element` meets its contract: an accepted element prints nothing.
 -- Assumes nothing.
-use mathlib.Core.Path.{sym, ap}
 use borrow.Author.Needs.{needs}
 use Rattle.scheme.specs.Service.{silent}
 use Rattle.lines.specs.Text.{line}
-use Rattle.lines.proofs.Lines.{put-none, put-as}
+use Rattle.lines.proofs.Lines.{put-none}
 use Rattle.stream.proofs.Turns.{told-taken, told-refused}
 use Rattle.stream.proofs.put_element.Statement.{statement}
 use Rattle.stream.proofs.put_element.Tie as tie

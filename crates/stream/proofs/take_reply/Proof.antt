@@ -44,11 +44,9 @@ same-length c = search needs
 returns : tie.Need-returns
 unfolding step reply-step record-at
 returns c first =
-    let element = c .before .before in
-    let held = element .before .before in
-    let read = held .before .before in
-    let user = read .before .before in
-    rw (user .before .before .before .pre .2) (turn-told _ silent (cc) (element .put-element .ensures))
+    let held = c .before .before .before .before in
+    let user = held .before .before .before .before in
+    rw (user .before .before .before .pre .2) (turn-told _ silent (cc) (c .before .before .put-element .ensures))
 
 pub take-reply-spec : {M : Type 1} → statement M
 take-reply-spec =
