@@ -108,9 +108,9 @@ module _ (c : List ℕ) where
       one (no ne) (yes h) ih =
           let far : o + record-length k + length (after k b) ≡ o + length (k ∷ b) = omega (arith, length-drop (record-length k) (k ∷ b)) in
           let long : record-length k ≤ length (k ∷ (b ++ c)) = omega (arith, length-append b c) in
+          let same = record-same (k ∷ b) (k ∷ (b ++ c)) 0 0 (λ i l. sym (List·getD-append (k ∷ b) c 0 (0 + i) (omega arith))) ne in
           rw (ne-eqb (record-length k) 0 ne, le-ltb (length (k ∷ b)) (record-length k) h, le-ltb (length (k ∷ (b ++ c))) (record-length k) long)
-          (λ e. rw (← record-same (k ∷ b) (k ∷ (b ++ c)) 0 0 (λ i l. sym (List·getD-append (k ∷ b) c 0 (0 + i) (omega arith))) ne,
-          drop-append-le (record-length k) (k ∷ b) c h, ih (omega arith) e, far))
+          (λ e. rw (← same, drop-append-le (record-length k) (k ∷ b) c h, ih (omega arith) e, far))
 
 pub items-append : (o : ℕ) (a c : List ℕ) → all-taken (items o a) ≡ true → items o (a ++ c) ≡ items o a ++ items (o + length a) c
 unfolding items

@@ -28,4 +28,5 @@ returns c =
     (omega (arith, decimal-twenty n), put-append {xs = 32 ∷ []} (record { place = refl; bytes = refl }) (digits .put-digits .ensures))
 
 pub put-number-spec : {M : Type 1} → statement M
-put-number-spec = tie.close (tie.spec slice-write-out add-put-digits put-digits-requires same-length returns)
+put-number-spec =
+    tie.close (tie.spec slice-write-out add-put-digits put-digits-requires same-length returns)

@@ -37,4 +37,5 @@ returns-7 c =
     simp (ne-eqb _ _ (s .0 .0 .1), ne-eqb _ _ (s .0 .1), ne-eqb _ _ (s .1), ne-eqb _ _ (r .0 .0 .1), ne-eqb _ _ (r .0 .1), ne-eqb _ _ (r .1))
 
 pub record-length-spec : {M : Type 1} → statement M
-record-length-spec = tie.close (tie.spec returns returns-2 returns-3 returns-4 returns-5 returns-6 returns-7)
+record-length-spec =
+    tie.close (tie.spec returns returns-2 returns-3 returns-4 returns-5 returns-6 returns-7)
