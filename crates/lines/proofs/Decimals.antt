@@ -5,7 +5,7 @@
 --   decimal-twenty                       at most 20
 --   decimal-most                         below a power of ten
 -- Assumes nothing.
-use mathlib.Core.Path.{_≡_, refl, sym, ap, ap₂, _∙_}
+use mathlib.Core.Path.{_≡_, refl, sym, ap, _∙_}
 use mathlib.Core.List.{List, [], _∷_, _++_, append-assoc, append-nil}
 use Prim.Native.Nat.{ℕ, zero, suc, _+_, _*_, _/_, _%_, _^_, _≤_, _<_}
 use native.Mathlib.Nat.{add-zero, add-suc, div-one, div-div-eq-div-mul, pow-suc, pow-succ', one-le-pow}
@@ -26,12 +26,6 @@ module _ (k n : ℕ) where
   low : n % 10 ^ suc k ≡ (n / 10 % 10 ^ k) * 10 + n % 10
   low = ap (λ (m : ℕ). n % m) (pow-suc 10 k) ∙ mod-mul n (one-le-pow k 10 (lit< tt)) (lit< tt)
 
-  low-tenth : n % 10 ^ suc k / 10 ≡ n / 10 % 10 ^ k
-  low-tenth = omega (arith, low)
-
-  low-last : n % 10 ^ suc k % 10 ≡ n % 10
-  low-last = omega (arith, low)
-
   high-tenth : n / 10 / 10 ^ k ≡ n / 10 ^ suc k
   high-tenth = div-div-eq-div-mul n 10 (10 ^ k) ∙ ap (λ (m : ℕ). n / m) (sym (pow-succ' 10 k))
 
@@ -39,15 +33,14 @@ spell-low : (k n : ℕ) → spell k (n % 10 ^ k) ≡ spell k n
 unfolding spell
 spell-low zero n = refl
 spell-low (suc k) n =
-    ap₂ (λ (l : List ℕ) (d : ℕ). l ++ ((48 + d) ∷ [])) (ap (spell k) (low-tenth k n) ∙ spell-low k (n / 10)) (low-last k n)
+    let tenth : n % 10 ^ suc k / 10 ≡ n / 10 % 10 ^ k = omega (arith, low k n) in
+    let last : n % 10 ^ suc k % 10 ≡ n % 10 = omega (arith, low k n) in
+    rw (tenth, last, spell-low k (n / 10))
 
 spell-split : (j k n : ℕ) → spell (j + k) n ≡ spell j (n / 10 ^ k) ++ spell k n
 unfolding spell
 spell-split j zero n = simp (add-zero, div-one, append-nil)
-spell-split j (suc k) n =
-    ap (λ (i : ℕ). spell i n) (add-suc j k) ∙ ap (λ (l : List ℕ). l ++ last-digit n) (spell-split j k (n / 10))
-    ∙ append-assoc (spell j (n / 10 / 10 ^ k)) (spell k (n / 10)) (last-digit n)
-    ∙ ap (λ (m : ℕ). spell j m ++ (spell k (n / 10) ++ last-digit n)) (high-tenth k n)
+spell-split j (suc k) n = rw (add-suc j k, spell-split j k (n / 10), append-assoc, high-tenth k n)
 
 pub spell-parts : (j k n : ℕ) → spell j (n / 10 ^ k) ++ spell k (n % 10 ^ k) ≡ spell (j + k) n
 spell-parts j k n = ap (λ (l : List ℕ). spell j (n / 10 ^ k) ++ l) (spell-low k n) ∙ sym (spell-split j k n)
@@ -70,24 +63,14 @@ module _
 length-last : (l : List ℕ) (x : ℕ) → length (l ++ (x ∷ [])) ≡ suc (length l)
 length-last l x = length-append l (x ∷ []) ∙ add-one (length l)
 
-spell-decimal : (n : ℕ) → spell (length (decimal n)) n ≡ decimal n
-unfolding spell decimal
-spell-decimal =
-    by-digits (λ m n l. spell (length l) n ≡ l) (λ n. refl) (λ m n h. let e : n % 10 ≡ n = omega arith in simp e)
-    (λ m n l h p. rw length-last (ap (λ (k : List ℕ). k ++ last-digit n) p))
-    20
-
 pub decimal-twenty : (n : ℕ) → length (decimal n) ≤ 20
 unfolding decimal
 decimal-twenty n =
     by-digits (λ m n l. length l ≤ m) (λ n. omega arith) (λ m n h. omega arith) (λ m n l h p. omega (arith, length-last l (48 + n % 10))) 20 n
 
--- a number below a power of ten, and one from a power on
+-- a number below a power of ten
 abbrev Most : (m n : ℕ) → List ℕ → Type 0
 Most m n l = (k : ℕ) → n < 10 ^ suc k → length l ≤ suc k
-
-abbrev Least : (m n : ℕ) → List ℕ → Type 0
-Least m n l = (k : ℕ) → k < m → 10 ^ k ≤ n → k < length l
 
 pub decimal-most : (k n : ℕ) → 1 ≤ k → n < 10 ^ k → length (decimal n) ≤ k
 unfolding decimal
@@ -99,31 +82,10 @@ decimal-most (suc k) n lo =
     last m n l h p zero i = absurd (omega arith)
     last m n l h p (suc k) i = omega (arith, length-last l (48 + n % 10), p k (omega (arith, pow-suc 10 (suc k))))
 
-decimal-least : (k n : ℕ) → k < 20 → 10 ^ k ≤ n → k < length (decimal n)
-unfolding decimal
-decimal-least k n = by-digits Least (λ n k i. absurd (omega arith)) one last 20 n k
-  where
-    one : (m n : ℕ) → n < 10 → Least (suc m) n ((48 + n) ∷ [])
-    one m n h zero i j = omega arith
-    one m n h (suc k) i j = absurd (omega (arith, pow-suc 10 k, one-le-pow k 10 (lit< tt)))
-
-    last : (m n : ℕ) (l : List ℕ) → 10 ≤ n → Least m (n / 10) l → Least (suc m) n (l ++ last-digit n)
-    last m n l h p zero i j = omega (arith, length-last l (48 + n % 10))
-    last m n l h p (suc k) i j = omega (arith, length-last l (48 + n % 10), p k (omega arith) (omega (arith, pow-suc 10 k)))
-
 -- ---- digits whose number is known, and a high part's
 pub decimal-one : (n : ℕ) → n < 10 → spell 1 n ≡ decimal n
 unfolding decimal digits spell
 decimal-one n h = let e : n % 10 ≡ n = omega arith in simp (lt-ltb n 10 h, e)
-
-pub decimal-whole : (k n : ℕ) → k < 19 → 10 ^ k ≤ n → n < 10 ^ suc k → spell (suc k) n ≡ decimal n
-decimal-whole k n few lo hi =
-    let e : suc k ≡ length (decimal n) = omega (arith, decimal-most (suc k) n (omega arith) hi, decimal-least k n (omega arith) lo) in
-    ap (λ (i : ℕ). spell i n) e ∙ spell-decimal n
-
-digits-last : (m n : ℕ) → 10 ≤ n → digits (suc m) n ≡ digits m (n / 10) ++ last-digit n
-unfolding digits
-digits-last m n h = rw (le-ltb n 10 h)
 
 digits-more : (m n : ℕ) → n < 10 ^ suc m → digits (suc m) n ≡ digits (suc (suc m)) n
 unfolding digits
@@ -135,18 +97,19 @@ digits-more (suc m) n h = pick (decLt n 10) (digits-more m (n / 10) (omega (arit
     pick (no l) e = rw (le-ltb n 10 (omega arith)) (ap (λ (l : List ℕ). l ++ last-digit n) e)
 
 decimal-last : (n : ℕ) → 10 ≤ n → n < 10 ^ 20 → decimal n ≡ decimal (n / 10) ++ last-digit n
-unfolding decimal
-decimal-last n lo hi = digits-last 19 n lo ∙ ap (λ (l : List ℕ). l ++ last-digit n) (digits-more 18 (n / 10) (omega arith))
+unfolding decimal digits
+decimal-last n lo hi = rw (le-ltb n 10 lo) (ap (λ (l : List ℕ). l ++ last-digit n) (digits-more 18 (n / 10) (omega arith)))
 
 decimal-split : (k n : ℕ) → 10 ^ k ≤ n → n < 10 ^ 20 → decimal n ≡ decimal (n / 10 ^ k) ++ spell k n
 unfolding spell
 decimal-split zero n lo hi = simp (div-one, append-nil)
 decimal-split (suc k) n lo hi =
     let p = one-le-pow k 10 (lit< tt) in
-    decimal-last n (omega (arith, pow-suc 10 k)) hi
-    ∙ ap (λ (l : List ℕ). l ++ last-digit n) (decimal-split k (n / 10) (omega (arith, pow-suc 10 k)) (omega arith))
-    ∙ append-assoc (decimal (n / 10 / 10 ^ k)) (spell k (n / 10)) (last-digit n)
-    ∙ ap (λ (m : ℕ). decimal m ++ (spell k (n / 10) ++ last-digit n)) (high-tenth k n)
+    let q = pow-suc 10 k in
+    rw (decimal-last n (omega arith) hi, decimal-split k (n / 10) (omega arith) (omega arith), append-assoc, high-tenth k n)
+
+pub decimal-whole : (k n : ℕ) → n / 10 ^ k < 10 → 10 ^ k ≤ n → n < 10 ^ 20 → spell (1 + k) n ≡ decimal n
+decimal-whole k n one lo hi = rw (decimal-split k n lo hi, ← decimal-one (n / 10 ^ k) one) (spell-split 1 k n)
 
 pub decimal-parts : (k n : ℕ) → 10 ^ k ≤ n → n < 10 ^ 20 → decimal (n / 10 ^ k) ++ spell k (n % 10 ^ k) ≡ decimal n
 decimal-parts k n lo hi = ap (λ (l : List ℕ). decimal (n / 10 ^ k) ++ l) (spell-low k n) ∙ sym (decimal-split k n lo hi)

@@ -5,7 +5,6 @@
 --   put-length                       the buffer keeps its length
 --   put-spell, put-decimal           a number's digits: those of a high part, then those of the low part
 --   numbers-more                     numbers, one more of a list
---   planned-text, .., refused-text   each line from its pieces
 -- Assumes nothing.
 use mathlib.Core.Path.{_≡_, refl, sym, ap, ap₂, _∙_}
 use mathlib.Core.List.{List, [], _∷_, _++_, append-assoc, append-nil}
@@ -14,20 +13,16 @@ use native.Mathlib.Numerals.{add-one}
 use native.Mathlib.Omega.{arith}
 use lib.ListN.{length, getD, take, set, length-append}
 use lib.Seq.{sets, sets-eq, length-sets, take-at, take-suc, take-length, length-take-le}
-use Rattle.scheme.specs.Scheme.{Plan}
-use Rattle.scheme.specs.Service.{planned, opened, closed, totalled, refused}
 use Rattle.scheme.proofs.Lists.{sets-append}
-use Rattle.lines.specs.Text.{decimal, spell, numbers, line, plan-word, open-word, survivors-word, total-word, refused-word, at-word, line-end}
+use Rattle.lines.specs.Text.{decimal, spell, numbers}
 use Rattle.lines.specs.Put.{Put}
 use Rattle.lines.proofs.Decimals.{spell-parts, decimal-parts}
 
 -- ---- sets
-module _ (o : List ℕ) (at : ℕ) (t : List ℕ) (h : at + length t ≤ length o) where
-  front : length (take at o ++ t) ≡ at + length t
-  front = length-append (take at o) t ∙ ap (λ (n : ℕ). n + length t) (length-take-le at o (omega arith))
-
-  pub take-sets : take (at + length t) (sets o at t) ≡ take at o ++ t
-  take-sets = ap (take (at + length t)) (sets-eq t o at h) ∙ take-at (take at o ++ t) _ _ front
+pub take-sets : (o : List ℕ) (at : ℕ) (t : List ℕ) → at + length t ≤ length o → take (at + length t) (sets o at t) ≡ take at o ++ t
+take-sets o at t h =
+    let front : length (take at o ++ t) ≡ at + length t = omega (arith, length-append (take at o) t, length-take-le at o (omega arith)) in
+    ap (take (at + length t)) (sets-eq t o at h) ∙ take-at (take at o ++ t) _ _ front
 
 -- ---- Put
 pub put-none : (o : List ℕ) (at : ℕ) → Put o o at at []
@@ -64,43 +59,11 @@ module _ {o p q : List ℕ} {at a b : ℕ} where
   put-decimal k n lo hi x y = put-as (put-append x y) (decimal-parts k n lo hi)
 
 -- ---- numbers
-numbers-one : (n : ℕ) → numbers (n ∷ []) ≡ 32 ∷ decimal n
-unfolding numbers
-numbers-one n = ap (λ (t : List ℕ). 32 ∷ t) (append-nil (decimal n))
-
 numbers-append : (l k : List ℕ) → numbers (l ++ k) ≡ numbers l ++ numbers k
 unfolding numbers
 numbers-append [] k = refl
 numbers-append (n ∷ l) k = ap (λ (t : List ℕ). 32 ∷ (decimal n ++ t)) (numbers-append l k) ∙ simp append-assoc
 
 pub numbers-more : (l : List ℕ) (i : ℕ) → i < length l → numbers (take (i + 1) l) ≡ numbers (take i l) ++ (32 ∷ decimal (getD l i 0))
-numbers-more l i h =
-    ap numbers (ap (λ (n : ℕ). take n l) (add-one i) ∙ take-suc l i 0 h) ∙ numbers-append (take i l) (getD l i 0 ∷ [])
-    ∙ ap (λ (t : List ℕ). numbers (take i l) ++ t) (numbers-one (getD l i 0))
-
--- ---- lines
-abbrev number : ℕ → List ℕ
-number n = 32 ∷ decimal n
-
-module _ (o : ℕ) where
-  pub planned-text : (p : Plan)
-      → ((((plan-word ++ number (p .users)) ++ number (p .threshold)) ++ number (p .collusion)) ++ number (p .blocks)) ++ line-end
-      ≡ line o (planned p)
-  unfolding numbers line
-  planned-text p = simp (append-assoc, append-nil)
-
-  pub opened-text : (r : ℕ) → (open-word ++ number r) ++ line-end ≡ line o (opened r)
-  unfolding line
-  opened-text r = ap (λ (a : List ℕ). open-word ++ a ++ line-end) (sym (numbers-one r))
-
-  pub closed-text : (r v : ℕ) → ((survivors-word ++ number r) ++ number v) ++ line-end ≡ line o (closed r v)
-  unfolding numbers line
-  closed-text r v = simp (append-assoc, append-nil)
-
-  pub totalled-text : (r : ℕ) (l : List ℕ) → ((total-word ++ number r) ++ numbers l) ++ line-end ≡ line o (totalled r l)
-  unfolding numbers line
-  totalled-text r l = simp append-assoc
-
-  pub refused-text : (n : ℕ) → (((refused-word ++ number n) ++ at-word) ++ number o) ++ line-end ≡ line o (refused n)
-  unfolding line
-  refused-text n = ap₂ (λ (a b : List ℕ). refused-word ++ a ++ at-word ++ b ++ line-end) (sym (numbers-one n)) (sym (numbers-one o))
+unfolding numbers
+numbers-more l i h = rw (add-one, take-suc l i 0, numbers-append) (simp append-nil)

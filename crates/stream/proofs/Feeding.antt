@@ -70,10 +70,7 @@ module _ {s : Service} {b : List ℕ} {o : ℕ} {t : Service} {at wrote left : �
 
   text-more : lines s o (take (at + length-at b at) b) ≡ lines s o (take at b) ++ said t b o at
   unfolding lines answers text
-  text-more =
-      ap (λ (x : List Item). text (answers s x)) next ∙ text-append s before new (g .whole)
-      ∙ ap (λ (x : List ℕ). text (answers s before) ++ x)
-      (append-nil (said (last-state s before) b o at) ∙ ap (λ (u : Service). said u b o at) (sym (g .state)))
+  text-more = rw (next, text-append s before new (g .whole), append-nil, ← g .state)
 
   pub along-more : Along s b o (behind t b at) (at + length-at b at) (wrote + length (said t b o at))
   unfolding all-taken last-state

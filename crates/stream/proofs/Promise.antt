@@ -1,7 +1,7 @@
 -- That the lines of the record stream are those of document 01's service.
 --   step-right, answers-run, lines-right, cut-free, fed-right, opens-as-new, seven-ends     the statements of specs/Promise.antt
 -- Assumes nothing.
-use mathlib.Core.Path.{_≡_, refl, sym, ap, ap₂, _∙_, subst}
+use mathlib.Core.Path.{_≡_, refl, sym, ap, subst}
 use mathlib.Core.Bool.{Bool, true, false}
 use mathlib.Core.List.{List, [], _∷_, _++_, append-assoc}
 use Prim.Native.Nat.{ℕ, zero, suc, _+_, _-_, _^_, _≤_, _<_}
@@ -60,23 +60,17 @@ whole-taken (broken o ∷ l) = refl
 whole-then : (s : Service) (l : List Item) → text (answers s l) ≡ text (answers s (whole-of l)) ++ text (ending l)
 unfolding whole-of ending answers text
 whole-then s [] = refl
-whole-then s (taken o r ∷ l) =
-    let t : Service = step s r .service in
-    ap (λ (x : List ℕ). line o (step s r .answer) ++ x) (whole-then t l)
-    ∙ sym (append-assoc (line o (step s r .answer)) (text (answers t (whole-of l))) (text (ending l)))
+whole-then s (taken o r ∷ l) = rw (whole-then (step s r .service) l, append-assoc)
 whole-then s (broken o ∷ l) = refl
 
 pub lines-right : Lines-right
 unfolding Lines-right Answers-run lines
-lines-right s o b w =
-    let l = items o b in
-    record { steps = answers-run s (whole-of l) w (whole-taken l); said = whole-then s l }
+lines-right s o b w = record { steps = answers-run s _ w (whole-taken (items o b)); said = whole-then s (items o b) }
 
 -- ---- the input cut in two after whole records
 pub cut-free : Cut-free
 unfolding Cut-free lines
-cut-free s o a c e =
-    ap (λ (l : List Item). text (answers s l)) (items-append o a c e) ∙ text-append s (items o a) (items (o + length a) c) e
+cut-free s o a c e = rw (items-append o a c e) (text-append s (items o a) (items (o + length a) c) e)
 
 -- ---- a chunk at a time
 stops : (b : List ℕ) (o n at w : ℕ) → at ≤ length b → ready-at b at (n - w) ≡ false → Stops (stop-at b at) b o n at w
@@ -106,9 +100,8 @@ module _ (s : Service) (b : List ℕ) (o n : ℕ) where
         formed = λ f. subst (Formed sixteen) (sym (g .state)) (answers-run s (items o (take at b)) f (g .whole) .formed);
         written = g .written;
         same = λ rest.
-            ap (λ (l : List ℕ). lines s o (l ++ rest)) (sym (take-append-drop at b)) ∙ ap (lines s o) (append-assoc (take at b) (drop at b) rest)
-            ∙ cut-free s o (take at b) (drop at b ++ rest) (g .whole)
-            ∙ ap₂ (λ (u : Service) (i : ℕ). lines s o (take at b) ++ lines u (o + i) (drop at b ++ rest)) (sym (g .state)) (length-take-le at b (g .inside));
+            rw (← append-assoc (take at b) (drop at b) rest, take-append-drop at b, ← g .state, length-take-le at b (g .inside))
+            at (cut-free s o (take at b) (drop at b ++ rest) (g .whole));
         why = y;
       }
 
@@ -149,5 +142,4 @@ broken-line s o (k ∷ c) h =
 
 pub seven-ends : Seven-ends
 unfolding Seven-ends Cut-free
-seven-ends s o a c e h =
-    cut-free s o a c e ∙ ap (λ (l : List ℕ). lines s o a ++ l) (broken-line (last-state s (items o a)) (o + length a) c h)
+seven-ends s o a c e h = rw (cut-free s o a c e, broken-line (last-state s (items o a)) (o + length a) c h)

@@ -6,17 +6,16 @@
 -- Assumes nothing.
 use mathlib.Core.Path.{_≡_, refl, sym, ap, ap₂, _∙_}
 use mathlib.Core.Logic.{_≢_}
-use mathlib.Core.Bool.{true, false}
+use mathlib.Core.Bool.{true}
 use mathlib.Core.List.{List, [], _∷_, _++_, append-nil, append-assoc}
 use Prim.Native.Nat.{ℕ, zero, suc, _+_, _*_, _≤_, _<_}
 use native.Mathlib.Nat.{add-zero, zero-add}
 use native.Mathlib.Decide.{decLe, ℕ-discrete}
 use native.Mathlib.Omega.{arith}
-use lib.Dec.{eqb, lit<}
 use lib.ListN.{length, getD, take, drop, length-append, length-drop, List·getD-append}
 use lib.Seq.{getD-take, getD-drop, drop-append-le, drop-length, take-add, length-take-le}
 use borrow.Author.Tests.{eq-eqb, ne-eqb, lt-ltb, le-ltb}
-use Rattle.scheme.specs.Service.{Record, refused}
+use Rattle.scheme.specs.Service.{refused}
 use Rattle.scheme.proofs.Tests.{holds}
 use Rattle.service.specs.declared.Service.{Service}
 use Rattle.lines.specs.Text.{line}
@@ -24,33 +23,6 @@ use Rattle.stream.specs.Stream.{record-length, length-at, two-bytes, fou
 use Rattle.stream.specs.Promise.{all-taken, last-state}
 
 -- ---- a record by its bytes
--- a byte that is the kind of a record
-data Kind : ℕ → Type 0 where
-  plan : Kind 1
-  opening : Kind 2
-  first : Kind 3
-  close : Kind 4
-  reply : Kind 5
-  finish : Kind 6
-
-past : (k : ℕ) → 6 < k → record-length k ≡ 0
-unfolding record-length
-past k h = rw (other 1 (lit< tt), other 2 (lit< tt), other 3 (lit< tt), other 4 (lit< tt), other 5 (lit< tt), other 6 (lit< tt))
-  where
-    other : (n : ℕ) → n < 7 → eqb k n ≡ false
-    other n l = ne-eqb k n (λ e. omega arith)
-
-kind : (k : ℕ) → record-length k ≢ 0 → Kind k
-unfolding record-length
-kind zero h = absurd (h refl)
-kind (suc zero) h = plan
-kind (suc (suc zero)) h = opening
-kind (suc (suc (suc zero))) h = first
-kind (suc (suc (suc (suc zero)))) h = close
-kind (suc (suc (suc (suc (suc zero))))) h = reply
-kind (suc (suc (suc (suc (suc (suc zero)))))) h = finish
-kind (suc (suc (suc (suc (suc (suc (suc k))))))) h = absurd (h (past (suc (suc (suc (suc (suc (suc (suc k))))))) (omega arith)))
-
 module _ (a b : List ℕ) (i j : ℕ) (same : (k : ℕ) → k < length-at a i → getD a (i + k) 0 ≡ getD b (j + k) 0) where
   byte : (k : ℕ) {p q : ℕ} → i + k ≡ p → j + k ≡ q → k < length-at a i → getD a p 0 ≡ getD b q 0
   byte k e f h = ap (λ (n : ℕ). getD a n 0) (sym e) ∙ same k h ∙ ap (λ (n : ℕ). getD b n 0) f
@@ -63,25 +35,28 @@ module _ (a b : List ℕ) (i j : ℕ) (same : (k : ℕ) → k < length-at a i �
   four k {p} {q} e f h =
       ap₂ (λ (x y : ℕ). x + y * 65536) (two k e f (omega arith)) (two (k + 2) {p = p + 2} {q = q + 2} (omega arith) (omega arith) (omega arith))
 
-  record-kind : (k : ℕ) → getD a i 0 ≡ k → getD b j 0 ≡ k → Kind k → record-at a i ≡ record-at b j
-  unfolding record-at record-length
-  record-kind k d e plan =
-      let n : length-at a i ≡ 5 = ap record-length d in
-      rw (d, e, byte 1 refl refl (omega arith), byte 2 refl refl (omega arith), byte 3 refl refl (omega arith), byte 4 refl refl (omega arith))
-  record-kind k d e opening =
-      let n : length-at a i ≡ 5 = ap record-length d in
-      rw (d, e, four 1 refl refl (omega arith))
-  record-kind k d e first =
-      let n : length-at a i ≡ 6 = ap record-length d in
-      rw (d, e, byte 1 refl refl (omega arith), two 2 refl refl (omega arith), two 4 refl refl (omega arith))
-  record-kind k d e close = rw (d, e)
-  record-kind k d e reply =
-      let n : length-at a i ≡ 5 = ap record-length d in
-      rw (d, e, byte 1 refl refl (omega arith), byte 2 refl refl (omega arith), two 3 refl refl (omega arith))
-  record-kind k d e finish = rw (d, e)
-
   record-same : length-at a i ≢ 0 → record-at a i ≡ record-at b j
-  record-same ne = record-kind (getD a i 0) refl (sym (byte 0 (add-zero i) (add-zero j) (omega arith))) (kind (getD a i 0) ne)
+  unfolding record-at record-length
+  record-same ne =
+      by (sym (byte 0 (add-zero i) (add-zero j) (omega arith)))
+      (ℕ-discrete (getD a i 0) 1) (ℕ-discrete (getD a i 0) 2) (ℕ-discrete (getD a i 0) 3) (ℕ-discrete (getD a i 0) 5)
+    where
+      by : getD b j 0 ≡ getD a i 0 → Dec (getD a i 0 ≡ 1) → Dec (getD a i 0 ≡ 2) → Dec (getD a i 0 ≡ 3) → Dec (getD a i 0 ≡ 5)
+          → record-at a i ≡ record-at b j
+      by e (yes d) p q r =
+          let n : length-at a i ≡ 5 = ap record-length d in
+          rw (e, d, byte 1 refl refl (omega arith), byte 2 refl refl (omega arith), byte 3 refl refl (omega arith), byte 4 refl refl (omega arith))
+      by e (no o) (yes d) q r =
+          let n : length-at a i ≡ 5 = ap record-length d in
+          rw (e, d, four 1 refl refl (omega arith))
+      by e (no o) (no p) (yes d) r =
+          let n : length-at a i ≡ 6 = ap record-length d in
+          rw (e, d, byte 1 refl refl (omega arith), two 2 refl refl (omega arith), two 4 refl refl (omega arith))
+      by e (no o) (no p) (no q) (yes d) =
+          let n : length-at a i ≡ 5 = ap record-length d in
+          rw (e, d, byte 1 refl refl (omega arith), byte 2 refl refl (omega arith), two 3 refl refl (omega arith))
+      by e (no o) (no p) (no q) (no r) =
+          rw (e, ne-eqb (getD a i 0) 1 o, ne-eqb (getD a i 0) 2 p, ne-eqb (getD a i 0) 3 q, ne-eqb (getD a i 0) 5 r)
 
 -- ---- an input cut in two
 -- what follows a record of the kind k
@@ -114,16 +89,11 @@ module _ (c : List ℕ) where
   abbrev Joins : (n m o : ℕ) → (a : List ℕ) → Type 0
   Joins n m o a = all-taken (items-from n o a) ≡ true → items-from m o (a ++ c) ≡ items-from n o a ++ items (o + length a) c
 
-  joins-none : (n m o : ℕ) → length c ≤ m → Joins n m o []
-  unfolding items-from items
-  joins-none zero m o h e = fuel m (length c) o c h (omega arith) ∙ ap (λ (i : ℕ). items-from (length c) i c) (sym (add-zero o))
-  joins-none (suc n) m o h e = fuel m (length c) o c h (omega arith) ∙ ap (λ (i : ℕ). items-from (length c) i c) (sym (add-zero o))
-
   joins : (n m o : ℕ) (a : List ℕ) → length a ≤ n → length (a ++ c) ≤ m → Joins n m o a
-  unfolding items-from all-taken
-  joins zero m o [] h l = joins-none zero m o l
+  unfolding items-from items all-taken
+  joins zero m o [] h l = λ e. rw (add-zero o) (fuel m (length c) o c l (omega arith))
   joins zero m o (k ∷ b) h l = absurd (omega arith)
-  joins (suc n) m o [] h l = joins-none (suc n) m o l
+  joins (suc n) m o [] h l = λ e. rw (add-zero o) (fuel m (length c) o c l (omega arith))
   joins (suc n) zero o (k ∷ b) h l = absurd (omega arith)
   joins (suc n) (suc m) o (k ∷ b) h l =
       one (ℕ-discrete (record-length k) 0) (decLe (record-length k) (length (k ∷ b)))
@@ -138,11 +108,9 @@ module _ (c : List ℕ) where
       one (no ne) (yes h) ih =
           let far : o + record-length k + length (after k b) ≡ o + length (k ∷ b) = omega (arith, length-drop (record-length k) (k ∷ b)) in
           let long : record-length k ≤ length (k ∷ (b ++ c)) = omega (arith, length-append b c) in
+          let same = record-same (k ∷ b) (k ∷ (b ++ c)) 0 0 (λ i l. sym (List·getD-append (k ∷ b) c 0 (0 + i) (omega arith))) ne in
           rw (ne-eqb (record-length k) 0 ne, le-ltb (length (k ∷ b)) (record-length k) h, le-ltb (length (k ∷ (b ++ c))) (record-length k) long)
-          (λ e. ap₂ (λ (r : Record) (l : List Item). taken o r ∷ l)
-          (sym (record-same (k ∷ b) (k ∷ (b ++ c)) 0 0 (λ i l. sym (List·getD-append (k ∷ b) c 0 (0 + i) (omega arith))) ne))
-          (ap (items-from m (o + record-length k)) (drop-append-le (record-length k) (k ∷ b) c h) ∙ ih (omega arith) e
-          ∙ ap (λ (i : ℕ). items-from n (o + record-length k) (after k b) ++ items i c) far))
+          (λ e. rw (← same, drop-append-le (record-length k) (k ∷ b) c h, ih (omega arith) e, far))
 
 pub items-append : (o : ℕ) (a c : List ℕ) → all-taken (items o a) ≡ true → items o (a ++ c) ≡ items o a ++ items (o + length a) c
 unfolding items
@@ -153,10 +121,8 @@ items-one : (o : ℕ) (c : List ℕ) → length-at c 0 ≢ 0 → length-at c 0 �
 unfolding items items-from
 items-one o [] h l = absurd (h l)
 items-one o (k ∷ b) h l =
-    rw (ne-eqb (record-length k) 0 h, le-ltb (length (k ∷ b)) (record-length k) (omega arith))
-    (ap (λ (x : List Item). taken o (record-at (k ∷ b) 0) ∷ x)
-    (ap (λ (x : List ℕ). items-from (length b) (o + record-length k) x) (ap (λ (i : ℕ). drop i (k ∷ b)) l ∙ drop-length (k ∷ b))
-    ∙ fuel (length b) 0 (o + record-length k) [] (omega arith) (omega arith)))
+    rw (ne-eqb (record-length k) 0 h, le-ltb (length (k ∷ b)) (record-length k) (omega arith), l, drop-length)
+    (ap (λ (x : List Item). taken o (record-at (k ∷ b) 0) ∷ x) (fuel (length b) 0 _ [] (omega arith) (omega arith)))
 
 module _ (o : ℕ) (b : List ℕ) (at : ℕ) (ne : length-at b at ≢ 0) (l : at + length-at b at ≤ length b) where
   abbrev bytes : List ℕ
@@ -169,15 +135,11 @@ module _ (o : ℕ) (b : List ℕ) (at : ℕ) (ne : length-at b at ≢ 0) (l : at
   items-here =
       let long : length bytes ≡ length-at b at = length-take-le (length-at b at) (drop at b) (omega (arith, length-drop at b)) in
       let same : length-at b at ≡ length-at bytes 0 = ap record-length (ap (λ (i : ℕ). getD b i 0) (sym (add-zero at)) ∙ here 0 (omega arith)) in
-      items-one (o + at) bytes (λ z. ne (same ∙ z)) (sym same ∙ sym long)
-      ∙ ap (λ (r : Record). taken (o + at) r ∷ []) (sym (record-same b bytes at 0 here ne))
+      rw (record-same b bytes at 0 here ne) (items-one (o + at) bytes (λ z. ne (same ∙ z)) (sym same ∙ sym long))
 
   pub items-next : all-taken (items o (take at b)) ≡ true
       → items o (take (at + length-at b at) b) ≡ items o (take at b) ++ (taken (o + at) (record-at b at) ∷ [])
-  items-next e =
-      ap (items o) (take-add at (length-at b at) b) ∙ items-append o (take at b) bytes e
-      ∙ ap (λ (i : ℕ). items o (take at b) ++ items (o + i) bytes) (length-take-le at b (omega arith))
-      ∙ ap (λ (x : List Item). items o (take at b) ++ x) items-here
+  items-next e = rw (take-add at (length-at b at) b, items-append o (take at b) bytes e, length-take-le at b (omega arith), items-here)
 
 -- ---- two lists of records
 pub taken-append : (l m : List Item) → all-taken l ≡ true → all-taken (l ++ m) ≡ all-taken m
@@ -196,10 +158,7 @@ pub text-append : (s : Service) (l m : List Item) → all-taken l ≡ true
     → text (answers s (l ++ m)) ≡ text (answers s l) ++ text (answers (last-state s l) m)
 unfolding all-taken last-state answers text
 text-append s [] m e = refl
-text-append s (taken o r ∷ l) m e =
-    let t = step s r .service in
-    ap (λ (x : List ℕ). line o (step s r .answer) ++ x) (text-append t l m e)
-    ∙ sym (append-assoc (line o (step s r .answer)) (text (answers t l)) (text (answers (last-state t l) m)))
+text-append s (taken o r ∷ l) m e = rw (text-append (step s r .service) l m e, append-assoc)
 text-append s (broken o ∷ l) m e = absurd (holds e)
 
 -- ---- an unknown kind, or a record that is not whole

@@ -1,12 +1,12 @@
 -- One record: its answer and its line.
 --   told-taken, told-refused                  what a number answers
---   turn-taken, turn-refused, turns-as        the call's answer decides the line
---   record-plan .. record-finish              which record stands at a place
---   turn-first, turn-reply                    an element, held by the service's leaf
+--   turn-told, turn-taken, turn-refused       the call's answer decides the line
+--   plan-says .. finish-says                  what each call says
+--   record-finish                             which record stands at a place
 --   finish-good                               an accepted finish has a good plan
 --   line-short                                every line fits into the room for one
 -- Assumes nothing.
-use mathlib.Core.Path.{_≡_, refl, sym, ap, _∙_, subst}
+use mathlib.Core.Path.{_≡_, refl, sym, ap, subst}
 use mathlib.Core.Logic.{_≢_}
 use mathlib.Core.List.{List, [], _∷_, map}
 use Prim.Native.Nat.{ℕ, zero, suc, _+_, _*_, _^_, _≤_, _<_}
@@ -20,16 +20,19 @@ use Rattle.scheme.specs.Lists.{span, padded}
 use Rattle.scheme.specs.Scheme.{sixteen, Plan, places, after}
 use Rattle.scheme.specs.Good.{Good}
 use Rattle.scheme.specs.Totals.{total-of, totals}
-use Rattle.scheme.specs.Service.{Record, plan-record, open-record, first-record, close-record, reply-record, finish-record, Answer, silent, planned, opened, closed, totalled, refused, totals-by}
+use Rattle.scheme.specs.Service.{Record, plan-record, open-record, first-record, close-record, reply-record, finish-record, Answer, planned, opened, closed, totalled, refused, totals-by}
 use Rattle.scheme.proofs.Good.{good}
 use Rattle.scheme.proofs.Lists.{map-span-length, span-length}
 use Rattle.scheme.proofs.Refusals.{then-zero, unless-zero, after-taken, after-refused}
 use Rattle.solve.specs.Solve.{laws16}
 use Rattle.plan.specs.Plan.{plan-of}
+use Rattle.plan.specs.declared.Plan as declared
 use Rattle.scheme.proofs.PlanBounds.{places-le}
-use Rattle.service.specs.declared.Head.{Head}
 use Rattle.service.specs.declared.Service.{Service}
-use Rattle.service.specs.Calls.{lent, first-refusal, first-left, first-step, reply-refusal, reply-left, reply-step}
+use Rattle.service.specs.declared.Stepped.{Stepped}
+use Rattle.service.specs.declared.Closed.{Closed}
+use Rattle.finish.specs.declared.Finished.{Finished}
+use Rattle.service.specs.Calls.{plan-step, open-step, close-step}
 use Rattle.service.specs.View.{view}
 use Rattle.service.specs.Promise.{told}
 use Rattle.finish.specs.Finish.{choice, finish-refusal, finish-answer, finish-step}
@@ -38,7 +41,7 @@ use Rattle.lines.specs.Text.{decimal, numbers, line}
 use Rattle.lines.specs.Put.{number-room, room, Put}
 use Rattle.lines.proofs.Decimals.{decimal-twenty, decimal-most}
 use Rattle.lines.proofs.Lines.{put-as}
-use Rattle.stream.specs.Stream.{two-bytes, four-bytes, plan-at, record-at, Other, Outcome, outcome, step, Turns}
+use Rattle.stream.specs.Stream.{record-at, Other, Outcome, outcome, step, Turns}
 
 -- ---- what a number answers
 pub told-taken : {n : ℕ} → n ≡ 0 → (a : Answer) → told n a ≡ a
@@ -49,68 +52,43 @@ pub told-refused : {n : ℕ} → (n ≡ 0 → ⊥) → (a : Answer) → told n a
 unfolding told
 told-refused h a = after-refused h a _
 
--- one record that was refused, and one that was taken
-turn-by : {s : Service} {r : Record} {o : ℕ} {out out′ : List ℕ} {wrote next : ℕ} {x : Outcome} → x ≡ step s r
-    → Put out out′ wrote next (line o (x .answer)) → Turns r o s (x .service) out out′ wrote next
-turn-by {o = o} said p =
-    record { state = ap (λ (x : Outcome). x .service) said; put = put-as p (ap (λ (x : Outcome). line o (x .answer)) said) }
+-- one record that the service's call answers
+module _ {s t : Service} {r : Record} {o : ℕ} {out out′ : List ℕ} {wrote next : ℕ} (n : ℕ) (a : Answer) (said : outcome n a t ≡ step s r) where
+  pub turn-told : Put out out′ wrote next (line o (told n a)) → Turns r o s t out out′ wrote next
+  turn-told p = record { state = ap (λ (x : Outcome). x .service) said; put = put-as p (ap (λ (x : Outcome). line o (x .answer)) said) }
 
-module _ {s t : Service} {r : Record} {o : ℕ} {out out′ : List ℕ} {wrote next n : ℕ} (a : Answer) (said : outcome n a t ≡ step s r) where
   pub turn-refused : n ≢ 0 → Put out out′ wrote next (line o (refused n)) → Turns r o s t out out′ wrote next
-  turn-refused h p = turn-by said (put-as p (ap (line o) (sym (told-refused h a))))
+  turn-refused h p = turn-told (put-as p (ap (line o) (sym (told-refused h a))))
 
   pub turn-taken : n ≡ 0 → Put out out′ wrote next (line o a) → Turns r o s t out out′ wrote next
-  turn-taken e p = turn-by said (put-as p (ap (line o) (sym (told-taken e a))))
+  turn-taken e p = turn-told (put-as p (ap (line o) (sym (told-taken e a))))
 
-module _ {s t : Service} {o : ℕ} {out out′ : List ℕ} {wrote next : ℕ} where
-  pub turns-as : {r r′ : Record} → r ≡ r′ → Turns r o s t out out′ wrote next → Turns r′ o s t out out′ wrote next
-  turns-as e h = subst (λ (x : Record). Turns x o s t out out′ wrote next) e h
+-- what each call says
+pub plan-says : (s : Service) (p : declared.Plan) {r : Stepped} → r ≡ plan-step s p
+    → outcome (r .number) (planned (plan-of p)) (r .service) ≡ step s (plan-record (plan-of p))
+unfolding step
+plan-says s p e = rw e
+
+pub open-says : (s : Service) (i : ℕ) {r : Stepped} → r ≡ open-step s i → outcome (r .number) (opened i) (r .service) ≡ step s (open-record i)
+unfolding step
+open-says s i e = rw e
+
+pub close-says : (s : Service) {r : Closed} → r ≡ close-step s
+    → outcome (r .number) (closed (s .head .round) (r .set)) (r .service) ≡ step s close-record
+unfolding step
+close-says s e = rw e
+
+pub finish-says : (s : Service) {n : ℕ} {r : Finished} → n ≡ places (plan-of (s .head .plan)) → r ≡ finish-step sixteen laws16 s
+    → outcome (r .number) (totalled (s .head .round) (take n (r .totals))) (r .service) ≡ step s finish-record
+unfolding step
+finish-says s d e = rw (d, e)
 
 -- ---- which record stands at a place
-module _ (b : List ℕ) (at : ℕ) where
-  pub record-plan : getD b at 0 ≡ 1 → record-at b at ≡ plan-record (plan-at b at)
-  unfolding record-at
-  record-plan e = rw e
-
-  pub record-open : getD b at 0 ≡ 2 → record-at b at ≡ open-record (four-bytes b (at + 1))
-  unfolding record-at
-  record-open e = rw e
-
-  record-first : getD b at 0 ≡ 3 → record-at b at ≡ first-record (getD b (at + 1) 0) (two-bytes b (at + 2)) (two-bytes b (at + 4))
-  unfolding record-at
-  record-first e = rw e
-
-  pub record-close : getD b at 0 ≡ 4 → record-at b at ≡ close-record
-  unfolding record-at
-  record-close e = rw e
-
-  record-reply : getD b at 0 ≡ 5 → record-at b at ≡ reply-record (getD b (at + 1) 0) (getD b (at + 2) 0) (two-bytes b (at + 3))
-  unfolding record-at
-  record-reply e = rw e
-
-  pub record-finish : Other b at → getD b at 0 ≢ 1 → getD b at 0 ≢ 2 → getD b at 0 ≢ 4 → record-at b at ≡ finish-record
-  unfolding record-at
-  record-finish h p q s =
-      let k = getD b at 0 in
-      rw (ne-eqb k 1 p, ne-eqb k 2 q, ne-eqb k 3 (h .not-first), ne-eqb k 4 s, ne-eqb k 5 (h .not-reply))
-
--- ---- an element, held by the service's leaf
-module _ (b : List ℕ) (at : ℕ) {h : Head} {held held′ : List ℕ} {o k i x n : ℕ} {out out′ : List ℕ} {wrote next : ℕ} where
-  pub turn-first : getD b at 0 ≡ 3 → k ≡ getD b (at + 1) 0 → i ≡ two-bytes b (at + 2) → x ≡ two-bytes b (at + 4)
-      → n ≡ first-refusal sixteen h held k i x → held′ ≡ first-left sixteen h held k i x → Put out out′ wrote next (line o (told n silent))
-      → (reply : List ℕ) → Turns (record-at b at) o (lent h held reply) (lent h held′ reply) out out′ wrote next
-  unfolding step first-step
-  turn-first kind ek ei ex en el p reply =
-      let e : first-record k i x ≡ record-at b at = sym (record-first b at kind ∙ (cc)) in
-      turns-as e (record { state = ap (λ (l : List ℕ). lent h l reply) el; put = put-as p (ap (λ (m : ℕ). line o (told m silent)) en) })
-
-  pub turn-reply : getD b at 0 ≡ 5 → k ≡ getD b (at + 1) 0 → i ≡ getD b (at + 2) 0 → x ≡ two-bytes b (at + 3)
-      → n ≡ reply-refusal sixteen h held k i x → held′ ≡ reply-left sixteen h held k i x → Put out out′ wrote next (line o (told n silent))
-      → (first : List ℕ) → Turns (record-at b at) o (lent h first held) (lent h first held′) out out′ wrote next
-  unfolding step reply-step
-  turn-reply kind ek ei ex en el p first =
-      let e : reply-record k i x ≡ record-at b at = sym (record-reply b at kind ∙ (cc)) in
-      turns-as e (record { state = ap (lent h first) el; put = put-as p (ap (λ (m : ℕ). line o (told m silent)) en) })
+pub record-finish : (b : List ℕ) (at : ℕ) → Other b at → getD b at 0 ≢ 1 → getD b at 0 ≢ 2 → getD b at 0 ≢ 4 → record-at b at ≡ finish-record
+unfolding record-at
+record-finish b at h p q s =
+    let k = getD b at 0 in
+    rw (ne-eqb k 1 p, ne-eqb k 2 q, ne-eqb k 3 (h .not-first), ne-eqb k 4 s, ne-eqb k 5 (h .not-reply))
 
 -- ---- a finish
 pub finish-good : (s : Service) → finish-step sixteen laws16 s .number ≡ 0 → Good (plan-of (s .head .plan))
@@ -141,26 +119,10 @@ given s zero e =
 given s (suc n) e = absurd (omega arith)
 
 module _ (o : ℕ) where
-  refused-short : (n : ℕ) → length (line o (refused n)) ≤ room
-  unfolding line
-  refused-short n = simp length-append (omega (arith, numbers-short (n ∷ []), numbers-short (o ∷ [])))
-
   told-short : (n : ℕ) (a : Answer) → (n ≡ 0 → length (line o a) ≤ room) → length (line o (told n a)) ≤ room
-  unfolding told after
+  unfolding told after line
   told-short zero a h = h refl
-  told-short (suc n) a h = refused-short (suc n)
-
-  plan-short : (p : Plan) → length (line o (planned p)) ≤ room
-  unfolding line
-  plan-short p = simp length-append (omega (arith, numbers-short (p .users ∷ p .threshold ∷ p .collusion ∷ p .blocks ∷ [])))
-
-  open-short : (r : ℕ) → length (line o (opened r)) ≤ room
-  unfolding line
-  open-short r = simp length-append (omega (arith, numbers-short (r ∷ [])))
-
-  close-short : (r v : ℕ) → length (line o (closed r v)) ≤ room
-  unfolding line
-  close-short r v = simp length-append (omega (arith, numbers-short (r ∷ v ∷ [])))
+  told-short (suc n) a h = simp length-append (omega (arith, numbers-short (suc n ∷ []), numbers-short (o ∷ [])))
 
   -- an element of 16 bits has 5 digits at most
   total-short : (r : ℕ) (f : ℕ → ℕ) (n : ℕ) → ((i : ℕ) → f i < 10 ^ 5) → n ≤ most-places → length (line o (totalled r (map f (span n 0)))) ≤ room
@@ -177,9 +139,10 @@ module _ (o : ℕ) where
 
   pub line-short : (s : Service) (r : Record) → length (line o (step s r .answer)) ≤ room
   unfolding step line
-  line-short s (plan-record p) = told-short _ _ (λ e. plan-short p)
-  line-short s (open-record r) = told-short _ _ (λ e. open-short r)
+  line-short s (plan-record p) =
+      told-short _ _ (λ e. simp length-append (omega (arith, numbers-short (p .users ∷ p .threshold ∷ p .collusion ∷ p .blocks ∷ []))))
+  line-short s (open-record r) = told-short _ _ (λ e. simp length-append (omega (arith, numbers-short (r ∷ []))))
   line-short s (first-record k i x) = told-short _ _ (λ e. omega arith)
-  line-short s close-record = told-short _ _ (λ e. close-short _ _)
+  line-short s close-record = told-short _ _ (λ e. simp length-append (omega (arith, numbers-short (s .head .round ∷ close-step s .set ∷ []))))
   line-short s (reply-record k b x) = told-short _ _ (λ e. omega arith)
   line-short s finish-record = told-short _ _ (finish-short s)

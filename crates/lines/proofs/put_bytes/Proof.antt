@@ -45,9 +45,7 @@ same-length : tie.Need-same-length Inv-loop μ-loop
 same-length c = put-length (c .before .loop .inv .1)
 
 returns : tie.Need-returns Inv-loop μ-loop
-returns c =
-    let l = c .before .loop in
-    put-all (c .before .before .args .text .now) (l .done) (omega arith) (l .inv .1)
+returns c = put-all (c .before .before .args .text .now) (c .before .loop .done) (omega arith) (c .before .loop .inv .1)
 
 pub put-bytes-spec : {M : Type 1} → statement M
 put-bytes-spec =

@@ -17,10 +17,7 @@ same-length c = search needs
 returns : tie.Need-returns
 returns c =
     let low = c .before .before in
-    let high = low .before .before .before .before in
-    let a = high .put-four .ensures in
-    let b = low .put-four2 .ensures in
-    (omega (arith, a .0, b .0), put-spell 4 4 _ (a .1) (b .1))
+    (omega arith, put-spell 4 4 _ (low .before .before .before .before .put-four .ensures .1) (low .put-four2 .ensures .1))
 
 pub put-eight-spec : {M : Type 1} → statement M
 put-eight-spec = tie.close (tie.spec put-four-requires put-four-requires-2 same-length returns)

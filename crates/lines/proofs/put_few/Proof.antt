@@ -15,9 +15,7 @@ same-length c = search needs
 returns : tie.Need-returns
 returns c =
     let put = c .before .before in
-    let n = put .before .before .before .before .args .n in
-    let p = put .put-one .ensures in
-    (omega (arith, p .0), put-as (p .1) (decimal-one n (omega arith)))
+    (omega arith, put-as (put .put-one .ensures .1) (decimal-one (put .before .before .before .before .args .n) (omega arith)))
 
 put-two-requires : tie.Need-put-two-requires
 put-two-requires c κs = search needs
@@ -27,11 +25,9 @@ same-length-2 c = search needs
 
 returns-2 : tie.Need-returns-2
 returns-2 c =
-    let put = c .before .before in
-    let hundred = put .before .before in
+    let hundred = c .before .before .before .before in
     let n = hundred .before .before .before .args .n in
-    let p = put .put-two .ensures in
-    (omega (arith, p .0), put-as (p .1) (decimal-whole 1 n (omega arith) (omega arith) (omega arith)))
+    (omega arith, put-as (c .before .before .put-two .ensures .1) (decimal-whole 1 n (omega arith) (omega arith) (omega arith)))
 
 put-one-requires-2 : tie.Need-put-one-requires-2
 put-one-requires-2 c κs = search needs
@@ -48,9 +44,8 @@ returns-3 c =
     let high = low .before .before .before .before in
     let hundred = high .before .before .before in
     let n = hundred .before .before .before .args .n in
-    let p = low .put-two2 .ensures in
-    let q = high .put-one2 .ensures in
-    (omega (arith, p .0, q .0), put-as (put-spell 1 2 n (q .1) (p .1)) (decimal-whole 2 n (omega arith) (omega arith) (omega arith)))
+    let p = put-spell 1 2 n (high .put-one2 .ensures .1) (low .put-two2 .ensures .1) in
+    (omega arith, put-as p (decimal-whole 2 n (omega arith) (omega arith) (omega arith)))
 
 put-four-requires : tie.Need-put-four-requires
 put-four-requires c κs = search needs
@@ -63,8 +58,7 @@ returns-4 c =
     let put = c .before .before in
     let hundred = put .before .before .before in
     let n = hundred .before .before .before .args .n in
-    let p = put .put-four .ensures in
-    (omega (arith, p .0), put-as (p .1) (decimal-whole 3 n (omega arith) (omega arith) (omega arith)))
+    (omega arith, put-as (put .put-four .ensures .1) (decimal-whole 3 n (omega arith) (omega arith) (omega arith)))
 
 pub put-few-spec : {M : Type 1} → statement M
 put-few-spec =

@@ -17,10 +17,7 @@ same-length c = search needs
 returns : tie.Need-returns
 returns c =
     let low = c .before .before in
-    let high = low .before .before .before .before in
-    let a = high .put-two .ensures in
-    let b = low .put-two2 .ensures in
-    (omega (arith, a .0, b .0), put-spell 2 2 _ (a .1) (b .1))
+    (omega arith, put-spell 2 2 _ (low .before .before .before .before .put-two .ensures .1) (low .put-two2 .ensures .1))
 
 pub put-four-spec : {M : Type 1} → statement M
 put-four-spec = tie.close (tie.spec put-two-requires put-two-requires-2 same-length returns)

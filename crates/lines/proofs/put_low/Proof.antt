@@ -28,9 +28,7 @@ returns-2 c =
     let low = c .before .before in
     let high = low .before .before .before .before in
     let n = high .before .before .before .before .args .n in
-    let a = high .put-few2 .ensures in
-    let b = low .put-four .ensures in
-    (omega (arith, a .0, b .0), put-decimal 4 n (omega arith) (omega arith) (a .1) (b .1))
+    (omega arith, put-decimal 4 n (omega arith) (omega arith) (high .put-few2 .ensures .1) (low .put-four .ensures .1))
 
 pub put-low-spec : {M : Type 1} → statement M
 put-low-spec =

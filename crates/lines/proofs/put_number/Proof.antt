@@ -25,8 +25,7 @@ returns : tie.Need-returns
 returns c =
     let digits = c .before .before in
     let n = digits .before .before .before .args .n in
-    let p = digits .put-digits .ensures in
-    (omega (arith, p .place, decimal-twenty n), put-append {xs = 32 ∷ []} (record { place = refl; bytes = refl }) p)
+    (omega (arith, decimal-twenty n), put-append {xs = 32 ∷ []} (record { place = refl; bytes = refl }) (digits .put-digits .ensures))
 
 pub put-number-spec : {M : Type 1} → statement M
 put-number-spec =

@@ -1,7 +1,9 @@
 -- `lines::put_open` meets its contract: the pieces behind one another are the line.
+use mathlib.Core.List.{append-assoc, append-nil}
 use native.Mathlib.Omega.{arith}
 use borrow.Author.Needs.{needs}
-use Rattle.lines.proofs.Lines.{put-append, put-as, opened-text}
+use Rattle.lines.specs.Text.{numbers, line}
+use Rattle.lines.proofs.Lines.{put-append, put-as}
 use Rattle.lines.proofs.put_open.Statement.{statement}
 use Rattle.lines.proofs.put_open.Tie as tie
 
@@ -24,13 +26,13 @@ same-length : tie.Need-same-length
 same-length c = search needs
 
 returns : tie.Need-returns
+unfolding numbers line
 returns c =
-    let end = c .before .before in
-    let text = end .before in
+    let text = c .before .before .before in
     let round = text .before .before .before .before in
     let word = round .before .before .before .before in
     let x = put-append (word .put-bytes .ensures) (round .put-number .ensures .1) in
-    (omega arith, λ o. put-as (put-append x (end .put-bytes2 .ensures)) (opened-text o (word .before .before .before .before .args .round)))
+    (omega arith, λ o. put-as (put-append x (c .before .before .put-bytes2 .ensures)) (simp (append-assoc, append-nil)))
 
 pub put-open-spec : {M : Type 1} → statement M
 put-open-spec =

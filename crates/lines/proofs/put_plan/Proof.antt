@@ -1,7 +1,9 @@
 -- `lines::put_plan` meets its contract: the pieces behind one another are the line.
+use mathlib.Core.List.{append-assoc, append-nil}
 use native.Mathlib.Omega.{arith}
 use borrow.Author.Needs.{needs}
-use Rattle.lines.proofs.Lines.{put-append, put-as, planned-text}
+use Rattle.lines.specs.Text.{numbers, line}
+use Rattle.lines.proofs.Lines.{put-append, put-as}
 use Rattle.lines.proofs.put_plan.Statement.{statement}
 use Rattle.lines.proofs.put_plan.Tie as tie
 
@@ -33,19 +35,17 @@ same-length : tie.Need-same-length
 same-length c = search needs
 
 returns : tie.Need-returns
+unfolding numbers line
 returns c =
-    let end = c .before .before in
-    let text = end .before in
+    let text = c .before .before .before in
     let blocks = text .before .before .before .before in
     let collusion = blocks .before .before .before .before in
     let threshold = collusion .before .before .before .before in
     let users = threshold .before .before .before .before in
     let word = users .before .before .before .before in
-    let x = put-append (word .put-bytes .ensures) (users .put-number .ensures .1) in
-    let y = put-append x (threshold .put-number2 .ensures .1) in
-    let z = put-append y (collusion .put-number3 .ensures .1) in
-    let w = put-append z (blocks .put-number4 .ensures .1) in
-    (omega arith, λ o. put-as (put-append w (end .put-bytes2 .ensures)) (planned-text o _))
+    let x = put-append (put-append (word .put-bytes .ensures) (users .put-number .ensures .1)) (threshold .put-number2 .ensures .1) in
+    let y = put-append (put-append x (collusion .put-number3 .ensures .1)) (blocks .put-number4 .ensures .1) in
+    (omega arith, λ o. put-as (put-append y (c .before .before .put-bytes2 .ensures)) (simp (append-assoc, append-nil)))
 
 pub put-plan-spec : {M : Type 1} → statement M
 put-plan-spec =

@@ -1,7 +1,9 @@
 -- `lines::put_refusal` meets its contract: the pieces behind one another are the line.
+use mathlib.Core.List.{append-nil}
 use native.Mathlib.Omega.{arith}
 use borrow.Author.Needs.{needs}
-use Rattle.lines.proofs.Lines.{put-append, put-as, refused-text}
+use Rattle.lines.specs.Text.{numbers, line}
+use Rattle.lines.proofs.Lines.{put-append, put-as}
 use Rattle.lines.proofs.put_refusal.Statement.{statement}
 use Rattle.lines.proofs.put_refusal.Tie as tie
 
@@ -33,19 +35,17 @@ same-length : tie.Need-same-length
 same-length c = search needs
 
 returns : tie.Need-returns
+unfolding numbers line
 returns c =
-    let end = c .before .before in
-    let text = end .before in
+    let text = c .before .before .before in
     let offset = text .before .before .before .before in
     let mark = offset .before .before .before .before in
     let at = mark .before in
     let number = at .before .before .before .before in
     let word = number .before .before .before .before in
-    let a = word .before .before .before .before .args in
-    let x = put-append (word .put-bytes .ensures) (number .put-number .ensures .1) in
-    let y = put-append x (mark .put-bytes2 .ensures) in
-    let z = put-append y (offset .put-number2 .ensures .1) in
-    (omega arith, put-as (put-append z (end .put-bytes3 .ensures)) (refused-text (a .offset) (a .number)))
+    let x = put-append (put-append (word .put-bytes .ensures) (number .put-number .ensures .1)) (mark .put-bytes2 .ensures) in
+    let y = put-append (put-append x (offset .put-number2 .ensures .1)) (c .before .before .put-bytes3 .ensures) in
+    (omega arith, put-as y (simp append-nil))
 
 pub put-refusal-spec : {M : Type 1} → statement M
 put-refusal-spec =

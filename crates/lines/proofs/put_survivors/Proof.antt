@@ -1,7 +1,9 @@
 -- `lines::put_survivors` meets its contract: the pieces behind one another are the line.
+use mathlib.Core.List.{append-assoc, append-nil}
 use native.Mathlib.Omega.{arith}
 use borrow.Author.Needs.{needs}
-use Rattle.lines.proofs.Lines.{put-append, put-as, closed-text}
+use Rattle.lines.specs.Text.{numbers, line}
+use Rattle.lines.proofs.Lines.{put-append, put-as}
 use Rattle.lines.proofs.put_survivors.Statement.{statement}
 use Rattle.lines.proofs.put_survivors.Tie as tie
 
@@ -27,16 +29,14 @@ same-length : tie.Need-same-length
 same-length c = search needs
 
 returns : tie.Need-returns
+unfolding numbers line
 returns c =
-    let end = c .before .before in
-    let text = end .before in
+    let text = c .before .before .before in
     let set = text .before .before .before .before in
     let round = set .before .before .before .before in
     let word = round .before .before .before .before in
-    let a = word .before .before .before .before .args in
-    let x = put-append (word .put-bytes .ensures) (round .put-number .ensures .1) in
-    let y = put-append x (set .put-number2 .ensures .1) in
-    (omega arith, λ o. put-as (put-append y (end .put-bytes2 .ensures)) (closed-text o (a .round) (a .set)))
+    let x = put-append (put-append (word .put-bytes .ensures) (round .put-number .ensures .1)) (set .put-number2 .ensures .1) in
+    (omega arith, λ o. put-as (put-append x (c .before .before .put-bytes2 .ensures)) (simp (append-assoc, append-nil)))
 
 pub put-survivors-spec : {M : Type 1} → statement M
 put-survivors-spec =

@@ -1,8 +1,9 @@
 -- `lines::put_total` meets its contract: the pieces behind one another are the line.
+use mathlib.Core.List.{append-assoc}
 use native.Mathlib.Omega.{arith}
-use lib.ListN.{take}
 use borrow.Author.Needs.{needs}
-use Rattle.lines.proofs.Lines.{put-append, put-as, totalled-text}
+use Rattle.lines.specs.Text.{numbers, line}
+use Rattle.lines.proofs.Lines.{put-append, put-as}
 use Rattle.lines.proofs.put_total.Statement.{statement}
 use Rattle.lines.proofs.put_total.Tie as tie
 
@@ -28,17 +29,15 @@ same-length : tie.Need-same-length
 same-length c = search needs
 
 returns : tie.Need-returns
+unfolding numbers line
 returns c =
-    let end = c .before .before in
-    let text = end .before in
+    let text = c .before .before .before in
     let totals = text .before .before .before .before in
     let row = totals .before in
     let round = row .before .before .before .before in
     let word = round .before .before .before .before in
-    let a = word .before .before .before .before .args in
-    let x = put-append (word .put-bytes .ensures) (round .put-number .ensures .1) in
-    let y = put-append x (totals .put-totals .ensures .1) in
-    (omega arith, λ o. put-as (put-append y (end .put-bytes2 .ensures)) (totalled-text o (a .round) (take (a .n) (a .totals .now))))
+    let x = put-append (put-append (word .put-bytes .ensures) (round .put-number .ensures .1)) (totals .put-totals .ensures .1) in
+    (omega arith, λ o. put-as (put-append x (c .before .before .put-bytes2 .ensures)) (simp append-assoc))
 
 pub put-total-spec : {M : Type 1} → statement M
 put-total-spec =

@@ -17,10 +17,7 @@ same-length c = search needs
 returns : tie.Need-returns
 returns c =
     let low = c .before .before in
-    let high = low .before .before .before .before in
-    let a = high .put-one .ensures in
-    let b = low .put-one2 .ensures in
-    (omega (arith, a .0, b .0), put-spell 1 1 _ (a .1) (b .1))
+    (omega arith, put-spell 1 1 _ (low .before .before .before .before .put-one .ensures .1) (low .put-one2 .ensures .1))
 
 pub put-two-spec : {M : Type 1} → statement M
 put-two-spec = tie.close (tie.spec put-one-requires put-one-requires-2 same-length returns)

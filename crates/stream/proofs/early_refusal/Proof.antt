@@ -3,8 +3,8 @@
 use mathlib.Core.Path.{ap}
 use native.Mathlib.Omega.{arith}
 use borrow.Author.Needs.{needs}
-use Rattle.stream.specs.Stream.{record-length, early-refusal}
-use Rattle.stream.proofs.Turns.{record-plan, record-open, record-close, record-finish}
+use Rattle.stream.specs.Stream.{record-length, record-at, early-refusal}
+use Rattle.stream.proofs.Turns.{record-finish}
 use Rattle.stream.proofs.early_refusal.Statement.{statement}
 use Rattle.stream.proofs.early_refusal.Tie as tie
 
@@ -19,7 +19,7 @@ add-four-at c = search needs
 
 four-at-requires : tie.Need-four-at-requires
 unfolding record-length
-four-at-requires c κs = omega (arith, c .before .before .before .pre .whole .whole, ap record-length (c .match .keys2))
+four-at-requires c κs = omega (arith, ap record-length (c .match .keys2))
 
 open-refusal-requires : tie.Need-open-refusal-requires
 open-refusal-requires c κs = search needs
@@ -31,16 +31,16 @@ not-replying-requires : tie.Need-not-replying-requires
 not-replying-requires c κs = search needs
 
 returns : tie.Need-returns
-unfolding early-refusal
-returns c = rw (record-plan _ _ (c .before .match .keys1)) (c .second-plan .ensures)
+unfolding early-refusal record-at
+returns c = rw (c .before .match .keys1) (c .second-plan .ensures)
 
 returns-2 : tie.Need-returns-2
-unfolding early-refusal
-returns-2 c = rw (record-open _ _ (c .before .before .match .keys2), ← c .before .four-at .ensures) (c .open-refusal .ensures)
+unfolding early-refusal record-at
+returns-2 c = rw (c .before .before .match .keys2, ← c .before .four-at .ensures) (c .open-refusal .ensures)
 
 returns-3 : tie.Need-returns-3
-unfolding early-refusal
-returns-3 c = rw (record-close _ _ (c .before .match .keys3)) (c .not-gathering .ensures)
+unfolding early-refusal record-at
+returns-3 c = rw (c .before .match .keys3) (c .not-gathering .ensures)
 
 returns-4 : tie.Need-returns-4
 unfolding early-refusal

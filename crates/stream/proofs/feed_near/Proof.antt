@@ -22,39 +22,18 @@ abbrev μ-loop : tie.MeasureT-loop
 μ-loop b offset out₀ state₀ reply₀ at₀ wrote₀ out state reply at wrote = length b - at
 
 -- ---- places
-abbrev Turn : Type 0
-Turn = tie.Then1 Inv-loop μ-loop
-
 -- behind the tests for an element
-abbrev no-first : tie.Else2 Inv-loop μ-loop → Turn
-no-first c = c .before .before
+abbrev no-element : tie.After-early-refusal Inv-loop μ-loop → tie.Then1 Inv-loop μ-loop
+no-element c = let test = c .before .before .before in test .before .before
 
-abbrev no-element : tie.After-early-refusal Inv-loop μ-loop → Turn
-no-element c = no-first (c .before .before .before)
+abbrev from-early : tie.After-record-length Inv-loop μ-loop → tie.Then1 Inv-loop μ-loop
+from-early c = let put = c .before .before .before in no-element (put .before .before .before)
 
-abbrev from-first : tie.After-slice-known2 Inv-loop μ-loop → Turn
-from-first c = let test = c .before .before .before .before in test .before .before .before .before
-
-abbrev from-reply : tie.After-slice-known3 Inv-loop μ-loop → Turn
-from-reply c = let test = c .before .before .before .before in no-first (test .before .before .before)
-
-abbrev early-put : tie.After-record-length Inv-loop μ-loop → tie.After-put-refusal Inv-loop μ-loop
-early-put c = c .before .before .before
-
-abbrev early-test : tie.After-record-length Inv-loop μ-loop → tie.Then4 Inv-loop μ-loop
-early-test c = early-put c .before .before
-
-abbrev from-early : tie.After-record-length Inv-loop μ-loop → Turn
-from-early c = no-element (early-test c .before)
-
-abbrev other-taken : tie.After-record-length2 Inv-loop μ-loop → tie.After-take-other Inv-loop μ-loop
-other-taken c = c .before .before .before .before
-
-abbrev from-other : tie.After-record-length2 Inv-loop μ-loop → Turn
-from-other c = let test = other-taken c .before .before .before .before in no-element (test .before)
+abbrev from-other : tie.After-record-length2 Inv-loop μ-loop → tie.Then1 Inv-loop μ-loop
+from-other c = let turn = c .before .before .before .before in let test = turn .before .before .before .before in no-element (test .before)
 
 -- ---- a turn takes a record
-module _ (c : Turn) where
+module _ (c : tie.Then1 Inv-loop μ-loop) where
   abbrev at-loop : tie.At-loop Inv-loop μ-loop
   at-loop = c .before .before
 
@@ -95,37 +74,42 @@ add-at : tie.Need-add-at Inv-loop μ-loop
 add-at c = search needs
 
 loop-less : tie.Need-loop-less Inv-loop μ-loop
-loop-less c = omega (arith, here (from-first c) .whole .inside)
+loop-less c = let turn = c .before .before .before .before in omega (arith, here (turn .before .before .before .before) .whole .inside)
 
 loop-again : tie.Need-loop-again Inv-loop μ-loop
 unfolding record-length
 loop-again c =
     let turn = c .before .before in
     let test = turn .before .before .before .before in
-    going-more (from-first c .before .before .loop .inv) (taken (from-first c)) (sym (ap record-length (test .if2 .taken))) (turn .take-first .ensures _)
+    let top = test .before .before in
+    going-more (top .before .before .loop .inv) (taken top) (sym (ap record-length (test .if2 .taken))) (turn .take-first .ensures _)
 
 take-reply-requires : tie.Need-take-reply-requires Inv-loop μ-loop
 take-reply-requires c κs =
     let test = c .before .before .before in
-    let r = here (no-first (test .before)) in
+    let r = here (test .before .before .before) in
     (omega (arith, r .fits), r .whole, test .if3 .taken)
 
 add-at-2 : tie.Need-add-at-2 Inv-loop μ-loop
 add-at-2 c = search needs
 
 loop-less-2 : tie.Need-loop-less-2 Inv-loop μ-loop
-loop-less-2 c = omega (arith, here (from-reply c) .whole .inside)
+loop-less-2 c =
+    let test = c .before .before .before .before in
+    let first = test .before .before .before in
+    omega (arith, here (first .before .before) .whole .inside)
 
 loop-again-2 : tie.Need-loop-again-2 Inv-loop μ-loop
 unfolding record-length
 loop-again-2 c =
     let turn = c .before .before in
     let test = turn .before .before .before .before in
-    going-more (from-reply c .before .before .loop .inv) (taken (from-reply c)) (sym (ap record-length (test .if3 .taken))) (turn .take-reply .ensures _)
+    let top = test .before .before .before in
+    going-more (top .before .before .loop .inv) (taken top) (sym (ap record-length (test .if3 .taken))) (turn .take-reply .ensures _)
 
 -- plan, open, close or finish
-other : (c : tie.Else3 Inv-loop μ-loop) → let turn = no-first (c .before) in Other (bytes turn) (at-loop turn .loop .at)
-other c = record { whole = here (no-first (c .before)) .whole; not-first = c .before .if2 .left; not-reply = c .if3 .left }
+other : (c : tie.Else3 Inv-loop μ-loop) → let turn = c .before .before .before in Other (bytes turn) (at-loop turn .loop .at)
+other c = record { whole = here (c .before .before .before) .whole; not-first = c .before .if2 .left; not-reply = c .if3 .left }
 
 early-refusal-requires : tie.Need-early-refusal-requires Inv-loop μ-loop
 early-refusal-requires c κs = other (c .before)
@@ -144,9 +128,10 @@ loop-less-3 c = omega (arith, here (from-early c) .known, here (from-early c) .w
 
 loop-again-3 : tie.Need-loop-again-3 Inv-loop μ-loop
 loop-again-3 c =
-    let test = early-test c in
+    let put = c .before .before .before in
+    let test = put .before .before in
     going-more (from-early c .before .before .loop .inv) (taken (from-early c)) (c .record-length .ensures)
-    (turn-early (test .before .early-refusal .ensures) (test .if4 .taken) (early-put c .put-refusal .ensures .1))
+    (turn-early (test .before .early-refusal .ensures) (test .if4 .taken) (put .put-refusal .ensures .1))
 
 take-other-requires : tie.Need-take-other-requires Inv-loop μ-loop
 take-other-requires c κs =
@@ -164,7 +149,8 @@ loop-less-4 c = omega (arith, here (from-other c) .known, here (from-other c) .w
 
 loop-again-4 : tie.Need-loop-again-4 Inv-loop μ-loop
 loop-again-4 c =
-    going-more (from-other c .before .before .loop .inv) (taken (from-other c)) (c .record-length2 .ensures) (other-taken c .take-other .ensures)
+    let top = from-other c in
+    going-more (top .before .before .loop .inv) (taken top) (c .record-length2 .ensures) (c .before .before .before .before .take-other .ensures)
 
 stop-at-requires : tie.Need-stop-at-requires Inv-loop μ-loop
 stop-at-requires c κs = search needs

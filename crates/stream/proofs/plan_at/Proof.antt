@@ -29,8 +29,7 @@ byte-at-requires-4 : tie.Need-byte-at-requires-4
 byte-at-requires-4 c κs = search needs
 
 returns : tie.Need-returns
-returns c =
-    cc (c .before .before .before .byte-at .ensures, c .before .before .byte-at2 .ensures, c .before .byte-at3 .ensures, c .byte-at4 .ensures)
+returns c = cc
 
 pub plan-at-spec : {M : Type 1} → statement M
 plan-at-spec =

@@ -1,6 +1,5 @@
 -- `stream::stop_at` meets its contract: the tests that led to each return decide the definition's.
 -- Assumes nothing.
-use mathlib.Core.Path.{sym, _∙_}
 use borrow.Author.Needs.{needs}
 use borrow.Author.Tests.{eq-eqb, ne-eqb, le-leb, lt-leb}
 use Rattle.stream.specs.Stream.{stop-at}
@@ -19,9 +18,7 @@ record-length-requires c κs = search needs
 
 returns-2 : tie.Need-returns-2
 unfolding stop-at
-returns-2 c =
-    let n = c .before .record-length .ensures in
-    simp (lt-leb _ _ (c .before .before .before .if1 .left), eq-eqb _ _ (sym n ∙ c .if2 .taken))
+returns-2 c = simp (← c .before .record-length .ensures, lt-leb _ _ (c .before .before .before .if1 .left), eq-eqb _ _ (c .if2 .taken))
 
 sub-if3 : tie.Need-sub-if3
 sub-if3 c = search needs
@@ -29,16 +26,14 @@ sub-if3 c = search needs
 returns-3 : tie.Need-returns-3
 unfolding stop-at
 returns-3 c =
-    let known = c .before in
-    let n = known .before .record-length .ensures in
-    simp (lt-leb _ _ (known .before .before .before .if1 .left), ne-eqb _ _ (λ z. known .if2 .left (n ∙ z)), ← n, le-leb _ _ (c .if3 .taken))
+    let n = c .before .before in
+    simp (← n .record-length .ensures, lt-leb _ _ (n .before .before .if1 .left), ne-eqb _ _ (c .before .if2 .left), le-leb _ _ (c .if3 .taken))
 
 returns-4 : tie.Need-returns-4
 unfolding stop-at
 returns-4 c =
-    let known = c .before in
-    let n = known .before .record-length .ensures in
-    simp (lt-leb _ _ (known .before .before .before .if1 .left), ne-eqb _ _ (λ z. known .if2 .left (n ∙ z)), ← n, lt-leb _ _ (c .if3 .left))
+    let n = c .before .before in
+    simp (← n .record-length .ensures, lt-leb _ _ (n .before .before .if1 .left), ne-eqb _ _ (c .before .if2 .left), lt-leb _ _ (c .if3 .left))
 
 pub stop-at-spec : {M : Type 1} → statement M
 stop-at-spec =

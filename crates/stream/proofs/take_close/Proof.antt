@@ -1,11 +1,7 @@
 -- `stream::take_close` meets its contract: the call's answer decides the line.
 -- Assumes nothing.
-use mathlib.Core.Path.{ap}
 use borrow.Author.Needs.{needs}
-use Rattle.scheme.specs.Service.{closed}
-use Rattle.service.specs.declared.Closed.{Closed}
-use Rattle.stream.specs.Stream.{outcome, step}
-use Rattle.stream.proofs.Turns.{turn-taken, turn-refused}
+use Rattle.stream.proofs.Turns.{turn-taken, turn-refused, close-says}
 use Rattle.stream.proofs.take_close.Statement.{statement}
 use Rattle.stream.proofs.take_close.Tie as tie
 
@@ -19,15 +15,9 @@ same-length : tie.Need-same-length
 same-length c = search needs
 
 returns : tie.Need-returns
-unfolding step
 returns c =
-    let put = c .before .before in
-    let test = put .before .before in
-    let x = test .before .before in
-    let a = x .before .before .before .args in
-    let said = ap (λ (r : Closed). outcome (r .number) (closed (a .head .round) (r .set)) (r .service)) (x .close-lent .ensures) in
-    turn-refused (closed (a .head .round) (x .close-lent .result .set)) said
-    (test .if1 .taken) (put .put-refusal .ensures .1)
+    let test = c .before .before .before .before in
+    turn-refused _ _ (close-says _ (test .before .before .close-lent .ensures)) (test .if1 .taken) (c .before .before .put-refusal .ensures .1)
 
 put-survivors-requires : tie.Need-put-survivors-requires
 put-survivors-requires c κs = search needs
@@ -36,15 +26,9 @@ same-length-2 : tie.Need-same-length-2
 same-length-2 c = search needs
 
 returns-2 : tie.Need-returns-2
-unfolding step
 returns-2 c =
-    let put = c .before .before in
-    let test = put .before .before in
-    let x = test .before .before in
-    let a = x .before .before .before .args in
-    let said = ap (λ (r : Closed). outcome (r .number) (closed (a .head .round) (r .set)) (r .service)) (x .close-lent .ensures) in
-    turn-taken (closed (a .head .round) (x .close-lent .result .set)) said
-    (test .if1 .left) (put .put-survivors .ensures .1 _)
+    let test = c .before .before .before .before in
+    turn-taken _ _ (close-says _ (test .before .before .close-lent .ensures)) (test .if1 .left) (c .before .before .put-survivors .ensures .1 _)
 
 pub take-close-spec : {M : Type 1} → statement M
 take-close-spec =

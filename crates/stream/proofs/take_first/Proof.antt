@@ -3,13 +3,12 @@
 use mathlib.Core.Path.{_≡_, ap}
 use native.Mathlib.Omega.{arith}
 use borrow.Author.Needs.{needs}
-use Rattle.stream.specs.Stream.{record-length, length-at}
-use Rattle.stream.proofs.Turns.{turn-first}
+use Rattle.scheme.specs.Service.{silent}
+use Rattle.service.specs.Calls.{first-step}
+use Rattle.stream.specs.Stream.{record-length, length-at, record-at, step}
+use Rattle.stream.proofs.Turns.{turn-told}
 use Rattle.stream.proofs.take_first.Statement.{statement}
 use Rattle.stream.proofs.take_first.Tie as tie
-
-abbrev from : tie.After-byte-at → tie.Start
-from c = c .before .before .before
 
 long : (c : tie.Start) → length-at (c .args .b .now) (c .args .start) ≡ 6
 unfolding record-length
@@ -25,13 +24,13 @@ add-two-at : tie.Need-add-two-at
 add-two-at c = search needs
 
 two-at-requires : tie.Need-two-at-requires
-two-at-requires c κs = omega (arith, long (from c))
+two-at-requires c κs = omega (arith, long (c .before .before .before))
 
 add-two-at-2 : tie.Need-add-two-at-2
 add-two-at-2 c = search needs
 
 two-at-requires-2 : tie.Need-two-at-requires-2
-two-at-requires-2 c κs = omega (arith, long (from (c .before)))
+two-at-requires-2 c κs = omega (arith, long (c .before .before .before .before))
 
 put-first-requires : tie.Need-put-first-requires
 put-first-requires c κs = search needs
@@ -43,13 +42,11 @@ same-length : tie.Need-same-length
 same-length c = search needs
 
 returns : tie.Need-returns
-returns c =
-    let element = c .before .before in
-    let held = element .before .before in
-    let read = held .before .before in
-    let user = read .before .before in
-    turn-first _ _ (from user .pre .2) (user .byte-at .ensures) (read .before .two-at .ensures .0) (read .two-at2 .ensures .0)
-    (held .put-first .ensures .0) (held .put-first .ensures .1) (element .put-element .ensures)
+unfolding step first-step record-at
+returns c reply =
+    let held = c .before .before .before .before in
+    let user = held .before .before .before .before in
+    rw (user .before .before .before .pre .2) (turn-told _ silent (cc) (c .before .before .put-element .ensures))
 
 pub take-first-spec : {M : Type 1} → statement M
 take-first-spec =

@@ -1,11 +1,7 @@
 -- `stream::take_open` meets its contract: the call's answer decides the line.
 -- Assumes nothing.
-use mathlib.Core.Path.{ap}
 use borrow.Author.Needs.{needs}
-use Rattle.scheme.specs.Service.{opened}
-use Rattle.service.specs.declared.Stepped.{Stepped}
-use Rattle.stream.specs.Stream.{outcome, step}
-use Rattle.stream.proofs.Turns.{turn-taken, turn-refused}
+use Rattle.stream.proofs.Turns.{turn-taken, turn-refused, open-says}
 use Rattle.stream.proofs.take_open.Statement.{statement}
 use Rattle.stream.proofs.take_open.Tie as tie
 
@@ -19,14 +15,9 @@ same-length : tie.Need-same-length
 same-length c = search needs
 
 returns : tie.Need-returns
-unfolding step
 returns c =
-    let put = c .before .before in
-    let test = put .before .before in
-    let x = test .before .before in
-    let a = x .before .before .before .before .args in
-    turn-refused (opened (a .round)) (ap (λ (r : Stepped). outcome (r .number) (opened (a .round)) (r .service)) (x .open-lent .ensures))
-    (test .if1 .taken) (put .put-refusal .ensures .1)
+    let test = c .before .before .before .before in
+    turn-refused _ _ (open-says _ _ (test .before .before .open-lent .ensures)) (test .if1 .taken) (c .before .before .put-refusal .ensures .1)
 
 put-open-requires : tie.Need-put-open-requires
 put-open-requires c κs = search needs
@@ -35,14 +26,9 @@ same-length-2 : tie.Need-same-length-2
 same-length-2 c = search needs
 
 returns-2 : tie.Need-returns-2
-unfolding step
 returns-2 c =
-    let put = c .before .before in
-    let test = put .before .before in
-    let x = test .before .before in
-    let a = x .before .before .before .before .args in
-    turn-taken (opened (a .round)) (ap (λ (r : Stepped). outcome (r .number) (opened (a .round)) (r .service)) (x .open-lent .ensures))
-    (test .if1 .left) (put .put-open .ensures .1 _)
+    let test = c .before .before .before .before in
+    turn-taken _ _ (open-says _ _ (test .before .before .open-lent .ensures)) (test .if1 .left) (c .before .before .put-open .ensures .1 _)
 
 pub take-open-spec : {M : Type 1} → statement M
 take-open-spec =

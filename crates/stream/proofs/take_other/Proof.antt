@@ -1,11 +1,10 @@
 -- `stream::take_other` meets its contract: the kind says which record stands there.
 -- Assumes nothing.
-use mathlib.Core.Path.{sym, ap, _∙_}
+use mathlib.Core.Path.{ap}
 use native.Mathlib.Omega.{arith}
 use borrow.Author.Needs.{needs}
-use Rattle.scheme.specs.Service.{plan-record, open-record}
-use Rattle.stream.specs.Stream.{record-length}
-use Rattle.stream.proofs.Turns.{turns-as, record-plan, record-open, record-close, record-finish}
+use Rattle.stream.specs.Stream.{record-length, record-at}
+use Rattle.stream.proofs.Turns.{record-finish}
 use Rattle.stream.proofs.take_other.Statement.{statement}
 use Rattle.stream.proofs.take_other.Tie as tie
 
@@ -14,9 +13,7 @@ shared-slice-read-kind c = search needs
 
 plan-at-requires : tie.Need-plan-at-requires
 unfolding record-length
-plan-at-requires c κs =
-    let kind = c .before .before in
-    omega (arith, kind .before .before .before .before .pre .1 .whole .whole, ap record-length (kind .match .keys1))
+plan-at-requires c κs = omega (arith, ap record-length (c .before .before .match .keys1))
 
 take-plan-requires : tie.Need-take-plan-requires
 take-plan-requires c κs = search needs
@@ -26,9 +23,7 @@ add-four-at c = search needs
 
 four-at-requires : tie.Need-four-at-requires
 unfolding record-length
-four-at-requires c κs =
-    let kind = c .before .before in
-    omega (arith, kind .before .before .before .before .pre .1 .whole .whole, ap record-length (kind .match .keys2))
+four-at-requires c κs = omega (arith, ap record-length (c .before .before .match .keys2))
 
 take-open-requires : tie.Need-take-open-requires
 take-open-requires c κs = search needs
@@ -43,30 +38,28 @@ same-length : tie.Need-same-length
 same-length c = search needs
 
 returns : tie.Need-returns
+unfolding record-at
 returns c =
     let turn = c .before .before in
     let plan = turn .before .before in
-    let kind = plan .before .before .before in
-    turns-as (ap plan-record (plan .plan-at .ensures) ∙ sym (record-plan _ _ (kind .match .keys1))) (turn .take-plan .ensures)
+    rw (plan .before .before .before .match .keys1) (rw (plan .plan-at .ensures) at (turn .take-plan .ensures))
 
 same-length-2 : tie.Need-same-length-2
 same-length-2 c = search needs
 
 returns-2 : tie.Need-returns-2
+unfolding record-at
 returns-2 c =
     let turn = c .before .before in
     let round = turn .before .before in
-    let kind = round .before .before .before in
-    turns-as (ap open-record (round .four-at .ensures) ∙ sym (record-open _ _ (kind .match .keys2))) (turn .take-open .ensures)
+    rw (round .before .before .before .match .keys2) (rw (round .four-at .ensures) at (turn .take-open .ensures))
 
 same-length-3 : tie.Need-same-length-3
 same-length-3 c = search needs
 
 returns-3 : tie.Need-returns-3
-returns-3 c =
-    let turn = c .before .before in
-    let kind = turn .before .before .before .before in
-    turns-as (sym (record-close _ _ (kind .match .keys3))) (turn .take-close .ensures)
+unfolding record-at
+returns-3 c = let turn = c .before .before in rw (turn .before .before .before .before .match .keys3) (turn .take-close .ensures)
 
 same-length-4 : tie.Need-same-length-4
 same-length-4 c = search needs
@@ -76,7 +69,7 @@ returns-4 c =
     let turn = c .before .before in
     let kind = turn .before .before .before .before in
     let r = kind .match .rest in
-    turns-as (sym (record-finish _ _ (kind .before .before .before .before .pre .1) (r .0 .0 .1) (r .0 .1) (r .1))) (turn .take-finish .ensures)
+    rw (record-finish _ _ (kind .before .before .before .before .pre .1) (r .0 .0 .1) (r .0 .1) (r .1)) (turn .take-finish .ensures)
 
 pub take-other-spec : {M : Type 1} → statement M
 take-other-spec =

@@ -1,12 +1,7 @@
 -- `stream::take_plan` meets its contract: the call's answer decides the line.
 -- Assumes nothing.
-use mathlib.Core.Path.{ap}
 use borrow.Author.Needs.{needs}
-use Rattle.scheme.specs.Service.{planned}
-use Rattle.plan.specs.Plan.{plan-of}
-use Rattle.service.specs.declared.Stepped.{Stepped}
-use Rattle.stream.specs.Stream.{outcome, step}
-use Rattle.stream.proofs.Turns.{turn-taken, turn-refused}
+use Rattle.stream.proofs.Turns.{turn-taken, turn-refused, plan-says}
 use Rattle.stream.proofs.take_plan.Statement.{statement}
 use Rattle.stream.proofs.take_plan.Tie as tie
 
@@ -20,14 +15,9 @@ same-length : tie.Need-same-length
 same-length c = search needs
 
 returns : tie.Need-returns
-unfolding step
 returns c =
-    let put = c .before .before in
-    let test = put .before .before in
-    let x = test .before .before in
-    let a = x .before .before .before .before .args in
-    turn-refused (planned (plan-of (a .plan))) (ap (λ (r : Stepped). outcome (r .number) (planned (plan-of (a .plan))) (r .service)) (x .plan-lent .ensures))
-    (test .if1 .taken) (put .put-refusal .ensures .1)
+    let test = c .before .before .before .before in
+    turn-refused _ _ (plan-says _ _ (test .before .before .plan-lent .ensures)) (test .if1 .taken) (c .before .before .put-refusal .ensures .1)
 
 put-plan-requires : tie.Need-put-plan-requires
 put-plan-requires c κs = search needs
@@ -36,14 +26,9 @@ same-length-2 : tie.Need-same-length-2
 same-length-2 c = search needs
 
 returns-2 : tie.Need-returns-2
-unfolding step
 returns-2 c =
-    let put = c .before .before in
-    let test = put .before .before in
-    let x = test .before .before in
-    let a = x .before .before .before .before .args in
-    turn-taken (planned (plan-of (a .plan))) (ap (λ (r : Stepped). outcome (r .number) (planned (plan-of (a .plan))) (r .service)) (x .plan-lent .ensures))
-    (test .if1 .left) (put .put-plan .ensures .1 _)
+    let test = c .before .before .before .before in
+    turn-taken _ _ (plan-says _ _ (test .before .before .plan-lent .ensures)) (test .if1 .left) (c .before .before .put-plan .ensures .1 _)
 
 pub take-plan-spec : {M : Type 1} → statement M
 take-plan-spec =
