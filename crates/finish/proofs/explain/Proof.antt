@@ -28,6 +28,15 @@ tested c = c .before .before .before .before
 system-of-requires : tie.Need-system-of-requires
 system-of-requires c κs = c .pre
 
+the-columns-requires : tie.Need-the-columns-requires
+the-columns-requires c κs = search needs
+
+cast-n : tie.Need-cast-n
+cast-n c = search needs
+
+cast-blocks : tie.Need-cast-blocks
+cast-blocks c = search needs
+
 gather-requires : tie.Need-gather-requires
 gather-requires c κs =
     let h = prepared (pointed c) .system-of .ensures in
@@ -35,6 +44,12 @@ gather-requires c κs =
 
 solve-requires : tie.Need-solve-requires
 solve-requires c κs = let k = pointed (gathered c .before) in system-ready sixteen laws16 _ _ _ (prepared k .system-of .ensures) _ (k .the-columns .ensures)
+
+slice-aggregate-all-elements : tie.Need-slice-aggregate-all-elements
+slice-aggregate-all-elements c = search needs
+
+all-elements-requires : tie.Need-all-elements-requires
+all-elements-requires c κs = search needs
 
 returns : tie.Need-returns
 returns c =
@@ -71,5 +86,15 @@ returns-2 c =
 pub explain-spec : {M : Type 1} → statement M
 explain-spec =
     tie.close
-    (tie.spec system-of-requires (λ c κs. search needs) (λ c. search needs) (λ c. search needs) gather-requires solve-requires (λ c. search needs)
-    (λ c κs. search needs) returns fits-requires returns-2)
+    (tie.spec
+    system-of-requires
+    the-columns-requires
+    cast-n
+    cast-blocks
+    gather-requires
+    solve-requires
+    slice-aggregate-all-elements
+    all-elements-requires
+    returns
+    fits-requires
+    returns-2)

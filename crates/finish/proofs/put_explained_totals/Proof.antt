@@ -63,6 +63,12 @@ first-sums-requires c κs =
 sub-items : tie.Need-sub-items
 sub-items c = let g = a-plan (listed (c .before .before)) in omega (arith, g .collusion-high)
 
+cast-items : tie.Need-cast-items
+cast-items c = search needs
+
+cast-put-all-totals : tie.Need-cast-put-all-totals
+cast-put-all-totals c = search needs
+
 put-all-totals-requires : tie.Need-put-all-totals-requires
 unfolding places items
 put-all-totals-requires c κs =
@@ -86,5 +92,14 @@ returns-2 c =
 pub put-explained-totals-spec : {M : Type 1} → statement M
 put-explained-totals-spec =
     tie.close
-    (tie.spec explain-requires returns users-of-requires places-of-requires first-sums-requires sub-items
-    (λ c. search needs) (λ c. search needs) put-all-totals-requires returns-2)
+    (tie.spec
+    explain-requires
+    returns
+    users-of-requires
+    places-of-requires
+    first-sums-requires
+    sub-items
+    cast-items
+    cast-put-all-totals
+    put-all-totals-requires
+    returns-2)

@@ -43,6 +43,12 @@ few c = let g = good-plan c in omega (arith, g .threshold-high, g .users-high)
 users-of-requires : tie.Need-users-of-requires
 users-of-requires c κs = c .pre .0 .users-high
 
+the-columns-requires : tie.Need-the-columns-requires
+the-columns-requires c κs = search needs
+
+cast-n : tie.Need-cast-n
+cast-n c = search needs
+
 weights-requires : tie.Need-weights-requires
 weights-requires c κs = let k = c .before .before .before in (few (listed k), rows-in (listed k), columns-in k)
 
@@ -67,4 +73,10 @@ returns c =
 pub system-of-spec : {M : Type 1} → statement M
 system-of-spec =
     tie.close
-    (tie.spec users-of-requires (λ c κs. search needs) (λ c. search needs) weights-requires weights-requires-2 returns)
+    (tie.spec
+    users-of-requires
+    the-columns-requires
+    cast-n
+    weights-requires
+    weights-requires-2
+    returns)

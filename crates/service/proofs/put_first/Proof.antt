@@ -42,9 +42,15 @@ at-slot c =
     ap (λ (n : ℕ). n + d .before .before .before .before .args .place) (c .row-start .ensures)
 
 -- ---- the needs
+not-gathering-requires : tie.Need-not-gathering-requires
+not-gathering-requires c κs = search needs
+
 returns : tie.Need-returns
 unfolding first-refusal first-left
 returns c = array-refused (c .if1 .taken) (then-stops (c .before .not-gathering .ensures) (c .if1 .taken) _) _ _
+
+element-refusal-requires : tie.Need-element-refusal-requires
+element-refusal-requires c κs = search needs
 
 returns-2 : tie.Need-returns-2
 unfolding first-refusal first-left
@@ -52,12 +58,24 @@ returns-2 c =
     array-refused (c .if2 .taken)
     (then-stops (c .before .element-refusal .ensures) (c .if2 .taken) _ ∙ sym (then-taken (phase-right (c .before .before)) _)) _ _
 
+row-start-requires : tie.Need-row-start-requires
+row-start-requires c κs = (fit c .low, omega arith)
+
+add-at : tie.Need-add-at
+add-at c = search needs
+
 returns-3 : tie.Need-returns-3
 unfolding first-refusal first-left
 returns-3 c =
     let d = c .before .before in
     array-refused (λ z. omega arith)
     (test-refused (beyond (at-slot (c .before)) (c .if3 .taken)) _ _ ∙ passed (phase-right (d .before .before)) (element-right d) _) _ _
+
+mul-if4 : tie.Need-mul-if4
+mul-if4 c = search needs
+
+element-copy-out-if4 : tie.Need-element-copy-out-if4
+element-copy-out-if4 c = search needs
 
 returns-4 : tie.Need-returns-4
 unfolding first-refusal first-left
@@ -75,6 +93,12 @@ cast-held-as c = omega (arith, fit (c .before .before .before .before) .small)
 held-as-requires : tie.Need-held-as-requires
 held-as-requires c κs = omega (arith, fit (c .before .before .before .before) .small)
 
+mul-first : tie.Need-mul-first
+mul-first c = search needs
+
+element-write-first : tie.Need-element-write-first
+element-write-first c = search needs
+
 returns-5 : tie.Need-returns-5
 unfolding first-refusal first-left
 returns-5 c =
@@ -90,5 +114,19 @@ returns-5 c =
 pub put-first-spec : {M : Type 1} → statement M
 put-first-spec =
     tie.close
-    (tie.spec (λ c κs. search needs) returns (λ c κs. search needs) returns-2 (λ c κs. (fit c .low, omega arith)) (λ c. search needs) returns-3
-    (λ c. search needs) (λ c. search needs) returns-4 cast-held-as held-as-requires (λ c. search needs) (λ c. search needs) returns-5)
+    (tie.spec
+    not-gathering-requires
+    returns
+    element-refusal-requires
+    returns-2
+    row-start-requires
+    add-at
+    returns-3
+    mul-if4
+    element-copy-out-if4
+    returns-4
+    cast-held-as
+    held-as-requires
+    mul-first
+    element-write-first
+    returns-5)

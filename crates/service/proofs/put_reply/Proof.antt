@@ -49,15 +49,27 @@ survives :
 survives c = sym (c .before .holds .ensures) ∙ not-false _ (c .if4 .left)
 
 -- ---- the needs
+not-replying-requires : tie.Need-not-replying-requires
+not-replying-requires c κs = search needs
+
 returns : tie.Need-returns
 unfolding reply-refusal reply-left
 returns c = array-refused (c .if1 .taken) (then-stops (c .before .not-replying .ensures) (c .if1 .taken) _) _ _
+
+element-refusal-requires : tie.Need-element-refusal-requires
+element-refusal-requires c κs = search needs
 
 returns-2 : tie.Need-returns-2
 unfolding reply-refusal reply-left
 returns-2 c =
     array-refused (c .if2 .taken)
     (then-stops (c .before .element-refusal .ensures) (c .if2 .taken) _ ∙ sym (then-taken (phase-right (c .before .before)) _)) _ _
+
+row-start-requires : tie.Need-row-start-requires
+row-start-requires c κs = (fit c .low, omega arith)
+
+add-at : tie.Need-add-at
+add-at c = search needs
 
 returns-3 : tie.Need-returns-3
 unfolding reply-refusal reply-left
@@ -81,6 +93,12 @@ returns-4 c =
     (test-refused out _ _ ∙ test-passed (within (at-slot (e .before)) (e .if3 .left)) 8 _
     ∙ passed (phase-right (d .before .before)) (element-right d) _) _ _
 
+mul-if5 : tie.Need-mul-if5
+mul-if5 c = search needs
+
+element-copy-out-if5 : tie.Need-element-copy-out-if5
+element-copy-out-if5 c = search needs
+
 returns-5 : tie.Need-returns-5
 unfolding reply-refusal reply-left
 returns-5 c =
@@ -103,6 +121,12 @@ cast-held-as c = omega (arith, small c)
 held-as-requires : tie.Need-held-as-requires
 held-as-requires c κs = omega (arith, small c)
 
+mul-reply : tie.Need-mul-reply
+mul-reply c = search needs
+
+element-write-reply : tie.Need-element-write-reply
+element-write-reply c = search needs
+
 returns-6 : tie.Need-returns-6
 unfolding reply-refusal reply-left
 returns-6 c =
@@ -119,6 +143,21 @@ returns-6 c =
 pub put-reply-spec : {M : Type 1} → statement M
 put-reply-spec =
     tie.close
-    (tie.spec (λ c κs. search needs) returns (λ c κs. search needs) returns-2 (λ c κs. (fit c .low, omega arith)) (λ c. search needs) returns-3
-    holds-requires returns-4 (λ c. search needs) (λ c. search needs) returns-5 cast-held-as held-as-requires (λ c. search needs) (λ c. search needs)
+    (tie.spec
+    not-replying-requires
+    returns
+    element-refusal-requires
+    returns-2
+    row-start-requires
+    add-at
+    returns-3
+    holds-requires
+    returns-4
+    mul-if5
+    element-copy-out-if5
+    returns-5
+    cast-held-as
+    held-as-requires
+    mul-reply
+    element-write-reply
     returns-6)
