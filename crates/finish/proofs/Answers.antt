@@ -50,8 +50,7 @@ module _ (A : Arithmetic) (L : Laws A most-users most-threshold) where
     module _ (r : Passed s) where
       passed-refusal : finish-refusal A L s ≡ unless (explained-by A (view s) (choice A L s)) 16
       unfolding finish-refusal
-      passed-refusal =
-          then-taken (r .replying) _ ∙ then-taken (unless-held (r .good) 15) _ ∙ then-taken (unless-held (le-leb _ _ (r .many)) 15) _
+      passed-refusal = then-taken (r .replying) _ ∙ then-taken (unless-held (r .good) 15) _ ∙ then-taken (unless-held (le-leb _ _ (r .many)) 15) _
 
       pub totalled-right : (v n : ℕ) (out : List ℕ) → v ≡ replied (view s)
           → Totalled A L (plan-of (s .head .plan)) v (s .head .survivors) (s .first) (s .reply) n out → Answered A L s n out

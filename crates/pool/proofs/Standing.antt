@@ -178,8 +178,7 @@ sent-so-far t read w i g h = pick (ℕ-discrete i (length (t .text)))
         (subst (λ (l : List ℕ). So-far t read (w ++ l)) (sym (ap (λ (k : ℕ). take k (t .text)) e ∙ take-all (length (t .text)) (t .text) (omega arith))) g)
     pick (no e) =
         let a = begins (g .used) (g .taken) (t .next) (t .waiting) (w ++ t .text) (g .stands) in
-        rw (ne-eqb i (length (t .text)) e)
-        (record {
+        rw (ne-eqb i (length (t .text)) e) (record {
           used = g .used;
           same = g .same;
           taken = g .taken;
@@ -187,9 +186,7 @@ sent-so-far t read w i g h = pick (ℕ-discrete i (length (t .text)))
           place = g .place;
           stands = (
             drop i (t .text) ++ a .0,
-            sym (append-assoc (w ++ take i (t .text)) (drop i (t .text)) (a .0))
-                ∙ ap (λ (l : List ℕ). l ++ a .0)
-                (append-assoc w (take i (t .text)) (drop i (t .text)) ∙ ap (λ (l : List ℕ). w ++ l) (take-append-drop i (t .text)))
-                ∙ a .1,
+            sym (append-assoc (w ++ take i (t .text)) (drop i (t .text)) (a .0)) ∙ ap (λ (l : List ℕ). l ++ a .0)
+                (append-assoc w (take i (t .text)) (drop i (t .text)) ∙ ap (λ (l : List ℕ). w ++ l) (take-append-drop i (t .text))) ∙ a .1,
           );
         })

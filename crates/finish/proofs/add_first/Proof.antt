@@ -20,8 +20,7 @@ old-at : {f : ℕ → ℕ} {n : ℕ} {old new : List ℕ} (i : ℕ) → Setting 
 old-at i s = row-other _ 0 _ i (s .done) i (λ b h e. omega arith)
 
 next : {f : ℕ → ℕ} {n : ℕ} {old new : List ℕ} (i : ℕ) {x : ℕ} → i < n → x ≡ f i → Setting f n 0 old i new → Setting f n 0 old (i + 1) (set new i x)
-next {f} {n} {old} {new} i {x} l e s =
-    subst (λ (k : ℕ). Setting f n 0 old (i + 1) (set new k x)) (zero-add i) (setting-more f n 0 old i x new l e s)
+next {f} {n} {old} {new} i {x} l e s = subst (λ (k : ℕ). Setting f n 0 old (i + 1) (set new k x)) (zero-add i) (setting-more f n 0 old i x new l e s)
 
 abbrev Inv-loop : tie.InvT-loop
 Inv-loop sums₀ first from places i₀ sums i =

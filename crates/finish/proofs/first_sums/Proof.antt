@@ -85,12 +85,9 @@ loop-again c =
     let d = c .add-first .ensures .0 in (
       omega arith,
       ap length d ∙ length-sets (l .sums) 0 (map f (span n 0)) ∙ l .inv .1,
-      λ p h.
-          rw (row-at (l .sums) 0 f n d p p (sym (zero-add p)) h (omega (arith, start t .pre .1, l .inv .1)))
-          (summing-more prime-65521 (lit< tt) _ _ (l .i) _ _
-          (ap (λ (f : ℕ). getD y (f + p) 0 - 1) (c .before .before .row-start .ensures)
-          ∙ sym (held-at most-places y _ p (k .0) (k .1) (omega (arith, start t .pre))))
-          (c .add-first .ensures .1 p h) (l .inv .2 p h)),
+      λ p h. rw (row-at (l .sums) 0 f n d p p (sym (zero-add p)) h (omega (arith, start t .pre .1, l .inv .1)))
+          (summing-more prime-65521 (lit< tt) _ _ (l .i) _ _ (ap (λ (f : ℕ). getD y (f + p) 0 - 1) (c .before .before .row-start .ensures)
+          ∙ sym (held-at most-places y _ p (k .0) (k .1) (omega (arith, start t .pre)))) (c .add-first .ensures .1 p h) (l .inv .2 p h)),
     )
 
 returns : tie.Need-returns Inv-loop μ-loop

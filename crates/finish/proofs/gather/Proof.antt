@@ -65,8 +65,7 @@ loop-again c =
     let k = user t in
     let s = start t .pre in
     let y = start t .args .reply .now in
-    rows-more _ _ (l .i) _ _ _ _ _ (s .0) (s .1) (t .loop-test .taken)
-    (λ b h.
+    rows-more _ _ (l .i) _ _ _ _ _ (s .0) (s .1) (t .loop-test .taken) (λ b h.
     ap (λ (f : ℕ). getD y (f + b) 0 - 1) (c .before .before .row-start .ensures)
     ∙ sym (reply-inside _ _ _ _ b h ∙ held-at most-blocks y _ b (k .0) (k .1) (omega (arith, s .1))))
     (λ b low high. reply-behind _ _ _ _ b low) (c .put-held .ensures) (l .inv)

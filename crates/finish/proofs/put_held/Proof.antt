@@ -45,8 +45,7 @@ loop-less c = search needs
 
 loop-again : tie.Need-loop-again Inv-loop μ-loop
 loop-again c =
-    let l = c .before .before .before .loop in
-    setting-more _ _ _ _ (l .b) _ _ (c .before .before .loop-test .taken) (c .element-of .ensures) (l .inv)
+    let l = c .before .before .before .loop in setting-more _ _ _ _ (l .b) _ _ (c .before .before .loop-test .taken) (c .element-of .ensures) (l .inv)
 
 returns : tie.Need-returns Inv-loop μ-loop
 returns c = setting-end _ _ _ _ _ _ (c .loop-test .left) (c .before .loop .inv)

@@ -65,8 +65,7 @@ not-replying-requires c κs = search needs
 
 returns : tie.Need-returns
 unfolding finish-refusal
-returns c =
-    refused-right sixteen laws16 _ (c .if1 .taken) (then-stops (c .before .not-replying .ensures) (c .if1 .taken) _) (c .before .before .pre)
+returns c = refused-right sixteen laws16 _ (c .if1 .taken) (then-stops (c .before .not-replying .ensures) (c .if1 .taken) _) (c .before .before .pre)
 
 is-good-requires : tie.Need-is-good-requires
 is-good-requires c κs = search needs

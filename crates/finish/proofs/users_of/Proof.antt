@@ -63,8 +63,7 @@ loop-again-2 c =
 returns : tie.Need-returns Inv-loop μ-loop
 unfolding rows-of users-in
 returns c =
-    let e = listing-end _ _ _ _ _ (c .before .before .loop .inv) (c .if1 .left) in
-    record { list-right = e .written; count-right = e .counted }
+    let e = listing-end _ _ _ _ _ (c .before .before .loop .inv) (c .if1 .left) in record { list-right = e .written; count-right = e .counted }
 
 pub users-of-spec : {M : Type 1} → statement M
 users-of-spec =

@@ -32,10 +32,7 @@ add-here c =
     omega (arith, here-fits _ _ _ _ _ (f .feed .ensures .0) h)
 
 keep-requires : tie.Need-keep-requires
-keep-requires c κs =
-    let f = behind-feed c in
-    let s = entered (f .before .before) in
-    (used-inside _ _ _ _ _ _ (s .pre) (f .feed .ensures .0), s .pre)
+keep-requires c κs = let f = behind-feed c in let s = entered (f .before .before) in (used-inside _ _ _ _ _ _ (s .pre) (f .feed .ensures .0), s .pre)
 
 comes-requires : tie.Need-comes-requires
 comes-requires c κs = search needs

@@ -20,9 +20,7 @@ enum-known-read : tie.Need-enum-known-read
 enum-known-read c = search needs
 
 take-requires : tie.Need-take-requires
-take-requires c κs =
-    let r = c .before .before .before in
-    omega (arith, entered (r .before .before) .pre .inside _ (r .read .given .1))
+take-requires c κs = let r = c .before .before .before in omega (arith, entered (r .before .before) .pre .inside _ (r .read .given .1))
 
 enum-told : tie.Need-enum-told
 enum-told c = search needs

@@ -37,8 +37,7 @@ whole : (c : tie.After-complete-set) → c .complete-set .result ≡ gathered (v
 unfolding gathered view
 whole c = c .complete-set .ensures ∙ ap (complete-set _ _) (c .before .before .places-of .ensures .0)
 
-counted :
-    (c : tie.After-complete-set) → let s = at-start (c .before .before .before) in
+counted : (c : tie.After-complete-set) → let s = at-start (c .before .before .before) in
     machine.ones (c .complete-set .result) ≡ ones (s .head .plan .users) (gathered (view s))
 unfolding gathered view
 counted c =

@@ -41,9 +41,7 @@ mul-bit c =
     omega (arith, completing-bit _ _ _ (a .before .before .loop .inv) (a .before .before .before .before .pre .0) (a .if1 .taken))
 
 add-start : tie.Need-add-start Inv-loop μ-loop
-add-start c =
-    let a = c .before .before in
-    omega (arith, completing-inside _ _ _ (a .before .before .loop .inv) (a .if1 .taken))
+add-start c = let a = c .before .before in omega (arith, completing-inside _ _ _ (a .before .before .loop .inv) (a .if1 .taken))
 
 add-k : tie.Need-add-k Inv-loop μ-loop
 add-k c = search needs

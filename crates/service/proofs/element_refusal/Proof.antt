@@ -10,15 +10,11 @@ use Rattle.service.proofs.element_refusal.Tie as tie
 
 returns : tie.Need-returns
 unfolding element-refusal unless _then_
-returns c =
-    let h : c .before .args .user < 1 = omega arith in
-    simp (lt-leb _ _ h)
+returns c = let h : c .before .args .user < 1 = omega arith in simp (lt-leb _ _ h)
 
 returns-2 : tie.Need-returns-2
 unfolding element-refusal unless _then_
-returns-2 c =
-    let h : 1 ≤ c .before .before .args .user = omega arith in
-    simp (le-leb _ _ h, lt-leb _ _ (c .if2 .taken))
+returns-2 c = let h : 1 ≤ c .before .before .args .user = omega arith in simp (le-leb _ _ h, lt-leb _ _ (c .if2 .taken))
 
 returns-3 : tie.Need-returns-3
 unfolding element-refusal unless _then_

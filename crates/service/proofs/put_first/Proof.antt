@@ -24,22 +24,17 @@ array c = c .before .before .before .before .args .first .now
 phase-right : (c : tie.Else1) → not-gathering (phase-of (c .before .before .args .head .phase)) ≡ 0
 phase-right c = sym (c .before .not-gathering .ensures) ∙ c .if1 .left
 
-element-right :
-    (c : tie.Else2) → let a = c .before .before .before .before .args in
+element-right : (c : tie.Else2) → let a = c .before .before .before .before .args in
     element-refusal sixteen (a .head .plan .users) (a .head .places) (a .user) (a .place) (a .element) ≡ 0
 element-right c = sym (c .before .element-refusal .ensures) ∙ c .if2 .left
 
-fit :
-    (c : tie.Else2) → let a = c .before .before .before .before .args in
+fit : (c : tie.Else2) → let a = c .before .before .before .before .args in
     Fits sixteen (a .head .plan .users) (a .head .places) (a .user) (a .place) (a .element)
 fit c = fits sixteen _ _ _ _ _ (element-right c)
 
-at-slot :
-    (c : tie.After-row-start) → let d = c .before in let a = d .before .before .before .before .args in
+at-slot : (c : tie.After-row-start) → let d = c .before in let a = d .before .before .before .before .args in
     c .row-start .result + a .place ≡ slot most-places (a .user) (a .place)
-at-slot c =
-    let d = c .before in
-    ap (λ (n : ℕ). n + d .before .before .before .before .args .place) (c .row-start .ensures)
+at-slot c = let d = c .before in ap (λ (n : ℕ). n + d .before .before .before .before .args .place) (c .row-start .ensures)
 
 -- ---- the needs
 not-gathering-requires : tie.Need-not-gathering-requires
@@ -83,8 +78,7 @@ returns-4 c =
     let e = c .before .before in
     let s = at-slot (e .before) in
     let d = e .before .before in
-    array-refused (λ z. omega arith)
-    (sym (unless-failed (not-free s (array d) (c .if4 .taken)) 13) ∙ test-passed (within s (e .if3 .left)) 8 _
+    array-refused (λ z. omega arith) (sym (unless-failed (not-free s (array d) (c .if4 .taken)) 13) ∙ test-passed (within s (e .if3 .left)) 8 _
     ∙ passed (phase-right (d .before .before)) (element-right d) _) _ _
 
 cast-held-as : tie.Need-cast-held-as
@@ -106,10 +100,8 @@ returns-5 c =
     let e = f .before .before in
     let s = at-slot (e .before) in
     let d = e .before .before in
-    array-taken
-    (sym (unless-held (is-free s (array d) (f .if4 .left)) 13) ∙ test-passed (within s (e .if3 .left)) 8 _
-    ∙ passed (phase-right (d .before .before)) (element-right d) _)
-    (ap₂ (λ (n x : ℕ). set (array d) n x) s (c .held-as .ensures)) (array d)
+    array-taken (sym (unless-held (is-free s (array d) (f .if4 .left)) 13) ∙ test-passed (within s (e .if3 .left)) 8 _
+    ∙ passed (phase-right (d .before .before)) (element-right d) _) (ap₂ (λ (n x : ℕ). set (array d) n x) s (c .held-as .ensures)) (array d)
 
 pub put-first-spec : {M : Type 1} → statement M
 put-first-spec =

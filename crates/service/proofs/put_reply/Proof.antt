@@ -26,25 +26,19 @@ array c = c .before .before .before .before .args .reply .now
 phase-right : (c : tie.Else1) → not-replying (phase-of (c .before .before .args .head .phase)) ≡ 0
 phase-right c = sym (c .before .not-replying .ensures) ∙ c .if1 .left
 
-element-right :
-    (c : tie.Else2) → let a = c .before .before .before .before .args in
+element-right : (c : tie.Else2) → let a = c .before .before .before .before .args in
     element-refusal sixteen (a .head .plan .users) (a .head .plan .blocks) (a .user) (a .block) (a .element) ≡ 0
 element-right c = sym (c .before .element-refusal .ensures) ∙ c .if2 .left
 
-fit :
-    (c : tie.Else2) → let a = c .before .before .before .before .args in
+fit : (c : tie.Else2) → let a = c .before .before .before .before .args in
     Fits sixteen (a .head .plan .users) (a .head .plan .blocks) (a .user) (a .block) (a .element)
 fit c = fits sixteen _ _ _ _ _ (element-right c)
 
-at-slot :
-    (c : tie.After-row-start) → let d = c .before in let a = d .before .before .before .before .args in
+at-slot : (c : tie.After-row-start) → let d = c .before in let a = d .before .before .before .before .args in
     c .row-start .result + a .block ≡ slot most-blocks (a .user) (a .block)
-at-slot c =
-    let d = c .before in
-    ap (λ (n : ℕ). n + d .before .before .before .before .args .block) (c .row-start .ensures)
+at-slot c = let d = c .before in ap (λ (n : ℕ). n + d .before .before .before .before .args .block) (c .row-start .ensures)
 
-survives :
-    (c : tie.Else4) → let d = c .before .before .before .before in let a = d .before .before .before .before .args in
+survives : (c : tie.Else4) → let d = c .before .before .before .before in let a = d .before .before .before .before .args in
     in-set (a .head .survivors) (a .user) ≡ true
 survives c = sym (c .before .holds .ensures) ∙ not-false _ (c .if4 .left)
 
@@ -79,9 +73,7 @@ returns-3 c =
     (test-refused (beyond (at-slot (c .before)) (c .if3 .taken)) _ _ ∙ passed (phase-right (d .before .before)) (element-right d) _) _ _
 
 holds-requires : tie.Need-holds-requires
-holds-requires c κs =
-    let h = fit (c .before .before) .low in
-    (h, omega arith)
+holds-requires c κs = let h = fit (c .before .before) .low in (h, omega arith)
 
 returns-4 : tie.Need-returns-4
 unfolding reply-refusal reply-left
@@ -89,8 +81,7 @@ returns-4 c =
     let e = c .before .before in
     let d = e .before .before in
     let out = sym (c .before .holds .ensures) ∙ not-true _ (c .if4 .taken) in
-    array-refused (λ z. omega arith)
-    (test-refused out _ _ ∙ test-passed (within (at-slot (e .before)) (e .if3 .left)) 8 _
+    array-refused (λ z. omega arith) (test-refused out _ _ ∙ test-passed (within (at-slot (e .before)) (e .if3 .left)) 8 _
     ∙ passed (phase-right (d .before .before)) (element-right d) _) _ _
 
 mul-if5 : tie.Need-mul-if5
@@ -111,9 +102,7 @@ returns-5 c =
     ∙ passed (phase-right (d .before .before)) (element-right d) _) _ _
 
 small : (c : tie.Else5) → let d = c .before .before .before .before in let a = d .before .before .before .before in a .before .before .args .element < q
-small c =
-    let d = c .before .before .before .before in
-    fit (d .before .before) .small
+small c = let d = c .before .before .before .before in fit (d .before .before) .small
 
 cast-held-as : tie.Need-cast-held-as
 cast-held-as c = omega (arith, small c)
@@ -135,10 +124,8 @@ returns-6 c =
     let e = f .before .before in
     let s = at-slot (e .before) in
     let d = e .before .before in
-    array-taken
-    (sym (unless-held (is-free s (array d) (g .if5 .left)) 13) ∙ test-passed (survives f) 14 _ ∙ test-passed (within s (e .if3 .left)) 8 _
-    ∙ passed (phase-right (d .before .before)) (element-right d) _)
-    (ap₂ (λ (n x : ℕ). set (array d) n x) s (c .held-as .ensures)) (array d)
+    array-taken (sym (unless-held (is-free s (array d) (g .if5 .left)) 13) ∙ test-passed (survives f) 14 _ ∙ test-passed (within s (e .if3 .left)) 8 _
+    ∙ passed (phase-right (d .before .before)) (element-right d) _) (ap₂ (λ (n x : ℕ). set (array d) n x) s (c .held-as .ensures)) (array d)
 
 pub put-reply-spec : {M : Type 1} → statement M
 put-reply-spec =
