@@ -59,11 +59,7 @@ module _ (w : ℕ) (xs : List ℕ) (k i : ℕ) where
 
 pub look-nothing : (w n k i : ℕ) → look w (replicate n 0) k i ≡ none
 unfolding look stored
-look-nothing w n k i = rw (zeros-at n (slot w k i)) (either (inside w k i))
-  where
-    either : (b : Bool) → cond {A = Option ℕ} b none none ≡ none
-    either true = refl
-    either false = refl
+look-nothing w n k i = rw (zeros-at n (slot w k i)) (by-test (inside w k i) (λ e. simp e) (λ e. simp e))
 
 -- ---- one element more
 module _ (w : ℕ) (xs : List ℕ) (k i x : ℕ) (a : In-row w k i) where

@@ -87,9 +87,7 @@ close-refused-requires-3 c κs = search needs
 returns-3 : tie.Need-returns-3
 unfolding close-refusal
 returns-3 c =
-    let d = c .before .before .before in
-    let e = d .before .before .before in
-    let s = at-start e in
+    let d = c .before .before .before in let e = d .before .before .before in let s = at-start e in
     let h : ones (s .head .plan .users) (gathered (view s)) < s .head .plan .threshold = omega (arith, counted d, c .before .if3 .taken) in
     rw (c .close-refused3 .ensures)
     (close-refused s (λ z. omega arith) (sym (unless-failed (lt-leb _ _ h) 15) ∙ passed (phase-right (e .before)) (unless-held (a-plan e) 15) _))
@@ -100,10 +98,7 @@ nothing-reply-requires c κs = search needs
 returns-4 : tie.Need-returns-4
 unfolding close-refusal closed
 returns-4 c =
-    let f = c .before in
-    let d = f .before .before in
-    let e = d .before .before .before in
-    let s = at-start e in
+    let f = c .before in let d = f .before .before in let e = d .before .before .before in let s = at-start e in
     let h : s .head .plan .threshold ≤ ones (s .head .plan .users) (gathered (view s)) = omega (arith, counted d, f .if3 .left) in
     rw (c .nothing-reply .ensures)
     (close-taken s (sym (unless-held (le-leb _ _ h) 15) ∙ passed (phase-right (e .before)) (unless-held (a-plan e) 15) _) (whole d))

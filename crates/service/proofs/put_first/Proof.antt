@@ -10,7 +10,7 @@ use Rattle.scheme.specs.Limits.{most-places}
 use Rattle.scheme.specs.Scheme.{sixteen}
 use Rattle.scheme.specs.Service.{not-gathering, element-refusal}
 use Rattle.scheme.proofs.Refusals.{then-taken, then-stops, unless-held, unless-failed}
-use Rattle.scheme.proofs.Pooling.Well.{Fits, fits}
+use Rattle.scheme.proofs.Pooling.Well.{fits}
 use Rattle.service.specs.View.{phase-of, slot}
 use Rattle.service.specs.Calls.{first-refusal, first-left}
 use Rattle.service.proofs.Refused.{passed, test-passed, test-refused, beyond, within, not-free, is-free, array-refused, array-taken}
@@ -27,10 +27,6 @@ phase-right c = sym (c .before .not-gathering .ensures) ∙ c .if1 .left
 element-right : (c : tie.Else2) → let a = c .before .before .before .before .args in
     element-refusal sixteen (a .head .plan .users) (a .head .places) (a .user) (a .place) (a .element) ≡ 0
 element-right c = sym (c .before .element-refusal .ensures) ∙ c .if2 .left
-
-fit : (c : tie.Else2) → let a = c .before .before .before .before .args in
-    Fits sixteen (a .head .plan .users) (a .head .places) (a .user) (a .place) (a .element)
-fit c = fits sixteen _ _ _ _ _ (element-right c)
 
 at-slot : (c : tie.After-row-start) → let d = c .before in let a = d .before .before .before .before .args in
     c .row-start .result + a .place ≡ slot most-places (a .user) (a .place)
@@ -54,7 +50,7 @@ returns-2 c =
     (then-stops (c .before .element-refusal .ensures) (c .if2 .taken) _ ∙ sym (then-taken (phase-right (c .before .before)) _)) _ _
 
 row-start-requires : tie.Need-row-start-requires
-row-start-requires c κs = (fit c .low, omega arith)
+row-start-requires c κs = (fits sixteen _ _ _ _ _ (element-right c) .low, omega arith)
 
 add-at : tie.Need-add-at
 add-at c = search needs
@@ -75,17 +71,15 @@ element-copy-out-if4 c = search needs
 returns-4 : tie.Need-returns-4
 unfolding first-refusal first-left
 returns-4 c =
-    let e = c .before .before in
-    let s = at-slot (e .before) in
-    let d = e .before .before in
+    let e = c .before .before in let s = at-slot (e .before) in let d = e .before .before in
     array-refused (λ z. omega arith) (sym (unless-failed (not-free s (array d) (c .if4 .taken)) 13) ∙ test-passed (within s (e .if3 .left)) 8 _
     ∙ passed (phase-right (d .before .before)) (element-right d) _) _ _
 
 cast-held-as : tie.Need-cast-held-as
-cast-held-as c = omega (arith, fit (c .before .before .before .before) .small)
+cast-held-as c = omega (arith, fits sixteen _ _ _ _ _ (element-right (c .before .before .before .before)) .small)
 
 held-as-requires : tie.Need-held-as-requires
-held-as-requires c κs = omega (arith, fit (c .before .before .before .before) .small)
+held-as-requires c κs = omega (arith, fits sixteen _ _ _ _ _ (element-right (c .before .before .before .before)) .small)
 
 mul-first : tie.Need-mul-first
 mul-first c = search needs
@@ -96,10 +90,7 @@ element-write-first c = search needs
 returns-5 : tie.Need-returns-5
 unfolding first-refusal first-left
 returns-5 c =
-    let f = c .before in
-    let e = f .before .before in
-    let s = at-slot (e .before) in
-    let d = e .before .before in
+    let f = c .before in let e = f .before .before in let s = at-slot (e .before) in let d = e .before .before in
     array-taken (sym (unless-held (is-free s (array d) (f .if4 .left)) 13) ∙ test-passed (within s (e .if3 .left)) 8 _
     ∙ passed (phase-right (d .before .before)) (element-right d) _) (ap₂ (λ (n x : ℕ). set (array d) n x) s (c .held-as .ensures)) (array d)
 

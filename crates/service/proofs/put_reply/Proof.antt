@@ -12,7 +12,7 @@ use Rattle.scheme.specs.Limits.{most-blocks}
 use Rattle.scheme.specs.Scheme.{q, sixteen, in-set}
 use Rattle.scheme.specs.Service.{not-replying, element-refusal}
 use Rattle.scheme.proofs.Refusals.{then-taken, then-stops, unless-held, unless-failed}
-use Rattle.scheme.proofs.Pooling.Well.{Fits, fits}
+use Rattle.scheme.proofs.Pooling.Well.{fits}
 use Rattle.service.specs.View.{phase-of, slot}
 use Rattle.service.specs.Calls.{reply-refusal, reply-left}
 use Rattle.service.proofs.Refused.{passed, test-passed, test-refused, beyond, within, not-free, is-free, array-refused, array-taken}
@@ -29,10 +29,6 @@ phase-right c = sym (c .before .not-replying .ensures) ∙ c .if1 .left
 element-right : (c : tie.Else2) → let a = c .before .before .before .before .args in
     element-refusal sixteen (a .head .plan .users) (a .head .plan .blocks) (a .user) (a .block) (a .element) ≡ 0
 element-right c = sym (c .before .element-refusal .ensures) ∙ c .if2 .left
-
-fit : (c : tie.Else2) → let a = c .before .before .before .before .args in
-    Fits sixteen (a .head .plan .users) (a .head .plan .blocks) (a .user) (a .block) (a .element)
-fit c = fits sixteen _ _ _ _ _ (element-right c)
 
 at-slot : (c : tie.After-row-start) → let d = c .before in let a = d .before .before .before .before .args in
     c .row-start .result + a .block ≡ slot most-blocks (a .user) (a .block)
@@ -60,7 +56,7 @@ returns-2 c =
     (then-stops (c .before .element-refusal .ensures) (c .if2 .taken) _ ∙ sym (then-taken (phase-right (c .before .before)) _)) _ _
 
 row-start-requires : tie.Need-row-start-requires
-row-start-requires c κs = (fit c .low, omega arith)
+row-start-requires c κs = (fits sixteen _ _ _ _ _ (element-right c) .low, omega arith)
 
 add-at : tie.Need-add-at
 add-at c = search needs
@@ -73,13 +69,12 @@ returns-3 c =
     (test-refused (beyond (at-slot (c .before)) (c .if3 .taken)) _ _ ∙ passed (phase-right (d .before .before)) (element-right d) _) _ _
 
 holds-requires : tie.Need-holds-requires
-holds-requires c κs = let h = fit (c .before .before) .low in (h, omega arith)
+holds-requires c κs = let h = fits sixteen _ _ _ _ _ (element-right (c .before .before)) .low in (h, omega arith)
 
 returns-4 : tie.Need-returns-4
 unfolding reply-refusal reply-left
 returns-4 c =
-    let e = c .before .before in
-    let d = e .before .before in
+    let e = c .before .before in let d = e .before .before in
     let out = sym (c .before .holds .ensures) ∙ not-true _ (c .if4 .taken) in
     array-refused (λ z. omega arith) (test-refused out _ _ ∙ test-passed (within (at-slot (e .before)) (e .if3 .left)) 8 _
     ∙ passed (phase-right (d .before .before)) (element-right d) _) _ _
@@ -93,16 +88,13 @@ element-copy-out-if5 c = search needs
 returns-5 : tie.Need-returns-5
 unfolding reply-refusal reply-left
 returns-5 c =
-    let f = c .before .before in
-    let e = f .before .before in
-    let s = at-slot (e .before) in
-    let d = e .before .before in
+    let f = c .before .before in let e = f .before .before in let s = at-slot (e .before) in let d = e .before .before in
     array-refused (λ z. omega arith)
     (sym (unless-failed (not-free s (array d) (c .if5 .taken)) 13) ∙ test-passed (survives f) 14 _ ∙ test-passed (within s (e .if3 .left)) 8 _
     ∙ passed (phase-right (d .before .before)) (element-right d) _) _ _
 
 small : (c : tie.Else5) → let d = c .before .before .before .before in let a = d .before .before .before .before in a .before .before .args .element < q
-small c = let d = c .before .before .before .before in fit (d .before .before) .small
+small c = let d = c .before .before .before .before in fits sixteen _ _ _ _ _ (element-right (d .before .before)) .small
 
 cast-held-as : tie.Need-cast-held-as
 cast-held-as c = omega (arith, small c)
@@ -119,11 +111,7 @@ element-write-reply c = search needs
 returns-6 : tie.Need-returns-6
 unfolding reply-refusal reply-left
 returns-6 c =
-    let g = c .before in
-    let f = g .before .before in
-    let e = f .before .before in
-    let s = at-slot (e .before) in
-    let d = e .before .before in
+    let g = c .before in let f = g .before .before in let e = f .before .before in let s = at-slot (e .before) in let d = e .before .before in
     array-taken (sym (unless-held (is-free s (array d) (g .if5 .left)) 13) ∙ test-passed (survives f) 14 _ ∙ test-passed (within s (e .if3 .left)) 8 _
     ∙ passed (phase-right (d .before .before)) (element-right d) _) (ap₂ (λ (n x : ℕ). set (array d) n x) s (c .held-as .ensures)) (array d)
 
