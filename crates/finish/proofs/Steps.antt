@@ -60,12 +60,9 @@ module _ (A : Arithmetic) (L : Laws A most-users most-threshold) where
     unfolding finish-refusal refusal view
     finish-same = then-same refl (λ g. then-taken (unless-held (w .well .good (replies _ g .0)) 15) _) ∙ sym (then-assoc _ _ _)
 
-    totals-long : length sums ≡ places p
-    unfolding totals-by totals view
-    totals-long = map-span-length _ (places p) 0
-
     whole : take (places p) (padded most-places sums) ≡ sums
-    whole = subst (λ (n : ℕ). take n (padded most-places sums) ≡ sums) totals-long (padded-take most-places sums)
+    unfolding totals-by totals view
+    whole = subst (λ (n : ℕ). take n (padded most-places sums) ≡ sums) (map-span-length _ (places p) 0) (padded-take most-places sums)
 
     whole-answer : (n : ℕ) → n ≡ 0 → finish-answer A L n s .totals ≡ padded most-places (take (places p) (finish-answer A L n s .totals))
     unfolding finish-answer

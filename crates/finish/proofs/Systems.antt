@@ -74,18 +74,18 @@ module _ (A : Arithmetic) (L : Laws A most-users most-threshold) (plan : code.Pl
   p = plan-of plan
 
   pub system-few : s .users .count ≤ most-users
-  system-few = listed-few p r (h .good .users-high) (s .users .list) (s .users .count) (h .listed .list-right) (h .listed .count-right)
+  system-few = listed-few p r (h .good .users-high) _ _ (h .listed .list-right) (h .listed .count-right)
 
   pub system-many : plan .threshold ≤ s .users .count
   system-many = omega (arith, enough-rows p r (h .good) (h .enough), h .listed .count-right)
 
   pub system-points : Points most-users (s .users .count) (s .users .list)
-  system-points = listed-points p r (h .good .users-high) (s .users .list) (s .users .count) (h .listed .list-right) (h .listed .count-right)
+  system-points = listed-points p r (h .good .users-high) _ _ (h .listed .list-right) (h .listed .count-right)
 
   user-at : (a : ℕ) → a < length (users-in p r) → getD (s .users .list) a 0 ≡ getD (users-in p r) a 0
   user-at a l =
-      listed-at p r (h .good .users-high) (s .users .list) (s .users .count) (h .listed .list-right) (h .listed .count-right) a
-      (omega (arith, h .listed .count-right))
+      let k : a < s .users .count = omega (arith, h .listed .count-right) in
+      listed-at p r (h .good .users-high) _ _ (h .listed .list-right) (h .listed .count-right) a k
 
   pub system-ready : (cs : List ℕ) → cs ≡ columns → Weighted A L (s .users .list) cs (s .alpha) (s .beta) (plan .threshold)
   system-ready cs e =
@@ -106,14 +106,11 @@ module _ (A : Arithmetic) (L : Laws A most-users most-threshold) (plan : code.Pl
     abbrev solved : (block at : ℕ) → ℕ
     solved b = unknown-at A L (rows-of p r) columns (values-of p r y b) n
 
-    reply-at : (a b : ℕ) → a < m → y (getD (s .users .list) a 0) b ≡ getD (values-of p r y b) a 0
-    reply-at a b l = ap (λ (k : ℕ). y k b) (user-at a l) ∙ sym (value-at p r y b a l)
-
     cell-at : (a b : ℕ) → a < m → b < plan .blocks → cell g a b ≡ getD (values-of p r y b) a 0
     cell-at a b l k =
         ap (λ (u : List ℕ). cell u a b) v
         ∙ reply-cell ys (s .users .list) (s .users .count) (plan .blocks) a b (omega (arith, h .listed .count-right)) k (h .good .blocks-high)
-        ∙ reply-at a b l
+        ∙ ap (λ (k : ℕ). y k b) (user-at a l) ∙ sym (value-at p r y b a l)
 
     unknown-cell : (i b : ℕ) → i < n → b < plan .blocks → cell ws i b ≡ solved b i
     unknown-cell i b l k =

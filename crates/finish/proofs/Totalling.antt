@@ -64,10 +64,7 @@ totals-same q p v xs rs sums ws k choice few e d s u =
     ap (padded most-places) (map-same _ _ (span (places p) 0) (λ i m.
     let l : i < p .blocks * items p = omega (arith, span-in (places p) 0 i m .1) in
     let some : 0 < items p = lt-of-mul-lt-mul-left (p .blocks) (omega (arith, mul-zero (p .blocks))) in
-    sym (mod-add-mod (getD sums i 0) q _) ∙ ap₂ (λ (x y : ℕ). modular q .subtract x y) (s .right i l ∙ first i)
+    sym (mod-add-mod (getD sums i 0) q _) ∙ ap₂ (λ (x y : ℕ). modular q .subtract x y) (s .right i l
+    ∙ ap₂ (λ (n : ℕ) (us : List ℕ). sum (modular q) (span n 0) (λ a. held-in most-places xs (getD us a 0) i)) d e
+    ∙ sym (sum-by-place (modular q) (λ j. held-in most-places xs j i) most-users (users-in p v)))
     (u (i % items p) (i / items p) (omega (arith, mod-lt i some)) (div-lt-iff-lt-mul {k = items p} {x = i} {y = p .blocks} some .1 l))))
-  where
-    first : (i : ℕ) → first-sum (modular q) xs rs k i ≡ sum (modular q) (users-in p v) (λ j. held-in most-places xs j i)
-    first i =
-        ap₂ (λ (n : ℕ) (us : List ℕ). sum (modular q) (span n 0) (λ a. held-in most-places xs (getD us a 0) i)) d e
-        ∙ sym (sum-by-place (modular q) (λ j. held-in most-places xs j i) most-users (users-in p v))

@@ -55,8 +55,7 @@ cast-sums c = search needs
 
 add-sums : tie.Need-add-sums Inv-loop μ-loop
 add-sums c =
-    let t = c .before .before .before in
-    let l = t .before .loop in
+    let t = c .before .before .before in let l = t .before .loop in
     omega (arith, old-at (l .i) (l .inv .0), t .before .before .pre .1 .low (l .i) (t .loop-test .taken))
 
 mul-sums-2 : tie.Need-mul-sums-2 Inv-loop μ-loop
@@ -73,8 +72,7 @@ loop-less c = search needs
 
 loop-again : tie.Need-loop-again Inv-loop μ-loop
 loop-again c =
-    let t = c .before .before .before in
-    let l = t .before .loop in
+    let t = c .before .before .before in let l = t .before .loop in
     let e = ap₂ (λ (x y : ℕ). x + y) (old-at (l .i) (l .inv .0)) (c .element-of .ensures) in
     (next (l .i) (t .loop-test .taken) e (l .inv .0), below-more _ (l .inv .1) (omega (arith, c .element-of .ensures)))
 

@@ -26,7 +26,7 @@ tested c = c .before .before .before .before
 
 -- ---- the needs
 system-of-requires : tie.Need-system-of-requires
-system-of-requires c κs = c .pre
+system-of-requires c κs = search needs
 
 the-columns-requires : tie.Need-the-columns-requires
 the-columns-requires c κs = search needs
@@ -53,15 +53,10 @@ all-elements-requires c κs = search needs
 
 returns : tie.Need-returns
 returns c =
-    let w = solved (c .before) in
-    let g = gathered (w .before) in
-    let k = pointed (g .before) in
-    let h = prepared k .system-of .ensures in
+    let w = solved (c .before) in let g = gathered (w .before) in let k = pointed (g .before) in let h = prepared k .system-of .ensures in
     let bad = sym (c .before .all-elements .ensures) ∙ not-true _ (c .if1 .taken) in
-    record {
-      fits-right = nothing-fits sixteen laws16 _ _ _ h _ _ _ _ (k .the-columns .ensures) (g .gather .ensures) (w .solve .ensures) bad;
-      unknowns-right = unknowns-right sixteen laws16 _ _ _ h _ _ _ _ (k .the-columns .ensures) (g .gather .ensures) (w .solve .ensures);
-    }
+    let fit = nothing-fits sixteen laws16 _ _ _ h _ _ _ _ (k .the-columns .ensures) (g .gather .ensures) (w .solve .ensures) bad in
+    record { fits-right = fit; unknowns-right = unknowns-right sixteen laws16 _ _ _ h _ _ _ _ (k .the-columns .ensures) (g .gather .ensures) (w .solve .ensures) }
 
 fits-requires : tie.Need-fits-requires
 fits-requires c κs =
@@ -72,16 +67,11 @@ fits-requires c κs =
 
 returns-2 : tie.Need-returns-2
 returns-2 c =
-    let t = tested (c .before) in
-    let w = solved (t .before) in
-    let g = gathered (w .before) in
-    let k = pointed (g .before) in
+    let t = tested (c .before) in let w = solved (t .before) in let g = gathered (w .before) in let k = pointed (g .before) in
     let h = prepared k .system-of .ensures in
     let ok = sym (t .before .all-elements .ensures) ∙ not-false _ (t .if1 .left) in
-    record {
-      fits-right = c .fits2 .ensures ∙ fits-right sixteen laws16 _ _ _ h _ _ _ _ (k .the-columns .ensures) (g .gather .ensures) (w .solve .ensures) ok;
-      unknowns-right = unknowns-right sixteen laws16 _ _ _ h _ _ _ _ (k .the-columns .ensures) (g .gather .ensures) (w .solve .ensures);
-    }
+    let fit = c .fits2 .ensures ∙ fits-right sixteen laws16 _ _ _ h _ _ _ _ (k .the-columns .ensures) (g .gather .ensures) (w .solve .ensures) ok in
+    record { fits-right = fit; unknowns-right = unknowns-right sixteen laws16 _ _ _ h _ _ _ _ (k .the-columns .ensures) (g .gather .ensures) (w .solve .ensures) }
 
 pub explain-spec : {M : Type 1} → statement M
 explain-spec =

@@ -14,7 +14,7 @@ no-totals-requires : tie.Need-no-totals-requires
 no-totals-requires c κs = search needs
 
 put-state-totals-requires : tie.Need-put-state-totals-requires
-put-state-totals-requires c κs = c .before .before .before .no-totals .ensures
+put-state-totals-requires c κs = search needs
 
 returns : tie.Need-returns
 returns c = answer-right sixteen laws16 _ _ (c .before .put-state-totals .ensures) (sym (after-refused (c .if1 .taken) _ _))

@@ -43,11 +43,9 @@ no-sums-requires : tie.Need-no-sums-requires Inv-loop μ-loop
 no-sums-requires c κs = search needs
 
 loop-holds : tie.Need-loop-holds Inv-loop μ-loop
-loop-holds c = (
-  omega arith,
-  rw (c .no-sums .ensures) (length-replicate {A = ℕ} most-places 0),
-  λ p h. rw (c .no-sums .ensures, zeros-at most-places p) (summing-start _ _ _),
-)
+loop-holds c =
+    let z = c .no-sums .ensures in
+    (omega arith, rw z (length-replicate {A = ℕ} most-places 0), λ p h. rw (z, zeros-at most-places p) (summing-start _ _ _))
 
 mul-row-start : tie.Need-mul-row-start Inv-loop μ-loop
 mul-row-start c = search needs
@@ -60,9 +58,7 @@ row-start-requires c κs = (user (c .before) .0, omega arith)
 
 add-first-requires : tie.Need-add-first-requires Inv-loop μ-loop
 add-first-requires c κs =
-    let t = c .before .before .before in
-    let l = t .before .loop in
-    let s = start t .pre in
+    let t = c .before .before .before in let l = t .before .loop in let s = start t .pre in
     let k = user t in (
       (s .1, omega (arith, k .0, k .1, s .1, c .before .row-start .ensures), l .inv .1),
       record { low = λ p m. omega (arith, l .inv .2 p m .small, t .loop-test .taken, s .0) },
@@ -76,10 +72,7 @@ loop-less c = search needs
 
 loop-again : tie.Need-loop-again Inv-loop μ-loop
 loop-again c =
-    let t = c .before .before .before .before in
-    let l = t .before .loop in
-    let k = user t in
-    let y = start t .args .first .now in
+    let t = c .before .before .before .before in let l = t .before .loop in let k = user t in let y = start t .args .first .now in
     let n = start t .args .places in
     let f : ℕ → ℕ = raised (l .sums) y (c .before .before .row-start .result) in
     let d = c .add-first .ensures .0 in (

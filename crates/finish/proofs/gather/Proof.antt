@@ -43,10 +43,7 @@ row-start-requires c κs = (user (c .before) .0, omega arith)
 
 put-held-requires : tie.Need-put-held-requires Inv-loop μ-loop
 put-held-requires c κs =
-    let t = c .before .before .before in
-    let k = user t in
-    let r = t .before .loop .inv in
-    let s = start t .pre in
+    let t = c .before .before .before in let k = user t in let r = t .before .loop .inv in let s = start t .pre in
     (s .1, omega (arith, r .place, t .loop-test .taken, s), omega (arith, k .0, k .1, s, c .before .row-start .ensures), rows-long _ _ _ _ _ (s .0) r)
 
 add-at : tie.Need-add-at Inv-loop μ-loop
@@ -60,10 +57,7 @@ loop-less c = search needs
 
 loop-again : tie.Need-loop-again Inv-loop μ-loop
 loop-again c =
-    let t = c .before .before .before .before in
-    let l = t .before .loop in
-    let k = user t in
-    let s = start t .pre in
+    let t = c .before .before .before .before in let l = t .before .loop in let k = user t in let s = start t .pre in
     let y = start t .args .reply .now in
     rows-more _ _ (l .i) _ _ _ _ _ (s .0) (s .1) (t .loop-test .taken) (λ b h.
     ap (λ (f : ℕ). getD y (f + b) 0 - 1) (c .before .before .row-start .ensures)

@@ -23,8 +23,7 @@ loop-holds c = rw (c .pre .1) (totalling-start _ _ _ _ _)
 
 put-block-totals-requires : tie.Need-put-block-totals-requires Inv-loop μ-loop
 put-block-totals-requires c κs =
-    let p = c .before .before .before .pre .0 in
-    let r = room (c .before) in
+    let p = c .before .before .before .pre .0 in let r = room (c .before) in
     (omega (arith, p .1), p .0, omega (arith, r, p .2), record { low = λ i h. p .3 .low i (omega (arith, r)) })
 
 add-at : tie.Need-add-at Inv-loop μ-loop

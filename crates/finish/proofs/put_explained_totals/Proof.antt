@@ -1,7 +1,6 @@
 -- `finish::put_explained_totals` meets its contract: what explains the replies is taken off the survivors' first elements.
 -- Assumes nothing.
-use mathlib.Core.Path.{refl, sym, _∙_, subst}
-use Prim.Native.Nat.{ℕ}
+use mathlib.Core.Path.{refl, sym, _∙_}
 use native.Mathlib.Omega.{arith}
 use borrow.Author.Needs.{needs}
 use borrow.Author.Tests.{not-true, not-false}
@@ -31,14 +30,11 @@ a-plan c = explained c .before .pre .0
 
 sums-right : (c : tie.After-first-sums) → let u = listed (c .before) in let a = explained u .before .args in
     First-sums q (a .first .now) (u .users-of .result .list) (u .users-of .result .count) (places (plan-of (a .plan))) (c .first-sums .result)
-sums-right c =
-    let u = listed (c .before) in
-    subst (λ (n : ℕ). First-sums q (explained u .before .args .first .now) (u .users-of .result .list) (u .users-of .result .count) n (c .first-sums .result))
-    (c .before .places-of .ensures .0) (c .first-sums .ensures)
+sums-right c = rw (← c .before .places-of .ensures .0) (c .first-sums .ensures)
 
 -- ---- the needs
 explain-requires : tie.Need-explain-requires
-explain-requires c κs = (c .pre .0, c .pre .1)
+explain-requires c κs = search needs
 
 returns : tie.Need-returns
 returns c =
@@ -79,10 +75,7 @@ put-all-totals-requires c κs =
 returns-2 : tie.Need-returns-2
 unfolding places items
 returns-2 c =
-    let t = summed (c .before) in
-    let u = listed (t .before) in
-    let l = u .users-of .ensures in
-    let e = explained u .explain .ensures in
+    let t = summed (c .before) in let u = listed (t .before) in let l = u .users-of .ensures in let e = explained u .explain .ensures in
     let same = totals-same q _ _ _ _ _ _ _ _ (omega arith) (l .list-right) (l .count-right) (sums-right t) (e .unknowns-right) in
     record {
       number-right = sym (unless-held (sym (e .fits-right) ∙ not-false _ (u .before .before .if1 .left)) 16);

@@ -90,17 +90,14 @@ complete-set-requires c κs =
 returns-3 : tie.Need-returns-3
 unfolding finish-refusal
 returns-3 c =
-    let d = c .before .before in
-    let t = past-plan-test d in
-    let e = past-phase-test t in
+    let d = c .before .before in let t = past-plan-test d in let e = past-phase-test t in
     let h : ones (state d .head .plan .users) (replied (view (state d))) < state d .head .plan .threshold = omega (arith, c .if3 .taken, counted d) in
     refused-right sixteen laws16 _ (λ z. omega arith)
     (test-refused (lt-leb _ _ h) _ _ ∙ two-passed (phase-right e) (unless-held (a-plan t) 15) _) (start e .pre)
 
 put-explained-totals-requires : tie.Need-put-explained-totals-requires
 put-explained-totals-requires c κs =
-    let d = c .before .before .before in
-    let r = passed (c .before) in
+    let d = c .before .before .before in let r = passed (c .before) in
     (good _ (r .good), omega (arith, r .many, ap (ones (state d .head .plan .users)) (whole d)), start (past-phase-test (past-plan-test d)) .pre)
 
 returns-4 : tie.Need-returns-4

@@ -44,8 +44,7 @@ loop-less c = search needs
 
 loop-again : tie.Need-loop-again Inv-loop μ-loop
 loop-again c =
-    let a = c .before .before .before .before in
-    let l = a .loop in
+    let a = c .before .before .before .before in let l = a .loop in
     listing-more-in _ _ (l .k) (l .list) (l .count) (l .inv) (a .before .pre) (c .before .before .if1 .taken)
     (sym (c .before .holds .ensures) ∙ c .if2 .taken)
 
