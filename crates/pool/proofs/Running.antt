@@ -168,16 +168,13 @@ record-short k =
 pub made-sound : {n k : ℕ} {l : Live} {b out : List ℕ} → Made n k l b → room ≤ n → length out ≡ n → longest ≤ length b → Sound l b out
 unfolding Run-right Stands Unfinished
 made-sound {n} {k} {l} {b} {out} m big e h =
-    record { have = omega (arith, long, length-take (l .have) b); space = λ x. few (decLe 1 (length w)) (unfinished x .0); line = omega arith }
+    record { have = omega (arith, ap length (m .front), counted, length-take (l .have) b); space = λ x. few (decLe 1 (length w)) (unfinished x .0); line = omega arith }
   where
     w : List ℕ
     w = m .turn .waiting
 
     counted : l .have ≡ length w
     counted = ap (λ (q : Live). q .have) (m .result)
-
-    long : length (take (l .have) b) ≡ l .have
-    long = ap length (m .front) ∙ sym counted
 
     right : So-far (m .turn) (m .read) (m .written)
     right = run-right n k (m .read) (m .written) (m .turn) big (m .turns)

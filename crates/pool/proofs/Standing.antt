@@ -86,9 +86,6 @@ module _ (u : List ℕ) (whole : all-taken (items 0 u) ≡ true) where
     unfolding Fed-right
     says = fed-right (behind u) b (length u) n
 
-    left-long : length (drop at b) ≡ length b - at
-    left-long = length-drop at b
-
     left-first : getD (drop at b) 0 0 ≡ getD b at 0
     left-first = getD-drop at b 0 0 ∙ ap (λ (i : ℕ). getD b i 0) (add-zero at)
 
@@ -98,11 +95,11 @@ module _ (u : List ℕ) (whole : all-taken (items 0 u) ≡ true) where
     stopped : (x : Stop) → Stops x b (length u) n at (fed (behind u) b (length u) n .wrote) → (w : List ℕ) → w ≡ said (u ++ take at b)
         → Stands (comes x) (u ++ take at b) (drop at b) w
     unfolding Stops Stands Broken Unfinished Ends
-    stopped Used y w e = (λ h. absurd (omega (arith, left-long)), e)
-    stopped Unknown y w e = ((omega (arith, left-long), ap record-length left-first ∙ y .1), e)
-    stopped Partial y w e = (λ h. rw left-first (omega (arith, left-long)), e)
+    stopped Used y w e = (λ h. absurd (omega (arith, length-drop at b)), e)
+    stopped Unknown y w e = ((omega (arith, length-drop at b), ap record-length left-first ∙ y .1), e)
+    stopped Partial y w e = (λ h. rw left-first (omega (arith, length-drop at b)), e)
     stopped Full y w e = e
-    stopped Far y w e = (omega (arith, left-long, used-long, says .inside), e)
+    stopped Far y w e = (omega (arith, length-drop at b, used-long, says .inside), e)
 
     fed-so-far : (w : List ℕ) → w ≡ said u → So-far (fed-turn n (behind u) b (length u)) (u ++ b) (w ++ fed-turn n (behind u) b (length u) .text)
     unfolding fed-turn
