@@ -168,7 +168,8 @@ record-short k =
 pub made-sound : {n k : ℕ} {l : Live} {b out : List ℕ} → Made n k l b → room ≤ n → length out ≡ n → longest ≤ length b → Sound l b out
 unfolding Run-right Stands Unfinished
 made-sound {n} {k} {l} {b} {out} m big e h =
-    record { have = omega (arith, ap length (m .front), counted, length-take (l .have) b); space = λ x. few (decLe 1 (length w)) (unfinished x .0); line = omega arith }
+    let inside : l .have ≤ length b = omega (arith, ap length (m .front), counted, length-take (l .have) b) in
+    record { have = inside; space = λ x. few (decLe 1 (length w)) (unfinished x .0); line = omega arith }
   where
     w : List ℕ
     w = m .turn .waiting

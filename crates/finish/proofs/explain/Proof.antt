@@ -56,7 +56,8 @@ returns c =
     let w = solved (c .before) in let g = gathered (w .before) in let k = pointed (g .before) in let h = prepared k .system-of .ensures in
     let bad = sym (c .before .all-elements .ensures) ∙ not-true _ (c .if1 .taken) in
     let fit = nothing-fits sixteen laws16 _ _ _ h _ _ _ _ (k .the-columns .ensures) (g .gather .ensures) (w .solve .ensures) bad in
-    record { fits-right = fit; unknowns-right = unknowns-right sixteen laws16 _ _ _ h _ _ _ _ (k .the-columns .ensures) (g .gather .ensures) (w .solve .ensures) }
+    let told = unknowns-right sixteen laws16 _ _ _ h _ _ _ _ (k .the-columns .ensures) (g .gather .ensures) (w .solve .ensures) in
+    record { fits-right = fit; unknowns-right = told }
 
 fits-requires : tie.Need-fits-requires
 fits-requires c κs =
@@ -71,7 +72,8 @@ returns-2 c =
     let h = prepared k .system-of .ensures in
     let ok = sym (t .before .all-elements .ensures) ∙ not-false _ (t .if1 .left) in
     let fit = c .fits2 .ensures ∙ fits-right sixteen laws16 _ _ _ h _ _ _ _ (k .the-columns .ensures) (g .gather .ensures) (w .solve .ensures) ok in
-    record { fits-right = fit; unknowns-right = unknowns-right sixteen laws16 _ _ _ h _ _ _ _ (k .the-columns .ensures) (g .gather .ensures) (w .solve .ensures) }
+    let told = unknowns-right sixteen laws16 _ _ _ h _ _ _ _ (k .the-columns .ensures) (g .gather .ensures) (w .solve .ensures) in
+    record { fits-right = fit; unknowns-right = told }
 
 pub explain-spec : {M : Type 1} → statement M
 explain-spec =

@@ -39,10 +39,8 @@ explain-requires c κs = search needs
 returns : tie.Need-returns
 returns c =
     let e = c .before .before in
-    record {
-      number-right = sym (unless-failed (sym (e .explain .ensures .fits-right) ∙ not-true _ (c .if1 .taken)) 16);
-      totals-right = e .before .pre .2 ∙ sym (after-refused (λ z. omega arith) _ _);
-    }
+    let bad = sym (e .explain .ensures .fits-right) ∙ not-true _ (c .if1 .taken) in
+    record { number-right = sym (unless-failed bad 16); totals-right = e .before .pre .2 ∙ sym (after-refused (λ z. omega arith) _ _) }
 
 users-of-requires : tie.Need-users-of-requires
 users-of-requires c κs = c .before .before .before .before .pre .0 .users-high
@@ -77,10 +75,8 @@ unfolding places items
 returns-2 c =
     let t = summed (c .before) in let u = listed (t .before) in let l = u .users-of .ensures in let e = explained u .explain .ensures in
     let same = totals-same q _ _ _ _ _ _ _ _ (omega arith) (l .list-right) (l .count-right) (sums-right t) (e .unknowns-right) in
-    record {
-      number-right = sym (unless-held (sym (e .fits-right) ∙ not-false _ (u .before .before .if1 .left)) 16);
-      totals-right = c .put-all-totals .ensures ∙ same ∙ sym (after-taken refl _ _);
-    }
+    let fit = sym (e .fits-right) ∙ not-false _ (u .before .before .if1 .left) in
+    record { number-right = sym (unless-held fit 16); totals-right = c .put-all-totals .ensures ∙ same ∙ sym (after-taken refl _ _) }
 
 pub put-explained-totals-spec : {M : Type 1} → statement M
 put-explained-totals-spec =
