@@ -3,7 +3,7 @@
 --   refused-right                    the number and the totals of a refusal
 --   answer-right                     the number and the totals, with the state
 --   finish-refuses, finish-kept      a refused finish
---   passed-refusal, totalled-right   past the tests, 16 or 0; and the number and the totals are those of the complete replies
+--   totalled-right                   past the tests, the number, 16 or 0, and the totals are those of the complete replies
 -- Assumes nothing.
 use mathlib.Core.Path.{_≡_, refl, sym, ap, _∙_, subst}
 use mathlib.Core.List.{List}
@@ -12,7 +12,7 @@ use Prim.Native.Nat.{ℕ, _≤_}
 use lib.ListN.{replicate}
 use borrow.Author.Tests.{le-leb}
 use Rattle.scheme.specs.Limits.{most-users, most-threshold, most-places}
-use Rattle.scheme.specs.Scheme.{Arithmetic, plan-good, ones, unless, after}
+use Rattle.scheme.specs.Scheme.{Arithmetic, plan-good, ones, after}
 use Rattle.scheme.specs.Laws.{Laws}
 use Rattle.scheme.specs.Service.{not-replying, replied, explained-by, totals-by}
 use Rattle.scheme.proofs.Refusals.{then-taken, unless-held, after-refused}
@@ -48,14 +48,10 @@ module _ (A : Arithmetic) (L : Laws A most-users most-threshold) where
     finish-kept h = after-refused h _ _
 
     module _ (r : Passed s) where
-      passed-refusal : finish-refusal A L s ≡ unless (explained-by A (view s) (choice A L s)) 16
-      unfolding finish-refusal
-      passed-refusal =
-          then-taken (r .replying) _ ∙ then-taken (unless-held (r .good) 15) _ ∙ then-taken (unless-held (le-leb _ _ (r .many)) 15) _
-
       pub totalled-right : (v n : ℕ) (out : List ℕ) → v ≡ replied (view s)
           → Totalled A L (plan-of (s .head .plan)) v (s .head .survivors) (s .first) (s .reply) n out → Answered A L s n out
-      unfolding explained-by totals-by choice view finish-answer
+      unfolding explained-by totals-by choice view finish-answer finish-refusal
       totalled-right v n out e h =
           let t = subst (λ (w : ℕ). Totalled A L (plan-of (s .head .plan)) w (s .head .survivors) (s .first) (s .reply) n out) e h in
-          record { number-right = t .number-right ∙ sym passed-refusal; totals-right = t .totals-right }
+          let past = then-taken (r .replying) _ ∙ then-taken (unless-held (r .good) 15) _ ∙ then-taken (unless-held (le-leb _ _ (r .many)) 15) _ in
+          record { number-right = t .number-right ∙ sym past; totals-right = t .totals-right }

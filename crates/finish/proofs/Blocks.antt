@@ -15,7 +15,6 @@ use lib.Dec.{eqb}
 use lib.ListN.{length, getD, take, length-map}
 use lib.Seq.{take-at}
 use borrow.Author.Tests.{eqb-true}
-use Rattle.algebra.specs.Sums.{Distinct}
 use Rattle.scheme.specs.Limits.{most-users, most-threshold}
 use Rattle.scheme.specs.Lists.{span, all-of, padded, filled}
 use Rattle.scheme.specs.Scheme.{Arithmetic, Plan, ones, users-in, in-set}
@@ -49,10 +48,6 @@ pub users-few : (p : Plan) (v : ℕ) → length (users-in p v) ≤ p .users
 unfolding users-in
 users-few p v = members-le (in-set v) (p .users) 1
 
-users-once : (p : Plan) (v : ℕ) → Distinct (users-in p v)
-unfolding users-in
-users-once p v = members-once (in-set v) (p .users) 1
-
 row-at : (p : Plan) (v a : ℕ) → a < length (users-in p v) → getD (rows-of p v) a 0 ≡ getD (users-in p v) a 0
 unfolding rows-of
 row-at p v = padded-at most-users (users-in p v)
@@ -60,9 +55,10 @@ row-at p v = padded-at most-users (users-in p v)
 -- what a list of users gives
 module _ (p : Plan) (v : ℕ) (h : p .users ≤ most-users) where
   rows-points : Points most-users (length (users-in p v)) (rows-of p v)
+  unfolding users-in
   rows-points = record {
     inside = λ i l. let x = users-in-in p v _ (in-at (users-in p v) i l) in rw (row-at p v i l) (x .0, omega (arith, x .1));
-    apart = λ i k a b ne e. at-apart (users-in p v) (users-once p v) i k a b ne (sym (row-at p v i a) ∙ e ∙ row-at p v k b);
+    apart = λ i k a b ne e. at-apart (users-in p v) (members-once (in-set v) (p .users) 1) i k a b ne (sym (row-at p v i a) ∙ e ∙ row-at p v k b);
   }
 
   module _ (rs : List ℕ) (m : ℕ) (e : rs ≡ rows-of p v) (d : m ≡ length (users-in p v)) where
@@ -106,13 +102,7 @@ module _ (A : Arithmetic) (L : Laws A most-users most-threshold) (p : Plan) (r :
       (row-value-small A most-users most-threshold L (p .threshold) (getD (users-in p r) a 0) (unknown (f b)))
 
   module _ (good : Good p) (many : p .threshold ≤ ones (p .users) r) (y : (k block : ℕ) → ℕ) (b : ℕ) where
-    abbrev m : ℕ
-    m = length (users-in p r)
-
-    abbrev solved : List ℕ
-    solved = solution-of A L (rows-of p r) columns (values-of p r y b) (p .threshold)
-
-    choice-take : take (p .threshold) solved ≡ choice-of A L p r y b
+    choice-take : take (p .threshold) (solution-of A L (rows-of p r) columns (values-of p r y b) (p .threshold)) ≡ choice-of A L p r y b
     unfolding solution-of filled choice-of padded
     choice-take = take-at _ _ (p .threshold) (map-span-length _ (p .threshold) 0)
 
@@ -125,7 +115,7 @@ module _ (A : Arithmetic) (L : Laws A most-users most-threshold) (p : Plan) (r :
         (p .threshold) (length (users-in p r))
 
     module _ (small : (a : ℕ) → a < length (users-in p r) → getD (values-of p r y b) a 0 < A .size) where
-      block : Block A p (users-in p r) m (λ k. y k b) (rows-of p r) columns (values-of p r y b)
+      block : Block A p (users-in p r) (length (users-in p r)) (λ k. y k b) (rows-of p r) columns (values-of p r y b)
       block = record {
         many = enough-rows p r good many;
         columns = λ i h. column-at i (omega (arith, good .threshold-high, good .users-high));
@@ -134,14 +124,11 @@ module _ (A : Arithmetic) (L : Laws A most-users most-threshold) (p : Plan) (r :
         small = small;
       }
 
-      square : Square (rows-of p r) columns (p .threshold)
-      square = rows-square p r good many
-
       pub choice-first : Explains (p .threshold) (choice-of A L p r y b)
-      choice-first = subst (Explains (p .threshold)) choice-take (explains-first A L _ _ _ _ _ _ _ block square)
+      choice-first = subst (Explains (p .threshold)) choice-take (explains-first A L _ _ _ _ _ _ _ block (rows-square p r good many))
 
       pub explains-further : further-fit ≡ true → Explains (length (users-in p r)) (choice-of A L p r y b)
-      explains-further e = subst (Explains m) choice-take (fits-explains A L _ _ _ _ _ _ _ block square e)
+      explains-further e = subst (Explains _) choice-take (fits-explains A L _ _ _ _ _ _ _ block (rows-square p r good many) e)
 
       pub fits-further : Explains (length (users-in p r)) (choice-of A L p r y b) → further-fit ≡ true
-      fits-further e = explains-fits A L _ _ _ _ _ _ _ block square (subst (Explains m) (sym choice-take) e)
+      fits-further e = explains-fits A L _ _ _ _ _ _ _ block (rows-square p r good many) (subst (Explains _) (sym choice-take) e)

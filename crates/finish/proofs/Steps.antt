@@ -41,8 +41,7 @@ use Rattle.finish.proofs.Answers.{finish-refuses, Passed}
 -- where the state is idle nothing is held
 finished-view : (s : Service) → view (finished (s .head)) ≡ idle-state (view s)
 unfolding view finished phase-of idle-state nothing-first nothing-reply
-finished-view s =
-    state-same (λ k i. look-nothing most-places firsts k i) (λ k b. look-nothing most-blocks cells k b)
+finished-view s = state-same (λ k i. look-nothing most-places firsts k i) (λ k b. look-nothing most-blocks cells k b)
 
 told-totalled : (n r : ℕ) (l m : List ℕ) → told n (totalled r l) ≡ totalled r m → (n ≡ 0) × (l ≡ m)
 unfolding told after
@@ -61,12 +60,9 @@ module _ (A : Arithmetic) (L : Laws A most-users most-threshold) where
     unfolding finish-refusal refusal view
     finish-same = then-same refl (λ g. then-taken (unless-held (w .well .good (replies _ g .0)) 15) _) ∙ sym (then-assoc _ _ _)
 
-    totals-long : length sums ≡ places p
-    unfolding totals-by totals view
-    totals-long = map-span-length _ (places p) 0
-
     whole : take (places p) (padded most-places sums) ≡ sums
-    whole = subst (λ (n : ℕ). take n (padded most-places sums) ≡ sums) totals-long (padded-take most-places sums)
+    unfolding totals-by totals view
+    whole = subst (λ (n : ℕ). take n (padded most-places sums) ≡ sums) (map-span-length _ (places p) 0) (padded-take most-places sums)
 
     whole-answer : (n : ℕ) → n ≡ 0 → finish-answer A L n s .totals ≡ padded most-places (take (places p) (finish-answer A L n s .totals))
     unfolding finish-answer
@@ -75,9 +71,7 @@ module _ (A : Arithmetic) (L : Laws A most-users most-threshold) where
     module _ (e : refusal A finish-record (view s) ≡ 0) where
       passed : Passed s
       unfolding view refusal
-      passed =
-          let g = then-zero _ _ e .0 in
-          record { replying = g; good = w .well .good (replies _ g .0); many = finishing A (view s) e .many }
+      passed = let g = then-zero _ _ e .0 in record { replying = g; good = w .well .good (replies _ g .0); many = finishing A (view s) e .many }
 
       choice-explains : (f : (block : ℕ) → List ℕ) → explained-by A (view s) f ≡ true → explained-by A (view s) (choice A L s) ≡ true
       unfolding explained-by choice view

@@ -74,18 +74,18 @@ module _ (A : Arithmetic) (L : Laws A most-users most-threshold) (plan : code.Pl
   p = plan-of plan
 
   pub system-few : s .users .count ≤ most-users
-  system-few = listed-few p r (h .good .users-high) (s .users .list) (s .users .count) (h .listed .list-right) (h .listed .count-right)
+  system-few = listed-few p r (h .good .users-high) _ _ (h .listed .list-right) (h .listed .count-right)
 
   pub system-many : plan .threshold ≤ s .users .count
   system-many = omega (arith, enough-rows p r (h .good) (h .enough), h .listed .count-right)
 
   pub system-points : Points most-users (s .users .count) (s .users .list)
-  system-points = listed-points p r (h .good .users-high) (s .users .list) (s .users .count) (h .listed .list-right) (h .listed .count-right)
+  system-points = listed-points p r (h .good .users-high) _ _ (h .listed .list-right) (h .listed .count-right)
 
   user-at : (a : ℕ) → a < length (users-in p r) → getD (s .users .list) a 0 ≡ getD (users-in p r) a 0
   user-at a l =
-      listed-at p r (h .good .users-high) (s .users .list) (s .users .count) (h .listed .list-right) (h .listed .count-right) a
-      (omega (arith, h .listed .count-right))
+      let k : a < s .users .count = omega (arith, h .listed .count-right) in
+      listed-at p r (h .good .users-high) _ _ (h .listed .list-right) (h .listed .count-right) a k
 
   pub system-ready : (cs : List ℕ) → cs ≡ columns → Weighted A L (s .users .list) cs (s .alpha) (s .beta) (plan .threshold)
   system-ready cs e =
@@ -106,20 +106,16 @@ module _ (A : Arithmetic) (L : Laws A most-users most-threshold) (plan : code.Pl
     abbrev solved : (block at : ℕ) → ℕ
     solved b = unknown-at A L (rows-of p r) columns (values-of p r y b) n
 
-    reply-at : (a b : ℕ) → a < m → y (getD (s .users .list) a 0) b ≡ getD (values-of p r y b) a 0
-    reply-at a b l = ap (λ (k : ℕ). y k b) (user-at a l) ∙ sym (value-at p r y b a l)
-
     cell-at : (a b : ℕ) → a < m → b < plan .blocks → cell g a b ≡ getD (values-of p r y b) a 0
     cell-at a b l k =
         ap (λ (u : List ℕ). cell u a b) v
         ∙ reply-cell ys (s .users .list) (s .users .count) (plan .blocks) a b (omega (arith, h .listed .count-right)) k (h .good .blocks-high)
-        ∙ reply-at a b l
+        ∙ ap (λ (k : ℕ). y k b) (user-at a l) ∙ sym (value-at p r y b a l)
 
     unknown-cell : (i b : ℕ) → i < n → b < plan .blocks → cell ws i b ≡ solved b i
     unknown-cell i b l k =
         ap (λ (u : List ℕ). cell u i b) x ∙ unknowns-at A L _ cs n g i b l (omega (arith, h .good .blocks-high))
-        ∙ ap₂ (λ (rs cs : List ℕ). unknown-at A L rs cs (block g b) n i) (h .listed .list-right) c
-        ∙ unknown-same A L _ _ n _ _ i (λ a few.
+        ∙ ap₂ (λ (rs cs : List ℕ). unknown-at A L rs cs (block g b) n i) (h .listed .list-right) c ∙ unknown-same A L _ _ n _ _ i (λ a few.
         let in-set : a < m = omega (arith, enough-rows p r (h .good) (h .enough)) in
         block-at g b a (omega (arith, users-few p r, h .good .users-high)) ∙ cell-at a b in-set k)
 
@@ -134,8 +130,7 @@ module _ (A : Arithmetic) (L : Laws A most-users most-threshold) (plan : code.Pl
     tested : (a b : ℕ) → a < m → b < plan .blocks → eqb (dot-of A (getD (s .users .list) a 0) cs (block ws b) n) (cell g a b) ≡ passes a b
     unfolding solution-of
     tested a b l k =
-        ap₂ eqb
-        (ap₂ (λ (rs cs : List ℕ). dot-of A (getD rs a 0) cs (block ws b) n) (h .listed .list-right) c
+        ap₂ eqb (ap₂ (λ (rs cs : List ℕ). dot-of A (getD rs a 0) cs (block ws b) n) (h .listed .list-right) c
         ∙ dot-same A (getD (rows-of p r) a 0) columns _ _ n (λ i few.
         block-at ws b i (omega (arith, rows-square p r (h .good) (h .enough) .few)) ∙ unknown-cell i b few k ∙ sym (filled-at most-users _ n i few)))
         (cell-at a b l k)
@@ -149,9 +144,7 @@ module _ (A : Arithmetic) (L : Laws A most-users most-threshold) (plan : code.Pl
         let bs : List ℕ = span (plan .blocks) 0 in
         ap (λ (k : ℕ). all-of (row-fits A (s .users .list) cs g ws n (plan .blocks)) (span (k - n) n)) (h .listed .count-right)
         ∙ all-of-same _ _ ks (λ a i. all-of-same _ _ bs (λ b j. tested a b (omega (arith, span-in (m - n) n a i)) (block-in b j)))
-        ∙ all-swap passes ks bs
-        ∙ same-test _ _
-        (λ e. explained-back A p r y (choice-of A L p r y) (λ b k.
+        ∙ all-swap passes ks bs ∙ same-test _ _ (λ e. explained-back A p r y (choice-of A L p r y) (λ b k.
         explains-further A L p r (h .good) (h .enough) y b (small b k) (all-of-in _ bs e b (in-span (plan .blocks) 0 b (omega arith) (omega arith)))))
         (λ e. at-all-of _ bs (λ j l.
         let k = block-in (getD bs j 0) (in-at bs j l) in
@@ -167,7 +160,6 @@ module _ (A : Arithmetic) (L : Laws A most-users most-threshold) (plan : code.Pl
     -- a reply that is no element
     pub nothing-fits : elements A g ≡ false → false ≡ explains-all A p r (held-in most-blocks ys) (choice-of A L p r (held-in most-blocks ys))
     nothing-fits bad =
-        sym (is-false _ (λ d.
-        holds (sym bad ∙ ap (elements A) v ∙ grid-elements ys _ _ _ A (zero-small A most-users most-threshold L) (λ a b l k.
+        sym (is-false _ (λ d. holds (sym bad ∙ ap (elements A) v ∙ grid-elements ys _ _ _ A (zero-small A most-users most-threshold L) (λ a b l k.
         let in-list : a < m = omega (arith, h .listed .count-right) in
         subst (λ (u : ℕ). y u b < A .size) (sym (user-at a in-list)) (explained-small A L p r y _ d a b in-list k)))))

@@ -42,13 +42,11 @@ module _ (A : Arithmetic) (xs ws : List ℕ) (n m : ℕ) where
     totalling-more next few l e = record {
       inside = omega arith;
       place = omega (arith, s .place, suc-mul b n, ap (λ (k : ℕ). k * n) (add-one b));
-      written =
-          e ∙ ap (λ (o : List ℕ). sets o at (map (block-total A xs ws b at) (span n 0))) (s .written)
+      written = e ∙ ap (λ (o : List ℕ). sets o at (map (block-total A xs ws b at) (span n 0))) (s .written)
           ∙ filled-sets most-places (place-total A xs ws n) n at 0 (block-total A xs ws b at) (omega (arith, totalling-room l)) (λ j k.
           let hi : (at + j) / n ≡ b = ap (λ (i : ℕ). (i + j) / n) (s .place) ∙ high b j n k in
           let lo : (at + j) % n ≡ j = ap (λ (i : ℕ). (i + j) % n) (s .place) ∙ low b j n k in
-          ap (block-total A xs ws b at) (zero-add j)
-          ∙ ap (A .subtract (getD xs (at + j) 0)) (sym (ap₂ (λ (i c : ℕ). cell ws i c) lo hi)));
+          ap (block-total A xs ws b at) (zero-add j) ∙ ap (A .subtract (getD xs (at + j) 0)) (sym (ap₂ (λ (i c : ℕ). cell ws i c) lo hi)));
     }
 
     pub totalling-end : m ≤ b → out ≡ filled most-places (m * n) (place-total A xs ws n)
@@ -66,11 +64,7 @@ totals-same q p v xs rs sums ws k choice few e d s u =
     ap (padded most-places) (map-same _ _ (span (places p) 0) (λ i m.
     let l : i < p .blocks * items p = omega (arith, span-in (places p) 0 i m .1) in
     let some : 0 < items p = lt-of-mul-lt-mul-left (p .blocks) (omega (arith, mul-zero (p .blocks))) in
-    sym (mod-add-mod (getD sums i 0) q _)
-    ∙ ap₂ (λ (x y : ℕ). modular q .subtract x y) (s .right i l ∙ first i)
+    sym (mod-add-mod (getD sums i 0) q _) ∙ ap₂ (λ (x y : ℕ). modular q .subtract x y) (s .right i l
+    ∙ ap₂ (λ (n : ℕ) (us : List ℕ). sum (modular q) (span n 0) (λ a. held-in most-places xs (getD us a 0) i)) d e
+    ∙ sym (sum-by-place (modular q) (λ j. held-in most-places xs j i) most-users (users-in p v)))
     (u (i % items p) (i / items p) (omega (arith, mod-lt i some)) (div-lt-iff-lt-mul {k = items p} {x = i} {y = p .blocks} some .1 l))))
-  where
-    first : (i : ℕ) → first-sum (modular q) xs rs k i ≡ sum (modular q) (users-in p v) (λ j. held-in most-places xs j i)
-    first i =
-        ap₂ (λ (n : ℕ) (us : List ℕ). sum (modular q) (span n 0) (λ a. held-in most-places xs (getD us a 0) i)) d e
-        ∙ sym (sum-by-place (modular q) (λ j. held-in most-places xs j i) most-users (users-in p v))

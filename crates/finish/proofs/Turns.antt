@@ -42,8 +42,7 @@ module _ (t : ℕ → Bool) (n : ℕ) where
           inside = omega arith;
           few = omega (arith, s .few);
           counted = omega (arith, s .counted, ap length m, length-append (members t k 1) ((k + 1) ∷ []));
-          written =
-              ap (λ (o : List ℕ). set o count (k + 1)) (s .written)
+          written = ap (λ (o : List ℕ). set o count (k + 1)) (s .written)
               ∙ padded-next most-users (members t k 1) (k + 1) count (sym (s .counted)) (omega (arith, s .few)) ∙ ap (padded most-users) (sym m);
         }
 

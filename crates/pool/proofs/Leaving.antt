@@ -56,18 +56,14 @@ module _ (b b′ : List ℕ) (have : ℕ) (r : Read) (g : Fills b b′ have r) (
           → (have < n) × (n ≤ length b)
       pick true true d x = let z : _≡_ {A = ℕ} 0 1 = cc in absurd (omega arith)
       pick true false d x = let z : _≡_ {A = ℕ} 0 1 = cc in absurd (omega arith)
-      pick false y (yes d) x =
-          let u : End ≡ Bytes n = rw (eq-eqb count 0 d) at x in
-          let z : _≡_ {A = ℕ} 0 1 = cc in
-          absurd (omega arith)
+      pick false y (yes d) x = let u : End ≡ Bytes n = rw (eq-eqb count 0 d) at x in let z : _≡_ {A = ℕ} 0 1 = cc in absurd (omega arith)
       pick false y (no d) x =
           let u : Bytes (have + count) ≡ Bytes n = rw (ne-eqb count 0 d) at x in
           let k : have + count ≡ n = cc in
           (omega (arith, d), omega (arith, g .inside, clamped-inside (g .got) (length b - have)))
 
 -- where none is due
-pub asked : (x y : Next) {b : List ℕ} {have : ℕ} → have ≤ length b → x ≡ y → Untouched y Again b b
-    → Fills b b have Again × Untouched x Again b b
+pub asked : (x y : Next) {b : List ℕ} {have : ℕ} → have ≤ length b → x ≡ y → Untouched y Again b b → Fills b b have Again × Untouched x Again b b
 unfolding read-as interrupted
 asked x y {b} h e u =
     (record { got = negsuc 0; error = pos eintr; front = refl; inside = h; moved = refl; result = refl }, subst (λ (z : Next). Untouched z Again b b) (sym e) u)
@@ -117,8 +113,7 @@ module _ (s : Service) (b : List ℕ) (n o m : ℕ) (f : Fed) (h : n ≤ length 
   unfolding fed-turn
   fed-leaves b′ out out′ have x l w k d y =
       let r : Live = record { service = f .service; have = have; offset = o + f .at; next = x; wrote = f .wrote } in
-      subst (λ (g : Fed). Leaves (turn-of s (take n b) o g) b b′ out out′ r) e
-      (record {
+      subst (λ (g : Fed). Leaves (turn-of s (take n b) o g) b b′ out out′ r) e (record {
         result = λ i. record { service = f .service; have = (k ∙ sym left-long) i; offset = o + f .at; next = y i; wrote = says .written i };
         input = d;
         output = w;
@@ -127,8 +122,7 @@ module _ (s : Service) (b : List ℕ) (n o m : ℕ) (f : Fed) (h : n ≤ length 
       })
 
 pub wrote-inside : {t : Turn} {b b′ out out′ : List ℕ} {r : Live} → Leaves t b b′ out out′ r → r .wrote ≤ length out′
-wrote-inside {t} {out = out} h =
-    omega (arith, ap (λ (l : Live). l .wrote) (h .result), h .fits, ap length (h .output), length-sets out 0 (t .text))
+wrote-inside {t} {out = out} h = omega (arith, ap (λ (l : Live). l .wrote) (h .result), h .fits, ap length (h .output), length-sets out 0 (t .text))
 
 -- ---- nothing to write; the line of refusal 7
 abbrev silent-of : Next → Live → (b : List ℕ) → Turn
@@ -173,8 +167,7 @@ module _ (l : Live) (b : List ℕ) (h : l .have ≤ length b) where
       pick (k ∷ c) w = refl
 
   pub seven-leaves : {out out′ : List ℕ} (y : Why) {wrote : ℕ} → room ≤ length out → wrote ≡ cut-length (l .offset) (length out)
-      → out′ ≡ cut-left (l .offset) out
-      → Leaves (step-of (length out) (Refuse y) again l b) b b out out′
+      → out′ ≡ cut-left (l .offset) out → Leaves (step-of (length out) (Refuse y) again l b) b b out out′
       (record { service = l .service; have = l .have; offset = l .offset; next = Over y; wrote = wrote })
   unfolding step-by cut-length cut-left
   seven-leaves {out} y fit e d =

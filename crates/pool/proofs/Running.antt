@@ -48,9 +48,7 @@ writes-from-inside {at} {n} {w} g = pick (ltZ (g .put) (pos 0)) (ℕ-discrete co
     pick : (f : Bool) → Dec (count ≡ 0) → w .at ≡ cond f (record { at = at; ok = interrupted (g .error) }) behind .at → w .at ≤ n
     pick true d x = omega (arith, x, g .inside)
     pick false (yes d) x = let u : w .at ≡ at = rw (eq-eqb count 0 d) at x in omega (arith, g .inside)
-    pick false (no d) x =
-        let u : w .at ≡ at + count = rw (ne-eqb count 0 d) at x in
-        omega (arith, g .inside, clamped-inside (g .put) (n - at))
+    pick false (no d) x = let u : w .at ≡ at + count = rw (ne-eqb count 0 d) at x in omega (arith, g .inside, clamped-inside (g .put) (n - at))
 
 pub written-more : {n k j i : ℕ} {w : Wrote} → Written n k i → Writes-from i n w → w .ok ≡ true → k + 1 ≡ j → Written n j (w .at)
 written-more {n} {w = w} h g o e = subst (λ (j : ℕ). Written n j (w .at)) e (goes-on _ _ w h g o)
@@ -134,25 +132,21 @@ made-more {n} {k} {j} {l} {r} {b} {b′} {out} {out′} m g e d =
     let c : Came = brought (g .read) (l .have) (g .got) in
     let t : Turn = m .turn in
     let x : l .next ≡ t .next = ap (λ (q : Live). q .next) (m .result) in
-    let same : stepped (length out) l (g .read) (g .got) ≡ step n c t =
-    ap (λ (i : ℕ). stepped i l (g .read) (g .got)) e
+    let same : stepped (length out) l (g .read) (g .got) ≡ step n c t = ap (λ (i : ℕ). stepped i l (g .read) (g .got)) e
     ∙ ap (λ (w : List ℕ). step-by n (l .next) c (l .service) w (l .offset)) (g .fills .front ∙ m .front)
     ∙ ap (λ (q : Live). step-by n (q .next) c (q .service) (t .waiting) (q .offset)) (m .result) in
     let long : r .have ≡ length (step n c t .waiting) =
     ap (λ (q : Live). q .have) (g .result) ∙ ap (λ (u : Turn). length (sent (g .put) u .waiting)) same
     ∙ ap length (sent-waiting (g .put) (step n c t)) in
-    subst (λ (i : ℕ). Made n i r b′) d
-    (record {
+    subst (λ (i : ℕ). Made n i r b′) d (record {
       read = _;
       written = _;
       turn = sent (g .put) (step n c t);
-      turns =
-          more k (m .read) (m .written) t c (g .put) (m .turns)
+      turns = more k (m .read) (m .written) t c (g .put) (m .turns)
           (subst (λ (y : Next). Due y c) x (untouched-due (l .next) (g .read) (l .have) b (g .got) (g .due)))
           (subst (λ (u : Turn). g .put ≤ length (u .text)) same (g .inside));
       result = g .result ∙ ap (λ (u : Turn). live-of (sent (g .put) u)) same;
-      front =
-          ap₂ (λ (i : ℕ) (w : List ℕ). take i w) long (g .input ∙ ap (λ (u : Turn). sets (g .got) 0 (u .waiting)) same)
+      front = ap₂ (λ (i : ℕ) (w : List ℕ). take i w) long (g .input ∙ ap (λ (u : Turn). sets (g .got) 0 (u .waiting)) same)
           ∙ front-sets (g .got) (step n c t .waiting) (subst (λ (u : Turn). length (u .waiting) ≤ length (g .got)) same (g .kept))
           ∙ sym (sent-waiting (g .put) (step n c t));
     })
@@ -168,25 +162,20 @@ both-short false h l = l
 record-short : (k : ℕ) → record-length k ≤ longest
 unfolding record-length
 record-short k =
-    both-short (eqb k 1) (omega arith)
-    (both-short (eqb k 2) (omega arith)
-    (both-short (eqb k 3) (omega arith)
-    (both-short (eqb k 4) (omega arith)
+    both-short (eqb k 1) (omega arith) (both-short (eqb k 2) (omega arith) (both-short (eqb k 3) (omega arith) (both-short (eqb k 4) (omega arith)
     (both-short (eqb k 5) (omega arith) (both-short (eqb k 6) (omega arith) (omega arith))))))
 
 pub made-sound : {n k : ℕ} {l : Live} {b out : List ℕ} → Made n k l b → room ≤ n → length out ≡ n → longest ≤ length b → Sound l b out
 unfolding Run-right Stands Unfinished
 made-sound {n} {k} {l} {b} {out} m big e h =
-    record { have = omega (arith, long, length-take (l .have) b); space = λ x. few (decLe 1 (length w)) (unfinished x .0); line = omega arith }
+    let inside : l .have ≤ length b = omega (arith, ap length (m .front), counted, length-take (l .have) b) in
+    record { have = inside; space = λ x. few (decLe 1 (length w)) (unfinished x .0); line = omega arith }
   where
     w : List ℕ
     w = m .turn .waiting
 
     counted : l .have ≡ length w
     counted = ap (λ (q : Live). q .have) (m .result)
-
-    long : length (take (l .have) b) ≡ l .have
-    long = ap length (m .front) ∙ sym counted
 
     right : So-far (m .turn) (m .read) (m .written)
     right = run-right n k (m .read) (m .written) (m .turn) big (m .turns)

@@ -86,9 +86,6 @@ module _ (u : List ℕ) (whole : all-taken (items 0 u) ≡ true) where
     unfolding Fed-right
     says = fed-right (behind u) b (length u) n
 
-    left-long : length (drop at b) ≡ length b - at
-    left-long = length-drop at b
-
     left-first : getD (drop at b) 0 0 ≡ getD b at 0
     left-first = getD-drop at b 0 0 ∙ ap (λ (i : ℕ). getD b i 0) (add-zero at)
 
@@ -98,11 +95,11 @@ module _ (u : List ℕ) (whole : all-taken (items 0 u) ≡ true) where
     stopped : (x : Stop) → Stops x b (length u) n at (fed (behind u) b (length u) n .wrote) → (w : List ℕ) → w ≡ said (u ++ take at b)
         → Stands (comes x) (u ++ take at b) (drop at b) w
     unfolding Stops Stands Broken Unfinished Ends
-    stopped Used y w e = (λ h. absurd (omega (arith, left-long)), e)
-    stopped Unknown y w e = ((omega (arith, left-long), ap record-length left-first ∙ y .1), e)
-    stopped Partial y w e = (λ h. rw left-first (omega (arith, left-long)), e)
+    stopped Used y w e = (λ h. absurd (omega (arith, length-drop at b)), e)
+    stopped Unknown y w e = ((omega (arith, length-drop at b), ap record-length left-first ∙ y .1), e)
+    stopped Partial y w e = (λ h. rw left-first (omega (arith, length-drop at b)), e)
     stopped Full y w e = e
-    stopped Far y w e = (omega (arith, left-long, used-long, says .inside), e)
+    stopped Far y w e = (omega (arith, length-drop at b, used-long, says .inside), e)
 
     fed-so-far : (w : List ℕ) → w ≡ said u → So-far (fed-turn n (behind u) b (length u)) (u ++ b) (w ++ fed-turn n (behind u) b (length u) .text)
     unfolding fed-turn
@@ -178,8 +175,7 @@ sent-so-far t read w i g h = pick (ℕ-discrete i (length (t .text)))
         (subst (λ (l : List ℕ). So-far t read (w ++ l)) (sym (ap (λ (k : ℕ). take k (t .text)) e ∙ take-all (length (t .text)) (t .text) (omega arith))) g)
     pick (no e) =
         let a = begins (g .used) (g .taken) (t .next) (t .waiting) (w ++ t .text) (g .stands) in
-        rw (ne-eqb i (length (t .text)) e)
-        (record {
+        rw (ne-eqb i (length (t .text)) e) (record {
           used = g .used;
           same = g .same;
           taken = g .taken;
@@ -187,9 +183,7 @@ sent-so-far t read w i g h = pick (ℕ-discrete i (length (t .text)))
           place = g .place;
           stands = (
             drop i (t .text) ++ a .0,
-            sym (append-assoc (w ++ take i (t .text)) (drop i (t .text)) (a .0))
-                ∙ ap (λ (l : List ℕ). l ++ a .0)
-                (append-assoc w (take i (t .text)) (drop i (t .text)) ∙ ap (λ (l : List ℕ). w ++ l) (take-append-drop i (t .text)))
-                ∙ a .1,
+            sym (append-assoc (w ++ take i (t .text)) (drop i (t .text)) (a .0)) ∙ ap (λ (l : List ℕ). l ++ a .0)
+                (append-assoc w (take i (t .text)) (drop i (t .text)) ∙ ap (λ (l : List ℕ). w ++ l) (take-append-drop i (t .text))) ∙ a .1,
           );
         })

@@ -47,9 +47,7 @@ module _ (t : ℕ → Bool) (users w : ℕ) where
   module _ {set bit start k : ℕ} (g : Completing t users w set bit start k) where
     pub completing-end : users ≤ k → set ≡ set-of t users 1
     unfolding set-of
-    completing-end h =
-        let e : users - k ≡ 0 = omega arith in
-        sym (add-zero set) ∙ (rw e at (g .total))
+    completing-end h = let e : users - k ≡ 0 = omega arith in sym (add-zero set) ∙ (rw e at (g .total))
 
     pub completing-bit : users ≤ most-users → k < users → bit ≤ 2 ^ most-threshold
     completing-bit few h = omega (arith, g .bits, pow-mono {i = k} {j = most-threshold} (omega arith))
@@ -59,10 +57,7 @@ module _ (t : ℕ → Bool) (users w : ℕ) where
 
     turn : k < users → set-of t (users - k) (k + 1) ≡ cond (t (k + 1)) bit 0 + set-of t (users - (k + 1)) (k + 1 + 1)
     unfolding set-of
-    turn h =
-        let e : users - k ≡ suc (users - (k + 1)) = omega arith in
-        let z : k + 1 - 1 ≡ k = omega arith in
-        rw (e, z, ← g .bits, add-one (k + 1))
+    turn h = let e : users - k ≡ suc (users - (k + 1)) = omega arith in let z : k + 1 - 1 ≡ k = omega arith in rw (e, z, ← g .bits, add-one (k + 1))
 
     pub completing-more : k < users → (b : Bool) → b ≡ t (k + 1) → Completing t users w (set + cond b bit 0) (bit * 2) (start + w) (k + 1)
     completing-more h b e =

@@ -55,14 +55,10 @@ module _ (A : Arithmetic) (s : Service) where
       good-plan = good _ (w .well .good planned)
 
       first-in : Fits A (s .head .plan .users) (places (plan-of (s .head .plan))) k i x → In-row most-places k i
-      first-in f =
-          let g = good-plan in
-          record { low = f .low; high = omega arith; place = omega (arith, places-le _ g) }
+      first-in f = let g = good-plan in record { low = f .low; high = omega arith; place = omega (arith, places-le _ g) }
 
       reply-in : Fits A (s .head .plan .users) (s .head .plan .blocks) k i x → In-row most-blocks k i
-      reply-in f =
-          let g = good-plan in
-          record { low = f .low; high = omega arith; place = omega arith }
+      reply-in f = let g = good-plan in record { low = f .low; high = omega arith; place = omega arith }
 
     pub first-same : (k i x : ℕ) → first-refusal A (s .head) (s .first) k i x ≡ refusal A (first-record k i x) (view s)
     unfolding first-refusal refusal view
@@ -93,13 +89,11 @@ reply-empty : (k b : ℕ) → look most-blocks nothing-reply k b ≡ none
 unfolding nothing-reply
 reply-empty k b = look-nothing most-blocks cells k b
 
-pub state-same :
-    {g : scheme.Phase} {p : basis.Plan} {r v : ℕ} {xs xs′ ys ys′ : (k at : ℕ) → Option ℕ} →
+pub state-same : {g : scheme.Phase} {p : basis.Plan} {r v : ℕ} {xs xs′ ys ys′ : (k at : ℕ) → Option ℕ} →
     ((k i : ℕ) → xs k i ≡ xs′ k i) → ((k b : ℕ) → ys k b ≡ ys′ k b) →
     _≡_ {A = scheme.State} (record { phase = g; plan = p; round = r; survivors = v; firsts = xs; replies = ys })
     (record { phase = g; plan = p; round = r; survivors = v; firsts = xs′; replies = ys′ })
-state-same {g} {p} {r} {v} e d = λ t.
-    record { phase = g; plan = p; round = r; survivors = v; firsts = λ k i. e k i t; replies = λ k b. d k b t }
+state-same {g} {p} {r} {v} e d = λ t. record { phase = g; plan = p; round = r; survivors = v; firsts = λ k i. e k i t; replies = λ k b. d k b t }
 
 pub new-view : view new-service ≡ scheme.new-state
 unfolding view new-service phase-of scheme.new-state

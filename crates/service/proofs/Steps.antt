@@ -49,17 +49,15 @@ module _ (A : Arithmetic) (r : Record) (s : Service) (w : Formed A s) where
     take a h e =
         record {
           step = rw (h .next) e;
-          formed =
-              record {
-                ready = h .ready;
-                first-length = h .first-length;
-                reply-length = h .reply-length;
-                well = rw (h .next) (steps-well A r (view s) _ a (w .well) e);
-              };
+          formed = record {
+            ready = h .ready;
+            first-length = h .first-length;
+            reply-length = h .reply-length;
+            well = rw (h .next) (steps-well A r (view s) _ a (w .well) e);
+          };
         }
 
-    steps :
-        (a : Answer) → is-finish r ≡ false → a ≡ answer-of r (view s) → (n : ℕ) {u : Service} → u ≡ after n t s → n ≡ refusal A r (view s) →
+    steps : (a : Answer) → is-finish r ≡ false → a ≡ answer-of r (view s) → (n : ℕ) {u : Service} → u ≡ after n t s → n ≡ refusal A r (view s) →
         (n ≡ 0 → Left) → Is-step A r s (told n a) u
     unfolding told after
     steps a kind answer zero d e h = rw d (take a (h refl) (rw answer (accepts r (view s) kind (sym e))))
@@ -74,13 +72,11 @@ unfolding nothing-reply
 reply-long = length-replicate {A = ℕ} cells 0
 
 -- ---- an element that is put, and the state with it
-first-after :
-    (s : Service) (n : ℕ) (xs : List ℕ) →
+first-after : (s : Service) (n : ℕ) (xs : List ℕ) →
     record { head = s .head; first = after n xs (s .first); reply = s .reply } ≡ after n (record { head = s .head; first = xs; reply = s .reply }) s
 first-after s n xs = after-in (λ (l : List ℕ). record { head = s .head; first = l; reply = s .reply }) n xs (s .first)
 
-reply-after :
-    (s : Service) (n : ℕ) (xs : List ℕ) →
+reply-after : (s : Service) (n : ℕ) (xs : List ℕ) →
     record { head = s .head; first = s .first; reply = after n xs (s .reply) } ≡ after n (record { head = s .head; first = s .first; reply = xs }) s
 reply-after s n xs = after-in (λ (l : List ℕ). record { head = s .head; first = s .first; reply = l }) n xs (s .reply)
 
@@ -89,30 +85,19 @@ module _ (A : Arithmetic) where
   unfolding New-formed new-service phase-of has-plan
   new-formed some = (
     new-view,
-    record {
-      ready = λ e. absurd (holds e);
-      first-length = first-long;
-      reply-length = reply-long;
-      well = rw new-view (new-well A some);
-    },
+    record { ready = λ e. absurd (holds e); first-length = first-long; reply-length = reply-long; well = rw new-view (new-well A some) },
   )
 
   pub plan-steps : Plan-steps A
   unfolding Plan-steps plan-step planned is-finish answer-of
   plan-steps s p w =
       steps A (plan-record (plan-of p)) s w (planned p) (scheme.planned (plan-of p)) refl refl _ refl (plan-same A s p) (λ z.
-      record {
-        next = planned-view s p;
-        ready = λ e. refl;
-        first-length = first-long;
-        reply-length = reply-long;
-      })
+      record { next = planned-view s p; ready = λ e. refl; first-length = first-long; reply-length = reply-long })
 
   pub open-steps : Open-steps A
   unfolding Open-steps open-step open-refusal opened is-finish answer-of
   open-steps s r w =
-      steps A (open-record r) s w (opened (s .head) r) (scheme.opened r) refl refl _ refl (open-same A s r) (λ z.
-      record {
+      steps A (open-record r) s w (opened (s .head) r) (scheme.opened r) refl refl _ refl (open-same A s r) (λ z. record {
         next = opened-view s r;
         ready = λ e. w .ready (plan-here _ (then-zero _ _ z .0));
         first-length = first-long;
@@ -123,8 +108,7 @@ module _ (A : Arithmetic) where
   unfolding First-steps first-step first-left is-finish answer-of
   first-steps s k i x w =
       let e = first-same A s w k i x in
-      steps A (first-record k i x) s w (put-first s k i x) silent refl refl _ (first-after s _ _) e (λ z.
-      record {
+      steps A (first-record k i x) s w (put-first s k i x) silent refl refl _ (first-after s _ _) e (λ z. record {
         next = first-view s A w k i x (sym e ∙ z);
         ready = w .ready;
         first-length = simp length-set (w .first-length);
@@ -135,8 +119,7 @@ module _ (A : Arithmetic) where
   unfolding Reply-steps reply-step reply-left is-finish answer-of
   reply-steps s k b x w =
       let e = reply-same A s w k b x in
-      steps A (reply-record k b x) s w (put-reply s k b x) silent refl refl _ (reply-after s _ _) e (λ z.
-      record {
+      steps A (reply-record k b x) s w (put-reply s k b x) silent refl refl _ (reply-after s _ _) e (λ z. record {
         next = reply-view s A w k b x (sym e ∙ z);
         ready = w .ready;
         first-length = w .first-length;
@@ -161,15 +144,13 @@ module _ (A : Arithmetic) where
       let p = then-zero (plan-missing (phase-of (s .head .phase))) _ e in
       let ready = w .ready (plan-here (phase-of (s .head .phase)) (p .0)) in
       let l : 0 < r = omega (arith, ltb-true (s .head .round) r (unless-zero _ _ (p .1))) in
-      rw (e, lt-ltb 0 r l) (λ t.
-      record {
+      rw (e, lt-ltb 0 r l) (λ t. record {
         number = 0;
-        service =
-            record {
-              head = record { phase = Gathering; plan = s .head .plan; places = ready t; round = r; survivors = 0 };
-              first = nothing-first;
-              reply = nothing-reply;
-            };
+        service = record {
+          head = record { phase = Gathering; plan = s .head .plan; places = ready t; round = r; survivors = 0 };
+          first = nothing-first;
+          reply = nothing-reply;
+        };
       })
 
   pub refused-unchanged : (s : Service) → Refused-unchanged A s

@@ -59,11 +59,7 @@ module _ (w : ℕ) (xs : List ℕ) (k i : ℕ) where
 
 pub look-nothing : (w n k i : ℕ) → look w (replicate n 0) k i ≡ none
 unfolding look stored
-look-nothing w n k i = rw (zeros-at n (slot w k i)) (either (inside w k i))
-  where
-    either : (b : Bool) → cond {A = Option ℕ} b none none ≡ none
-    either true = refl
-    either false = refl
+look-nothing w n k i = rw (zeros-at n (slot w k i)) (by-test (inside w k i) (λ e. simp e) (λ e. simp e))
 
 -- ---- one element more
 module _ (w : ℕ) (xs : List ℕ) (k i x : ℕ) (a : In-row w k i) where
@@ -89,7 +85,5 @@ module _ (w : ℕ) (xs : List ℕ) (k i x : ℕ) (a : In-row w k i) where
   pub look-put : slot w k i < length xs → (l j : ℕ) → look w (put w xs k i x) l j ≡ with-element k i x (look w xs) l j
   unfolding with-element
   look-put h l j =
-      by-test (eqb l k)
-      (λ e. by-test (eqb j i) (λ f. rw (eqb-true l k e, eqb-true j i f, eq-eqb k k refl, eq-eqb i i refl) (there h))
-      (λ f. rw (e, f) (elsewhere l j (λ s. eqb-false j i f (s .1)))))
-      (λ e. rw e (elsewhere l j (λ s. eqb-false l k e (s .0))))
+      by-test (eqb l k) (λ e. by-test (eqb j i) (λ f. rw (eqb-true l k e, eqb-true j i f, eq-eqb k k refl, eq-eqb i i refl) (there h))
+      (λ f. rw (e, f) (elsewhere l j (λ s. eqb-false j i f (s .1))))) (λ e. rw e (elsewhere l j (λ s. eqb-false l k e (s .0))))

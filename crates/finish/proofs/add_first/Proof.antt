@@ -20,8 +20,7 @@ old-at : {f : ℕ → ℕ} {n : ℕ} {old new : List ℕ} (i : ℕ) → Setting 
 old-at i s = row-other _ 0 _ i (s .done) i (λ b h e. omega arith)
 
 next : {f : ℕ → ℕ} {n : ℕ} {old new : List ℕ} (i : ℕ) {x : ℕ} → i < n → x ≡ f i → Setting f n 0 old i new → Setting f n 0 old (i + 1) (set new i x)
-next {f} {n} {old} {new} i {x} l e s =
-    subst (λ (k : ℕ). Setting f n 0 old (i + 1) (set new k x)) (zero-add i) (setting-more f n 0 old i x new l e s)
+next {f} {n} {old} {new} i {x} l e s = subst (λ (k : ℕ). Setting f n 0 old (i + 1) (set new k x)) (zero-add i) (setting-more f n 0 old i x new l e s)
 
 abbrev Inv-loop : tie.InvT-loop
 Inv-loop sums₀ first from places i₀ sums i =
@@ -33,16 +32,47 @@ abbrev μ-loop : tie.MeasureT-loop
 loop-holds : tie.Need-loop-holds Inv-loop μ-loop
 loop-holds c = (setting-start _ _ _ _, λ j h. absurd (none-below j h))
 
+mul-sums : tie.Need-mul-sums Inv-loop μ-loop
+mul-sums c = search needs
+
+element-copy-out-sums : tie.Need-element-copy-out-sums Inv-loop μ-loop
+element-copy-out-sums c = search needs
+
+add-element-of : tie.Need-add-element-of Inv-loop μ-loop
+add-element-of c = search needs
+
+mul-element-of : tie.Need-mul-element-of Inv-loop μ-loop
+mul-element-of c = search needs
+
+element-copy-out-element-of : tie.Need-element-copy-out-element-of Inv-loop μ-loop
+element-copy-out-element-of c = search needs
+
+element-of-requires : tie.Need-element-of-requires Inv-loop μ-loop
+element-of-requires c κs = search needs
+
+cast-sums : tie.Need-cast-sums Inv-loop μ-loop
+cast-sums c = search needs
+
 add-sums : tie.Need-add-sums Inv-loop μ-loop
 add-sums c =
-    let t = c .before .before .before in
-    let l = t .before .loop in
+    let t = c .before .before .before in let l = t .before .loop in
     omega (arith, old-at (l .i) (l .inv .0), t .before .before .pre .1 .low (l .i) (t .loop-test .taken))
+
+mul-sums-2 : tie.Need-mul-sums-2 Inv-loop μ-loop
+mul-sums-2 c = search needs
+
+element-write-sums : tie.Need-element-write-sums Inv-loop μ-loop
+element-write-sums c = search needs
+
+add-i : tie.Need-add-i Inv-loop μ-loop
+add-i c = search needs
+
+loop-less : tie.Need-loop-less Inv-loop μ-loop
+loop-less c = search needs
 
 loop-again : tie.Need-loop-again Inv-loop μ-loop
 loop-again c =
-    let t = c .before .before .before in
-    let l = t .before .loop in
+    let t = c .before .before .before in let l = t .before .loop in
     let e = ap₂ (λ (x y : ℕ). x + y) (old-at (l .i) (l .inv .0)) (c .element-of .ensures) in
     (next (l .i) (t .loop-test .taken) e (l .inv .0), below-more _ (l .inv .1) (omega (arith, c .element-of .ensures)))
 
@@ -52,6 +82,21 @@ returns c = (setting-end _ _ _ _ _ _ (c .loop-test .left) (c .before .loop .inv 
 pub add-first-spec : {M : Type 1} → statement M
 add-first-spec =
     tie.close
-    (tie.spec Inv-loop μ-loop loop-holds (λ c. search needs) (λ c. search needs) (λ c. search needs) (λ c. search needs)
-    (λ c. search needs) (λ c κs. search needs) (λ c. search needs) add-sums (λ c. search needs) (λ c. search needs)
-    (λ c. search needs) (λ c. search needs) loop-again returns)
+    (tie.spec
+    Inv-loop
+    μ-loop
+    loop-holds
+    mul-sums
+    element-copy-out-sums
+    add-element-of
+    mul-element-of
+    element-copy-out-element-of
+    element-of-requires
+    cast-sums
+    add-sums
+    mul-sums-2
+    element-write-sums
+    add-i
+    loop-less
+    loop-again
+    returns)

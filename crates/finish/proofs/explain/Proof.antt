@@ -26,7 +26,16 @@ tested c = c .before .before .before .before
 
 -- ---- the needs
 system-of-requires : tie.Need-system-of-requires
-system-of-requires c κs = c .pre
+system-of-requires c κs = search needs
+
+the-columns-requires : tie.Need-the-columns-requires
+the-columns-requires c κs = search needs
+
+cast-n : tie.Need-cast-n
+cast-n c = search needs
+
+cast-blocks : tie.Need-cast-blocks
+cast-blocks c = search needs
 
 gather-requires : tie.Need-gather-requires
 gather-requires c κs =
@@ -36,17 +45,19 @@ gather-requires c κs =
 solve-requires : tie.Need-solve-requires
 solve-requires c κs = let k = pointed (gathered c .before) in system-ready sixteen laws16 _ _ _ (prepared k .system-of .ensures) _ (k .the-columns .ensures)
 
+slice-aggregate-all-elements : tie.Need-slice-aggregate-all-elements
+slice-aggregate-all-elements c = search needs
+
+all-elements-requires : tie.Need-all-elements-requires
+all-elements-requires c κs = search needs
+
 returns : tie.Need-returns
 returns c =
-    let w = solved (c .before) in
-    let g = gathered (w .before) in
-    let k = pointed (g .before) in
-    let h = prepared k .system-of .ensures in
+    let w = solved (c .before) in let g = gathered (w .before) in let k = pointed (g .before) in let h = prepared k .system-of .ensures in
     let bad = sym (c .before .all-elements .ensures) ∙ not-true _ (c .if1 .taken) in
-    record {
-      fits-right = nothing-fits sixteen laws16 _ _ _ h _ _ _ _ (k .the-columns .ensures) (g .gather .ensures) (w .solve .ensures) bad;
-      unknowns-right = unknowns-right sixteen laws16 _ _ _ h _ _ _ _ (k .the-columns .ensures) (g .gather .ensures) (w .solve .ensures);
-    }
+    let fit = nothing-fits sixteen laws16 _ _ _ h _ _ _ _ (k .the-columns .ensures) (g .gather .ensures) (w .solve .ensures) bad in
+    let told = unknowns-right sixteen laws16 _ _ _ h _ _ _ _ (k .the-columns .ensures) (g .gather .ensures) (w .solve .ensures) in
+    record { fits-right = fit; unknowns-right = told }
 
 fits-requires : tie.Need-fits-requires
 fits-requires c κs =
@@ -57,19 +68,25 @@ fits-requires c κs =
 
 returns-2 : tie.Need-returns-2
 returns-2 c =
-    let t = tested (c .before) in
-    let w = solved (t .before) in
-    let g = gathered (w .before) in
-    let k = pointed (g .before) in
+    let t = tested (c .before) in let w = solved (t .before) in let g = gathered (w .before) in let k = pointed (g .before) in
     let h = prepared k .system-of .ensures in
     let ok = sym (t .before .all-elements .ensures) ∙ not-false _ (t .if1 .left) in
-    record {
-      fits-right = c .fits2 .ensures ∙ fits-right sixteen laws16 _ _ _ h _ _ _ _ (k .the-columns .ensures) (g .gather .ensures) (w .solve .ensures) ok;
-      unknowns-right = unknowns-right sixteen laws16 _ _ _ h _ _ _ _ (k .the-columns .ensures) (g .gather .ensures) (w .solve .ensures);
-    }
+    let fit = c .fits2 .ensures ∙ fits-right sixteen laws16 _ _ _ h _ _ _ _ (k .the-columns .ensures) (g .gather .ensures) (w .solve .ensures) ok in
+    let told = unknowns-right sixteen laws16 _ _ _ h _ _ _ _ (k .the-columns .ensures) (g .gather .ensures) (w .solve .ensures) in
+    record { fits-right = fit; unknowns-right = told }
 
 pub explain-spec : {M : Type 1} → statement M
 explain-spec =
     tie.close
-    (tie.spec system-of-requires (λ c κs. search needs) (λ c. search needs) (λ c. search needs) gather-requires solve-requires (λ c. search needs)
-    (λ c κs. search needs) returns fits-requires returns-2)
+    (tie.spec
+    system-of-requires
+    the-columns-requires
+    cast-n
+    cast-blocks
+    gather-requires
+    solve-requires
+    slice-aggregate-all-elements
+    all-elements-requires
+    returns
+    fits-requires
+    returns-2)

@@ -39,43 +39,48 @@ start c = c .before .before .before
 user : (c : tie.In-loop Inv-loop μ-loop) → let k = getD (start c .args .rows .now) (c .before .loop .i) 0 in (1 ≤ k) × (k ≤ most-users)
 user c = start c .pre .2 .inside _ (c .loop-test .taken)
 
+no-sums-requires : tie.Need-no-sums-requires Inv-loop μ-loop
+no-sums-requires c κs = search needs
+
 loop-holds : tie.Need-loop-holds Inv-loop μ-loop
-loop-holds c = (
-  omega arith,
-  rw (c .no-sums .ensures) (length-replicate {A = ℕ} most-places 0),
-  λ p h. rw (c .no-sums .ensures, zeros-at most-places p) (summing-start _ _ _),
-)
+loop-holds c =
+    let z = c .no-sums .ensures in
+    (omega arith, rw z (length-replicate {A = ℕ} most-places 0), λ p h. rw (z, zeros-at most-places p) (summing-start _ _ _))
+
+mul-row-start : tie.Need-mul-row-start Inv-loop μ-loop
+mul-row-start c = search needs
+
+element-copy-out-row-start : tie.Need-element-copy-out-row-start Inv-loop μ-loop
+element-copy-out-row-start c = search needs
 
 row-start-requires : tie.Need-row-start-requires Inv-loop μ-loop
 row-start-requires c κs = (user (c .before) .0, omega arith)
 
 add-first-requires : tie.Need-add-first-requires Inv-loop μ-loop
 add-first-requires c κs =
-    let t = c .before .before .before in
-    let l = t .before .loop in
-    let s = start t .pre in
+    let t = c .before .before .before in let l = t .before .loop in let s = start t .pre in
     let k = user t in (
       (s .1, omega (arith, k .0, k .1, s .1, c .before .row-start .ensures), l .inv .1),
       record { low = λ p m. omega (arith, l .inv .2 p m .small, t .loop-test .taken, s .0) },
     )
 
+add-i : tie.Need-add-i Inv-loop μ-loop
+add-i c = search needs
+
+loop-less : tie.Need-loop-less Inv-loop μ-loop
+loop-less c = search needs
+
 loop-again : tie.Need-loop-again Inv-loop μ-loop
 loop-again c =
-    let t = c .before .before .before .before in
-    let l = t .before .loop in
-    let k = user t in
-    let y = start t .args .first .now in
+    let t = c .before .before .before .before in let l = t .before .loop in let k = user t in let y = start t .args .first .now in
     let n = start t .args .places in
     let f : ℕ → ℕ = raised (l .sums) y (c .before .before .row-start .result) in
     let d = c .add-first .ensures .0 in (
       omega arith,
       ap length d ∙ length-sets (l .sums) 0 (map f (span n 0)) ∙ l .inv .1,
-      λ p h.
-          rw (row-at (l .sums) 0 f n d p p (sym (zero-add p)) h (omega (arith, start t .pre .1, l .inv .1)))
-          (summing-more prime-65521 (lit< tt) _ _ (l .i) _ _
-          (ap (λ (f : ℕ). getD y (f + p) 0 - 1) (c .before .before .row-start .ensures)
-          ∙ sym (held-at most-places y _ p (k .0) (k .1) (omega (arith, start t .pre))))
-          (c .add-first .ensures .1 p h) (l .inv .2 p h)),
+      λ p h. rw (row-at (l .sums) 0 f n d p p (sym (zero-add p)) h (omega (arith, start t .pre .1, l .inv .1)))
+          (summing-more prime-65521 (lit< tt) _ _ (l .i) _ _ (ap (λ (f : ℕ). getD y (f + p) 0 - 1) (c .before .before .row-start .ensures)
+          ∙ sym (held-at most-places y _ p (k .0) (k .1) (omega (arith, start t .pre)))) (c .add-first .ensures .1 p h) (l .inv .2 p h)),
     )
 
 returns : tie.Need-returns Inv-loop μ-loop
@@ -90,5 +95,16 @@ returns c =
 pub first-sums-spec : {M : Type 1} → statement M
 first-sums-spec =
     tie.close
-    (tie.spec Inv-loop μ-loop (λ c κs. search needs) loop-holds (λ c. search needs) (λ c. search needs) row-start-requires
-    add-first-requires (λ c. search needs) (λ c. search needs) loop-again returns)
+    (tie.spec
+    Inv-loop
+    μ-loop
+    no-sums-requires
+    loop-holds
+    mul-row-start
+    element-copy-out-row-start
+    row-start-requires
+    add-first-requires
+    add-i
+    loop-less
+    loop-again
+    returns)

@@ -23,12 +23,17 @@ loop-holds c = rw (c .pre .1) (totalling-start _ _ _ _ _)
 
 put-block-totals-requires : tie.Need-put-block-totals-requires Inv-loop μ-loop
 put-block-totals-requires c κs =
-    let p = c .before .before .before .pre .0 in
-    let r = room (c .before) in
+    let p = c .before .before .before .pre .0 in let r = room (c .before) in
     (omega (arith, p .1), p .0, omega (arith, r, p .2), record { low = λ i h. p .3 .low i (omega (arith, r)) })
 
 add-at : tie.Need-add-at Inv-loop μ-loop
 add-at c = omega (arith, room (c .before .before))
+
+add-b : tie.Need-add-b Inv-loop μ-loop
+add-b c = search needs
+
+loop-less : tie.Need-loop-less Inv-loop μ-loop
+loop-less c = search needs
 
 loop-again : tie.Need-loop-again Inv-loop μ-loop
 loop-again c =
@@ -39,6 +44,15 @@ returns : tie.Need-returns Inv-loop μ-loop
 returns c = totalling-end _ _ _ _ _ _ _ _ (c .before .loop .inv) (c .loop-test .left)
 
 pub put-all-totals-spec : {M : Type 1} → statement M
-put-all-totals-spec = tie.close
-    (tie.spec Inv-loop μ-loop loop-holds put-block-totals-requires add-at (λ c. search needs) (λ c. search needs) loop-again
+put-all-totals-spec =
+    tie.close
+    (tie.spec
+    Inv-loop
+    μ-loop
+    loop-holds
+    put-block-totals-requires
+    add-at
+    add-b
+    loop-less
+    loop-again
     returns)

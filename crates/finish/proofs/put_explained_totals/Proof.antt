@@ -1,7 +1,6 @@
 -- `finish::put_explained_totals` meets its contract: what explains the replies is taken off the survivors' first elements.
 -- Assumes nothing.
-use mathlib.Core.Path.{refl, sym, _∙_, subst}
-use Prim.Native.Nat.{ℕ}
+use mathlib.Core.Path.{refl, sym, _∙_}
 use native.Mathlib.Omega.{arith}
 use borrow.Author.Needs.{needs}
 use borrow.Author.Tests.{not-true, not-false}
@@ -31,22 +30,17 @@ a-plan c = explained c .before .pre .0
 
 sums-right : (c : tie.After-first-sums) → let u = listed (c .before) in let a = explained u .before .args in
     First-sums q (a .first .now) (u .users-of .result .list) (u .users-of .result .count) (places (plan-of (a .plan))) (c .first-sums .result)
-sums-right c =
-    let u = listed (c .before) in
-    subst (λ (n : ℕ). First-sums q (explained u .before .args .first .now) (u .users-of .result .list) (u .users-of .result .count) n (c .first-sums .result))
-    (c .before .places-of .ensures .0) (c .first-sums .ensures)
+sums-right c = rw (← c .before .places-of .ensures .0) (c .first-sums .ensures)
 
 -- ---- the needs
 explain-requires : tie.Need-explain-requires
-explain-requires c κs = (c .pre .0, c .pre .1)
+explain-requires c κs = search needs
 
 returns : tie.Need-returns
 returns c =
     let e = c .before .before in
-    record {
-      number-right = sym (unless-failed (sym (e .explain .ensures .fits-right) ∙ not-true _ (c .if1 .taken)) 16);
-      totals-right = e .before .pre .2 ∙ sym (after-refused (λ z. omega arith) _ _);
-    }
+    let bad = sym (e .explain .ensures .fits-right) ∙ not-true _ (c .if1 .taken) in
+    record { number-right = sym (unless-failed bad 16); totals-right = e .before .pre .2 ∙ sym (after-refused (λ z. omega arith) _ _) }
 
 users-of-requires : tie.Need-users-of-requires
 users-of-requires c κs = c .before .before .before .before .pre .0 .users-high
@@ -63,6 +57,12 @@ first-sums-requires c κs =
 sub-items : tie.Need-sub-items
 sub-items c = let g = a-plan (listed (c .before .before)) in omega (arith, g .collusion-high)
 
+cast-items : tie.Need-cast-items
+cast-items c = search needs
+
+cast-put-all-totals : tie.Need-cast-put-all-totals
+cast-put-all-totals c = search needs
+
 put-all-totals-requires : tie.Need-put-all-totals-requires
 unfolding places items
 put-all-totals-requires c κs =
@@ -73,18 +73,22 @@ put-all-totals-requires c κs =
 returns-2 : tie.Need-returns-2
 unfolding places items
 returns-2 c =
-    let t = summed (c .before) in
-    let u = listed (t .before) in
-    let l = u .users-of .ensures in
-    let e = explained u .explain .ensures in
+    let t = summed (c .before) in let u = listed (t .before) in let l = u .users-of .ensures in let e = explained u .explain .ensures in
     let same = totals-same q _ _ _ _ _ _ _ _ (omega arith) (l .list-right) (l .count-right) (sums-right t) (e .unknowns-right) in
-    record {
-      number-right = sym (unless-held (sym (e .fits-right) ∙ not-false _ (u .before .before .if1 .left)) 16);
-      totals-right = c .put-all-totals .ensures ∙ same ∙ sym (after-taken refl _ _);
-    }
+    let fit = sym (e .fits-right) ∙ not-false _ (u .before .before .if1 .left) in
+    record { number-right = sym (unless-held fit 16); totals-right = c .put-all-totals .ensures ∙ same ∙ sym (after-taken refl _ _) }
 
 pub put-explained-totals-spec : {M : Type 1} → statement M
 put-explained-totals-spec =
     tie.close
-    (tie.spec explain-requires returns users-of-requires places-of-requires first-sums-requires sub-items
-    (λ c. search needs) (λ c. search needs) put-all-totals-requires returns-2)
+    (tie.spec
+    explain-requires
+    returns
+    users-of-requires
+    places-of-requires
+    first-sums-requires
+    sub-items
+    cast-items
+    cast-put-all-totals
+    put-all-totals-requires
+    returns-2)

@@ -16,10 +16,36 @@ abbrev μ-loop : tie.MeasureT-loop
 loop-holds : tie.Need-loop-holds Inv-loop μ-loop
 loop-holds c = setting-start _ _ _ _
 
+add-element-of : tie.Need-add-element-of Inv-loop μ-loop
+add-element-of c = search needs
+
+mul-element-of : tie.Need-mul-element-of Inv-loop μ-loop
+mul-element-of c = search needs
+
+element-copy-out-element-of : tie.Need-element-copy-out-element-of Inv-loop μ-loop
+element-copy-out-element-of c = search needs
+
+element-of-requires : tie.Need-element-of-requires Inv-loop μ-loop
+element-of-requires c κs = search needs
+
+add-out : tie.Need-add-out Inv-loop μ-loop
+add-out c = search needs
+
+mul-out : tie.Need-mul-out Inv-loop μ-loop
+mul-out c = search needs
+
+element-write-out : tie.Need-element-write-out Inv-loop μ-loop
+element-write-out c = search needs
+
+add-b : tie.Need-add-b Inv-loop μ-loop
+add-b c = search needs
+
+loop-less : tie.Need-loop-less Inv-loop μ-loop
+loop-less c = search needs
+
 loop-again : tie.Need-loop-again Inv-loop μ-loop
 loop-again c =
-    let l = c .before .before .before .loop in
-    setting-more _ _ _ _ (l .b) _ _ (c .before .before .loop-test .taken) (c .element-of .ensures) (l .inv)
+    let l = c .before .before .before .loop in setting-more _ _ _ _ (l .b) _ _ (c .before .before .loop-test .taken) (c .element-of .ensures) (l .inv)
 
 returns : tie.Need-returns Inv-loop μ-loop
 returns c = setting-end _ _ _ _ _ _ (c .loop-test .left) (c .before .loop .inv)
@@ -27,5 +53,18 @@ returns c = setting-end _ _ _ _ _ _ (c .loop-test .left) (c .before .loop .inv)
 pub put-held-spec : {M : Type 1} → statement M
 put-held-spec =
     tie.close
-    (tie.spec Inv-loop μ-loop loop-holds (λ c. search needs) (λ c. search needs) (λ c. search needs) (λ c κs. search needs)
-    (λ c. search needs) (λ c. search needs) (λ c. search needs) (λ c. search needs) (λ c. search needs) loop-again returns)
+    (tie.spec
+    Inv-loop
+    μ-loop
+    loop-holds
+    add-element-of
+    mul-element-of
+    element-copy-out-element-of
+    element-of-requires
+    add-out
+    mul-out
+    element-write-out
+    add-b
+    loop-less
+    loop-again
+    returns)

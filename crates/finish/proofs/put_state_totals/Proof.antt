@@ -60,10 +60,15 @@ passed c =
     record { replying = phase-right (past-phase-test t); good = a-plan t; many = omega (arith, c .if3 .left, counted (c .before .before)) }
 
 -- ---- the needs
+not-replying-requires : tie.Need-not-replying-requires
+not-replying-requires c κs = search needs
+
 returns : tie.Need-returns
 unfolding finish-refusal
-returns c =
-    refused-right sixteen laws16 _ (c .if1 .taken) (then-stops (c .before .not-replying .ensures) (c .if1 .taken) _) (c .before .before .pre)
+returns c = refused-right sixteen laws16 _ (c .if1 .taken) (then-stops (c .before .not-replying .ensures) (c .if1 .taken) _) (c .before .before .pre)
+
+is-good-requires : tie.Need-is-good-requires
+is-good-requires c κs = search needs
 
 returns-2 : tie.Need-returns-2
 unfolding finish-refusal
@@ -71,6 +76,9 @@ returns-2 c =
     let e = c .before .before .before in
     let bad = sym (c .before .is-good .ensures) ∙ not-true _ (c .if2 .taken) in
     refused-right sixteen laws16 _ (λ z. omega arith) (test-refused bad _ _ ∙ sym (then-taken (phase-right e) _)) (start e .pre)
+
+cast-complete-set : tie.Need-cast-complete-set
+cast-complete-set c = search needs
 
 complete-set-requires : tie.Need-complete-set-requires
 complete-set-requires c κs =
@@ -82,17 +90,14 @@ complete-set-requires c κs =
 returns-3 : tie.Need-returns-3
 unfolding finish-refusal
 returns-3 c =
-    let d = c .before .before in
-    let t = past-plan-test d in
-    let e = past-phase-test t in
+    let d = c .before .before in let t = past-plan-test d in let e = past-phase-test t in
     let h : ones (state d .head .plan .users) (replied (view (state d))) < state d .head .plan .threshold = omega (arith, c .if3 .taken, counted d) in
     refused-right sixteen laws16 _ (λ z. omega arith)
     (test-refused (lt-leb _ _ h) _ _ ∙ two-passed (phase-right e) (unless-held (a-plan t) 15) _) (start e .pre)
 
 put-explained-totals-requires : tie.Need-put-explained-totals-requires
 put-explained-totals-requires c κs =
-    let d = c .before .before .before in
-    let r = passed (c .before) in
+    let d = c .before .before .before in let r = passed (c .before) in
     (good _ (r .good), omega (arith, r .many, ap (ones (state d .head .plan .users)) (whole d)), start (past-phase-test (past-plan-test d)) .pre)
 
 returns-4 : tie.Need-returns-4
@@ -101,5 +106,13 @@ returns-4 c = let e = c .before .before in totalled-right sixteen laws16 _ (pass
 pub put-state-totals-spec : {M : Type 1} → statement M
 put-state-totals-spec =
     tie.close
-    (tie.spec (λ c κs. search needs) returns (λ c κs. search needs) returns-2 (λ c. search needs) complete-set-requires returns-3
-    put-explained-totals-requires returns-4)
+    (tie.spec
+    not-replying-requires
+    returns
+    is-good-requires
+    returns-2
+    cast-complete-set
+    complete-set-requires
+    returns-3
+    put-explained-totals-requires
+    returns-4)

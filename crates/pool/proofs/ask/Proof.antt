@@ -29,9 +29,7 @@ same-length c = search needs
 returns : tie.Need-returns
 unfolding Untouched
 returns c =
-    let f = c .before .before in
-    let e = f .before .before in
-    let a = e .before .before .before .args in
+    let f = c .before .before in let e = f .before .before in let a = e .before .before .before .args in
     (f .fill .ensures, asked-due (a .next) (f .fill .result) (a .buf .now) (f .fill .last .0) (e .enum-told .given .1))
 
 returns-2 : tie.Need-returns-2

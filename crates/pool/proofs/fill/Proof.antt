@@ -47,12 +47,8 @@ same-length c = search needs
 
 returns : tie.Need-returns
 returns c =
-    let n = c .before .before in
-    let lent = n .before .before in
-    let r = lent .before .before .before in
-    let a = r .before .before .before .args in
-    let error = c .before .errno in
-    let got = r .read in
+    let n = c .before .before in let lent = n .before .before in let r = lent .before .before .before in let a = r .before .before .before .args in
+    let error = c .before .errno in let got = r .read in
     record {
       got = got .result;
       error = error .result;

@@ -13,10 +13,8 @@ same-length c = search needs
 
 returns : tie.Need-returns
 returns c =
-    let k = c .before .before in
-    let l = k .before .before in
-    let s = l .before .before .before in
-    seven-leaves (s .args .live) (s .args .buf .now) (s .pre .0) (s .args .why) (s .pre .1) (k .cut .ensures .0) (k .cut .ensures .1)
+    let k = c .before .before in let l = k .before .before in let s = l .before .before .before in
+    seven-leaves (s .args .live) _ (s .pre .0) _ (s .pre .1) (k .cut .ensures .0) (k .cut .ensures .1)
 
 pub refuse-spec : {M : Type 1} → statement M
 refuse-spec = tie.close (tie.spec cut-requires same-length returns)

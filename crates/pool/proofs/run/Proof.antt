@@ -38,8 +38,7 @@ returns c = made-end (c .before .before .before .loop .inv .0) (λ e. absurd (ho
 
 turn-requires : tie.Need-turn-requires Inv-loop μ-loop
 turn-requires c κs =
-    let o = c .before .before .before in
-    let l = o .before .before in
+    let o = c .before .before .before in let l = o .before .before in
     made-sound (l .loop .inv .0) (l .before .before .before .before .pre .1) (l .loop .inv .2) (omega (arith, l .loop .inv))
 
 sub-turns : tie.Need-sub-turns Inv-loop μ-loop
@@ -50,8 +49,7 @@ loop-less c = search needs
 
 loop-again : tie.Need-loop-again Inv-loop μ-loop
 loop-again c =
-    let t = c .before .before .before .before in
-    let o = t .before .before .before .before in
+    let t = c .before .before .before .before in let o = t .before .before .before .before in
     let i = o .before .before .loop .inv in (
       made-more (i .0) (t .turn .ensures) (i .2) (omega (arith, i)),
       omega (arith, i, c .before .before .before .buf),

@@ -1,7 +1,6 @@
 -- `pool::step` meets its contract: each thing that may come next.
 -- Assumes nothing.
 use mathlib.Core.Path.{refl}
-use lib.ListN.{length}
 use borrow.Author.Needs.{needs}
 use Rattle.pool.specs.declared.Next.the-variants.{Await, Feed, Refuse, Over}
 use Rattle.pool.specs.Turns.{step-by}
@@ -44,10 +43,8 @@ same-length-2 c = search needs
 
 returns : tie.Need-returns
 returns c =
-    let w = c .before .before .before .before in
-    let e = w .before .before .before in
-    let a = entered (e .before .before) .args in
-    step-as (length (a .out .now)) (a .live) (a .buf .now) Await (a .read) (e .enum-told .given .1) refl (w .wait .ensures)
+    let w = c .before .before .before .before in let e = w .before .before .before in
+    step-as _ (entered (e .before .before) .args .live) _ Await _ (e .enum-told .given .1) refl (w .wait .ensures)
 
 same-length-3 : tie.Need-same-length-3
 same-length-3 c = search needs
@@ -58,10 +55,8 @@ same-length-4 c = search needs
 returns-2 : tie.Need-returns-2
 unfolding step-by
 returns-2 c =
-    let t = c .before .before .before .before in
-    let e = t .before .before .before in
-    let a = entered (e .before .before) .args in
-    step-as (length (a .out .now)) (a .live) (a .buf .now) Feed (a .read) (e .enum-told2 .given .1) refl (t .take .ensures)
+    let t = c .before .before .before .before in let e = t .before .before .before in
+    step-as _ (entered (e .before .before) .args .live) _ Feed _ (e .enum-told2 .given .1) refl (t .take .ensures)
 
 same-length-5 : tie.Need-same-length-5
 same-length-5 c = search needs
@@ -72,19 +67,14 @@ same-length-6 c = search needs
 returns-3 : tie.Need-returns-3
 unfolding step-by
 returns-3 c =
-    let f = c .before .before in
-    let x = f .before .before .before .before in
-    let a = entered (x .before .before) .args in
-    step-as (length (a .out .now)) (a .live) (a .buf .now) (Refuse _) (a .read) (x .next .given .1) refl (f .refuse .ensures)
+    let f = c .before .before in let x = f .before .before .before .before in
+    step-as _ (entered (x .before .before) .args .live) _ (Refuse _) _ (x .next .given .1) refl (f .refuse .ensures)
 
 returns-4 : tie.Need-returns-4
 unfolding step-by
 returns-4 c =
-    let x = c .before .before in
-    let s = entered (x .before .before) in
-    let a = s .args in
-    step-as (length (a .out .now)) (a .live) (a .buf .now) (Over _) (a .read) (x .next2 .given .1) refl
-    (silent-leaves (a .live) (a .buf .now) (s .pre .have) (Over _) (c .silent .ensures))
+    let x = c .before .before in let s = entered (x .before .before) in let l = s .args .live in
+    step-as _ l _ (Over _) _ (x .next2 .given .1) refl (silent-leaves l _ (s .pre .have) (Over _) (c .silent .ensures))
 
 pub step-spec : {M : Type 1} → statement M
 step-spec =

@@ -3,7 +3,6 @@
 use mathlib.Core.Path.{refl, sym}
 use Prim.Native.Nat.{_^_, _<_}
 use native.Mathlib.Omega.{arith}
-use lib.ListN.{length}
 use lib.Seq.{length-take-le}
 use borrow.Author.Needs.{needs}
 use Rattle.pool.proofs.Leaving.{here-fits, used-inside, fed-leaves}
@@ -32,10 +31,7 @@ add-here c =
     omega (arith, here-fits _ _ _ _ _ (f .feed .ensures .0) h)
 
 keep-requires : tie.Need-keep-requires
-keep-requires c κs =
-    let f = behind-feed c in
-    let s = entered (f .before .before) in
-    (used-inside _ _ _ _ _ _ (s .pre) (f .feed .ensures .0), s .pre)
+keep-requires c κs = let f = behind-feed c in let s = entered (f .before .before) in (used-inside _ _ _ _ _ _ (s .pre) (f .feed .ensures .0), s .pre)
 
 comes-requires : tie.Need-comes-requires
 comes-requires c κs = search needs
@@ -48,14 +44,9 @@ same-length-2 c = search needs
 
 returns : tie.Need-returns
 returns c =
-    let kept = c .before .before .before in
-    let fed = behind-feed (kept .before) in
-    let s = entered (fed .before .before) in
-    let a = s .args in
-    let f = fed .feed in
+    let kept = c .before .before .before in let fed = behind-feed (kept .before) in let s = entered (fed .before .before) in let f = fed .feed in
     let k = kept .keep in
-    fed-leaves (a .service) (a .buf .now) (a .n) (a .offset) (length (a .out .now)) (f .result) (s .pre) (f .ensures .0) (k .last .0)
-    (a .out .now) (f .last .1 .1 .1 .0) (k .result) (c .comes .result) refl (f .ensures .1) (k .ensures .0) (k .ensures .1) (c .comes .ensures)
+    fed-leaves _ _ _ _ _ _ (s .pre) (f .ensures .0) _ _ _ _ _ refl (f .ensures .1) (k .ensures .0) (k .ensures .1) (c .comes .ensures)
 
 pub take-spec : {M : Type 1} → statement M
 take-spec =

@@ -2,7 +2,6 @@
 -- Assumes nothing.
 use mathlib.Core.Path.{refl}
 use native.Mathlib.Omega.{arith}
-use lib.ListN.{length}
 use borrow.Author.Needs.{needs}
 use Rattle.pool.specs.declared.Read.the-variants.{Bytes, End, Again, Failed}
 use Rattle.pool.specs.declared.Next.the-variants.{Await, Over}
@@ -20,9 +19,7 @@ enum-known-read : tie.Need-enum-known-read
 enum-known-read c = search needs
 
 take-requires : tie.Need-take-requires
-take-requires c κs =
-    let r = c .before .before .before in
-    omega (arith, entered (r .before .before) .pre .inside _ (r .read .given .1))
+take-requires c κs = let r = c .before .before .before in omega (arith, entered (r .before .before) .pre .inside _ (r .read .given .1))
 
 enum-told : tie.Need-enum-told
 enum-told c = search needs
@@ -33,11 +30,8 @@ silent-requires c κs = search needs
 returns : tie.Need-returns
 unfolding step-by brought
 returns c =
-    let e = c .before .before .before in
-    let s = entered (e .before .before) in
-    let a = s .args in
-    step-as (length (a .out .now)) (a .live) (a .buf .now) Await End refl (e .enum-told .given .1)
-    (none-left (a .live) (a .buf .now) (s .pre .have) (omega arith) (c .silent .ensures))
+    let e = c .before .before .before in let s = entered (e .before .before) in let l = s .args .live in
+    step-as _ l _ Await End refl (e .enum-told .given .1) (none-left l _ (s .pre .have) (omega arith) (c .silent .ensures))
 
 silent-requires-2 : tie.Need-silent-requires-2
 silent-requires-2 c κs = search needs
@@ -62,38 +56,27 @@ same-length-2 c = search needs
 
 returns-2 : tie.Need-returns-2
 returns-2 c =
-    let t = c .before .before .before .before in
-    let r = t .before .before .before .before in
-    let s = entered (r .before .before) in
-    let a = s .args in
-    let e = r .read .given .1 in
-    step-as (length (a .out .now)) (a .live) (a .buf .now) Await (Bytes _) refl e
-    (bytes-fed (length (a .out .now)) (a .live) (a .buf .now) _ (s .pre .inside _ e .0) (t .take .ensures))
+    let t = c .before .before .before .before in let r = t .before .before .before .before in let s = entered (r .before .before) in
+    let l = s .args .live in let e = r .read .given .1 in
+    step-as _ l _ Await (Bytes _) refl e (bytes-fed _ l _ _ (s .pre .inside _ e .0) (t .take .ensures))
 
 returns-3 : tie.Need-returns-3
 unfolding step-by brought
 returns-3 c =
-    let e = c .before .before .before in
-    let s = entered (e .before .before) in
-    let a = s .args in
-    step-as (length (a .out .now)) (a .live) (a .buf .now) Await End refl (e .enum-told .given .1)
-    (some-left (a .live) (a .buf .now) (s .pre .have) (λ z. omega arith) (c .silent2 .ensures))
+    let e = c .before .before .before in let s = entered (e .before .before) in let l = s .args .live in
+    step-as _ l _ Await End refl (e .enum-told .given .1) (some-left l _ (s .pre .have) (λ z. omega arith) (c .silent2 .ensures))
 
 returns-4 : tie.Need-returns-4
 unfolding step-by brought
 returns-4 c =
-    let s = entered (c .before .before .before) in
-    let a = s .args in
-    step-as (length (a .out .now)) (a .live) (a .buf .now) Await Again refl (c .before .enum-told2 .given .1)
-    (silent-leaves (a .live) (a .buf .now) (s .pre .have) Await (c .silent3 .ensures))
+    let s = entered (c .before .before .before) in let l = s .args .live in
+    step-as _ l _ Await Again refl (c .before .enum-told2 .given .1) (silent-leaves l _ (s .pre .have) Await (c .silent3 .ensures))
 
 returns-5 : tie.Need-returns-5
 unfolding step-by brought
 returns-5 c =
-    let s = entered (c .before .before .before) in
-    let a = s .args in
-    step-as (length (a .out .now)) (a .live) (a .buf .now) Await Failed refl (c .before .enum-told3 .given .1)
-    (silent-leaves (a .live) (a .buf .now) (s .pre .have) (Over ReadFailed) (c .silent4 .ensures))
+    let s = entered (c .before .before .before) in let l = s .args .live in
+    step-as _ l _ Await Failed refl (c .before .enum-told3 .given .1) (silent-leaves l _ (s .pre .have) (Over ReadFailed) (c .silent4 .ensures))
 
 pub wait-spec : {M : Type 1} → statement M
 wait-spec =

@@ -24,9 +24,7 @@ loop-holds c = (omega arith, unwritten, omega arith)
 
 returns : tie.Need-returns Inv-loop μ-loop
 returns c =
-    let e = c .before .before in
-    let n = length (e .before .before .args .text .now) in
-    let l = e .loop in
+    let e = c .before .before in let n = length (e .before .before .args .text .now) in let l = e .loop in
     record { inside = omega arith; all = sym (le-leb n (l .at) (omega arith)); count = _; written = l .inv .1; stops = λ e. absurd (holds (sym e)) }
 
 write-from-requires : tie.Need-write-from-requires Inv-loop μ-loop
@@ -34,10 +32,7 @@ write-from-requires c κs = search needs
 
 returns-2 : tie.Need-returns-2 Inv-loop μ-loop
 returns-2 c =
-    let w = c .before .before in
-    let e = w .before .before .before in
-    let n = length (e .before .before .args .text .now) in
-    let l = e .loop in
+    let w = c .before .before in let e = w .before .before .before in let n = length (e .before .before .args .text .now) in let l = e .loop in
     record {
       inside = omega arith;
       all = sym (lt-leb n (l .at) (omega arith));
@@ -54,9 +49,7 @@ loop-less c = search needs
 
 loop-again : tie.Need-loop-again Inv-loop μ-loop
 loop-again c =
-    let w = c .before .before in
-    let g = w .write-from .ensures in
-    let i = w .before .before .before .loop .inv in
+    let w = c .before .before in let g = w .write-from .ensures in let i = w .before .before .before .loop .inv in
     (writes-from-inside g, written-more (i .1) g (not-false _ (c .if2 .left)) (omega (arith, i)), omega (arith, i))
 
 returns-3 : tie.Need-returns-3 Inv-loop μ-loop

@@ -44,10 +44,7 @@ write-as-requires c κs = search needs
 
 returns : tie.Need-returns
 returns c =
-    let n = c .before .before in
-    let w = n .before .before in
-    let a = w .before .before .before .args in
-    let error = c .before .errno in
+    let n = c .before .before in let w = n .before .before in let a = w .before .before .before .args in let error = c .before .errno in
     let put = w .write in
     record {
       put = put .result;

@@ -37,8 +37,7 @@ whole : (c : tie.After-complete-set) → c .complete-set .result ≡ gathered (v
 unfolding gathered view
 whole c = c .complete-set .ensures ∙ ap (complete-set _ _) (c .before .before .places-of .ensures .0)
 
-counted :
-    (c : tie.After-complete-set) → let s = at-start (c .before .before .before) in
+counted : (c : tie.After-complete-set) → let s = at-start (c .before .before .before) in
     machine.ones (c .complete-set .result) ≡ ones (s .head .plan .users) (gathered (view s))
 unfolding gathered view
 counted c =
@@ -47,11 +46,23 @@ counted c =
     ones-same _ _ h ∙ ap (ones (s .head .plan .users)) (whole c)
 
 -- ---- the needs
+not-gathering-requires : tie.Need-not-gathering-requires
+not-gathering-requires c κs = search needs
+
+close-refused-requires : tie.Need-close-refused-requires
+close-refused-requires c κs = search needs
+
 returns : tie.Need-returns
 unfolding close-refusal
 returns c =
     let d = c .before in
     rw (c .close-refused .ensures) (close-refused _ (d .if1 .taken) (then-stops (d .before .not-gathering .ensures) (d .if1 .taken) _))
+
+is-good-requires : tie.Need-is-good-requires
+is-good-requires c κs = search needs
+
+close-refused-requires-2 : tie.Need-close-refused-requires-2
+close-refused-requires-2 c κs = search needs
 
 returns-2 : tie.Need-returns-2
 unfolding close-refusal
@@ -60,6 +71,9 @@ returns-2 c =
     let bad = sym (d .before .is-good .ensures) ∙ not-true _ (d .if2 .taken) in
     rw (c .close-refused2 .ensures) (close-refused _ (λ z. omega arith) (test-refused bad _ _ ∙ sym (then-taken (phase-right (d .before)) _)))
 
+places-of-requires : tie.Need-places-of-requires
+places-of-requires c κs = good _ (a-plan c)
+
 complete-set-requires : tie.Need-complete-set-requires
 complete-set-requires c κs =
     let e = c .before .before in
@@ -67,23 +81,24 @@ complete-set-requires c κs =
     let n : length (at-start e .first) ≡ firsts = search needs in
     (g .users-high, omega arith, c .before .places-of .ensures .1, omega arith)
 
+close-refused-requires-3 : tie.Need-close-refused-requires-3
+close-refused-requires-3 c κs = search needs
+
 returns-3 : tie.Need-returns-3
 unfolding close-refusal
 returns-3 c =
-    let d = c .before .before .before in
-    let e = d .before .before .before in
-    let s = at-start e in
+    let d = c .before .before .before in let e = d .before .before .before in let s = at-start e in
     let h : ones (s .head .plan .users) (gathered (view s)) < s .head .plan .threshold = omega (arith, counted d, c .before .if3 .taken) in
     rw (c .close-refused3 .ensures)
     (close-refused s (λ z. omega arith) (sym (unless-failed (lt-leb _ _ h) 15) ∙ passed (phase-right (e .before)) (unless-held (a-plan e) 15) _))
 
+nothing-reply-requires : tie.Need-nothing-reply-requires
+nothing-reply-requires c κs = search needs
+
 returns-4 : tie.Need-returns-4
 unfolding close-refusal closed
 returns-4 c =
-    let f = c .before in
-    let d = f .before .before in
-    let e = d .before .before .before in
-    let s = at-start e in
+    let f = c .before in let d = f .before .before in let e = d .before .before .before in let s = at-start e in
     let h : s .head .plan .threshold ≤ ones (s .head .plan .users) (gathered (view s)) = omega (arith, counted d, f .if3 .left) in
     rw (c .nothing-reply .ensures)
     (close-taken s (sym (unless-held (le-leb _ _ h) 15) ∙ passed (phase-right (e .before)) (unless-held (a-plan e) 15) _) (whole d))
@@ -91,5 +106,16 @@ returns-4 c =
 pub close-lent-spec : {M : Type 1} → statement M
 close-lent-spec =
     tie.close
-    (tie.spec (λ c κs. search needs) (λ c κs. search needs) returns (λ c κs. search needs) (λ c κs. search needs) returns-2
-    (λ c κs. good _ (a-plan c)) complete-set-requires (λ c κs. search needs) returns-3 (λ c κs. search needs) returns-4)
+    (tie.spec
+    not-gathering-requires
+    close-refused-requires
+    returns
+    is-good-requires
+    close-refused-requires-2
+    returns-2
+    places-of-requires
+    complete-set-requires
+    close-refused-requires-3
+    returns-3
+    nothing-reply-requires
+    returns-4)

@@ -41,9 +41,7 @@ mul-bit c =
     omega (arith, completing-bit _ _ _ (a .before .before .loop .inv) (a .before .before .before .before .pre .0) (a .if1 .taken))
 
 add-start : tie.Need-add-start Inv-loop μ-loop
-add-start c =
-    let a = c .before .before in
-    omega (arith, completing-inside _ _ _ (a .before .before .loop .inv) (a .if1 .taken))
+add-start c = let a = c .before .before in omega (arith, completing-inside _ _ _ (a .before .before .loop .inv) (a .if1 .taken))
 
 add-k : tie.Need-add-k Inv-loop μ-loop
 add-k c = search needs
@@ -53,9 +51,7 @@ loop-less c = search needs
 
 loop-again : tie.Need-loop-again Inv-loop μ-loop
 loop-again c =
-    let a = c .before .before in
-    let l = a .before .before .loop in
-    let s = a .before .before .before .before in
+    let a = c .before .before in let l = a .before .before .loop in let s = a .before .before .before .before in
     let r : c .before .row-held .result ≡ all-held (s .args .held .now) (s .args .stride) (s .args .each) (l .k + 1) =
     c .before .row-held .ensures ∙ ap (λ (x : ℕ). row-held (s .args .held .now) x (s .args .each)) (l .inv .at)
     ∙ look-row _ _ _ _ (omega arith) (s .pre .2) in

@@ -10,15 +10,11 @@ use Rattle.service.proofs.element_refusal.Tie as tie
 
 returns : tie.Need-returns
 unfolding element-refusal unless _then_
-returns c =
-    let h : c .before .args .user < 1 = omega arith in
-    simp (lt-leb _ _ h)
+returns c = let h : c .before .args .user < 1 = omega arith in simp (lt-leb _ _ h)
 
 returns-2 : tie.Need-returns-2
 unfolding element-refusal unless _then_
-returns-2 c =
-    let h : 1 ≤ c .before .before .args .user = omega arith in
-    simp (le-leb _ _ h, lt-leb _ _ (c .if2 .taken))
+returns-2 c = let h : 1 ≤ c .before .before .args .user = omega arith in simp (le-leb _ _ h, lt-leb _ _ (c .if2 .taken))
 
 returns-3 : tie.Need-returns-3
 unfolding element-refusal unless _then_
@@ -29,16 +25,14 @@ returns-3 c =
 returns-4 : tie.Need-returns-4
 unfolding element-refusal unless _then_
 returns-4 c =
-    let d = c .before in
-    let h : 1 ≤ d .before .before .before .args .user = omega arith in
-    simp (le-leb _ _ h, le-leb _ _ (d .before .if2 .left), lt-ltb _ _ (d .if3 .left), le-ltb _ _ (c .if4 .taken))
+    let h : 1 ≤ c .before .before .before .before .args .user = omega arith in
+    simp (le-leb _ _ h, le-leb _ _ (c .before .before .if2 .left), lt-ltb _ _ (c .before .if3 .left), le-ltb _ _ (c .if4 .taken))
 
 returns-5 : tie.Need-returns-5
 unfolding element-refusal unless _then_
 returns-5 c =
-    let d = c .before in
-    let h : 1 ≤ d .before .before .before .args .user = omega arith in
-    simp (le-leb _ _ h, le-leb _ _ (d .before .if2 .left), lt-ltb _ _ (d .if3 .left), lt-ltb _ _ (c .if4 .left))
+    let h : 1 ≤ c .before .before .before .before .args .user = omega arith in
+    simp (le-leb _ _ h, le-leb _ _ (c .before .before .if2 .left), lt-ltb _ _ (c .before .if3 .left), lt-ltb _ _ (c .if4 .left))
 
 pub element-refusal-spec : {M : Type 1} → statement M
 element-refusal-spec = tie.close (tie.spec returns returns-2 returns-3 returns-4 returns-5)

@@ -50,8 +50,7 @@ clear-requires c κs = search needs
 returns-3 : tie.Need-returns-3
 unfolding plan-step plan-refusal planned
 returns-3 c =
-    let d = c .before .before .before in
-    let e = d .before in
+    let d = c .before .before .before in let e = d .before in
     step-taken (sym (then-taken (none-yet (e .before .before)) _ ∙ unless-held (is-good e) 1))
     (simp (d .places-of .ensures .0, c .clear .ensures .0, c .clear .ensures .1)) _
 

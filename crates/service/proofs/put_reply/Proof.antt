@@ -12,7 +12,7 @@ use Rattle.scheme.specs.Limits.{most-blocks}
 use Rattle.scheme.specs.Scheme.{q, sixteen, in-set}
 use Rattle.scheme.specs.Service.{not-replying, element-refusal}
 use Rattle.scheme.proofs.Refusals.{then-taken, then-stops, unless-held, unless-failed}
-use Rattle.scheme.proofs.Pooling.Well.{Fits, fits}
+use Rattle.scheme.proofs.Pooling.Well.{fits}
 use Rattle.service.specs.View.{phase-of, slot}
 use Rattle.service.specs.Calls.{reply-refusal, reply-left}
 use Rattle.service.proofs.Refused.{passed, test-passed, test-refused, beyond, within, not-free, is-free, array-refused, array-taken}
@@ -26,38 +26,40 @@ array c = c .before .before .before .before .args .reply .now
 phase-right : (c : tie.Else1) → not-replying (phase-of (c .before .before .args .head .phase)) ≡ 0
 phase-right c = sym (c .before .not-replying .ensures) ∙ c .if1 .left
 
-element-right :
-    (c : tie.Else2) → let a = c .before .before .before .before .args in
+element-right : (c : tie.Else2) → let a = c .before .before .before .before .args in
     element-refusal sixteen (a .head .plan .users) (a .head .plan .blocks) (a .user) (a .block) (a .element) ≡ 0
 element-right c = sym (c .before .element-refusal .ensures) ∙ c .if2 .left
 
-fit :
-    (c : tie.Else2) → let a = c .before .before .before .before .args in
-    Fits sixteen (a .head .plan .users) (a .head .plan .blocks) (a .user) (a .block) (a .element)
-fit c = fits sixteen _ _ _ _ _ (element-right c)
-
-at-slot :
-    (c : tie.After-row-start) → let d = c .before in let a = d .before .before .before .before .args in
+at-slot : (c : tie.After-row-start) → let d = c .before in let a = d .before .before .before .before .args in
     c .row-start .result + a .block ≡ slot most-blocks (a .user) (a .block)
-at-slot c =
-    let d = c .before in
-    ap (λ (n : ℕ). n + d .before .before .before .before .args .block) (c .row-start .ensures)
+at-slot c = let d = c .before in ap (λ (n : ℕ). n + d .before .before .before .before .args .block) (c .row-start .ensures)
 
-survives :
-    (c : tie.Else4) → let d = c .before .before .before .before in let a = d .before .before .before .before .args in
+survives : (c : tie.Else4) → let d = c .before .before .before .before in let a = d .before .before .before .before .args in
     in-set (a .head .survivors) (a .user) ≡ true
 survives c = sym (c .before .holds .ensures) ∙ not-false _ (c .if4 .left)
 
 -- ---- the needs
+not-replying-requires : tie.Need-not-replying-requires
+not-replying-requires c κs = search needs
+
 returns : tie.Need-returns
 unfolding reply-refusal reply-left
 returns c = array-refused (c .if1 .taken) (then-stops (c .before .not-replying .ensures) (c .if1 .taken) _) _ _
+
+element-refusal-requires : tie.Need-element-refusal-requires
+element-refusal-requires c κs = search needs
 
 returns-2 : tie.Need-returns-2
 unfolding reply-refusal reply-left
 returns-2 c =
     array-refused (c .if2 .taken)
     (then-stops (c .before .element-refusal .ensures) (c .if2 .taken) _ ∙ sym (then-taken (phase-right (c .before .before)) _)) _ _
+
+row-start-requires : tie.Need-row-start-requires
+row-start-requires c κs = (fits sixteen _ _ _ _ _ (element-right c) .low, omega arith)
+
+add-at : tie.Need-add-at
+add-at c = search needs
 
 returns-3 : tie.Need-returns-3
 unfolding reply-refusal reply-left
@@ -67,35 +69,32 @@ returns-3 c =
     (test-refused (beyond (at-slot (c .before)) (c .if3 .taken)) _ _ ∙ passed (phase-right (d .before .before)) (element-right d) _) _ _
 
 holds-requires : tie.Need-holds-requires
-holds-requires c κs =
-    let h = fit (c .before .before) .low in
-    (h, omega arith)
+holds-requires c κs = let h = fits sixteen _ _ _ _ _ (element-right (c .before .before)) .low in (h, omega arith)
 
 returns-4 : tie.Need-returns-4
 unfolding reply-refusal reply-left
 returns-4 c =
-    let e = c .before .before in
-    let d = e .before .before in
+    let e = c .before .before in let d = e .before .before in
     let out = sym (c .before .holds .ensures) ∙ not-true _ (c .if4 .taken) in
-    array-refused (λ z. omega arith)
-    (test-refused out _ _ ∙ test-passed (within (at-slot (e .before)) (e .if3 .left)) 8 _
+    array-refused (λ z. omega arith) (test-refused out _ _ ∙ test-passed (within (at-slot (e .before)) (e .if3 .left)) 8 _
     ∙ passed (phase-right (d .before .before)) (element-right d) _) _ _
+
+mul-if5 : tie.Need-mul-if5
+mul-if5 c = search needs
+
+element-copy-out-if5 : tie.Need-element-copy-out-if5
+element-copy-out-if5 c = search needs
 
 returns-5 : tie.Need-returns-5
 unfolding reply-refusal reply-left
 returns-5 c =
-    let f = c .before .before in
-    let e = f .before .before in
-    let s = at-slot (e .before) in
-    let d = e .before .before in
+    let f = c .before .before in let e = f .before .before in let s = at-slot (e .before) in let d = e .before .before in
     array-refused (λ z. omega arith)
     (sym (unless-failed (not-free s (array d) (c .if5 .taken)) 13) ∙ test-passed (survives f) 14 _ ∙ test-passed (within s (e .if3 .left)) 8 _
     ∙ passed (phase-right (d .before .before)) (element-right d) _) _ _
 
 small : (c : tie.Else5) → let d = c .before .before .before .before in let a = d .before .before .before .before in a .before .before .args .element < q
-small c =
-    let d = c .before .before .before .before in
-    fit (d .before .before) .small
+small c = let d = c .before .before .before .before in fits sixteen _ _ _ _ _ (element-right (d .before .before)) .small
 
 cast-held-as : tie.Need-cast-held-as
 cast-held-as c = omega (arith, small c)
@@ -103,22 +102,37 @@ cast-held-as c = omega (arith, small c)
 held-as-requires : tie.Need-held-as-requires
 held-as-requires c κs = omega (arith, small c)
 
+mul-reply : tie.Need-mul-reply
+mul-reply c = search needs
+
+element-write-reply : tie.Need-element-write-reply
+element-write-reply c = search needs
+
 returns-6 : tie.Need-returns-6
 unfolding reply-refusal reply-left
 returns-6 c =
-    let g = c .before in
-    let f = g .before .before in
-    let e = f .before .before in
-    let s = at-slot (e .before) in
-    let d = e .before .before in
-    array-taken
-    (sym (unless-held (is-free s (array d) (g .if5 .left)) 13) ∙ test-passed (survives f) 14 _ ∙ test-passed (within s (e .if3 .left)) 8 _
-    ∙ passed (phase-right (d .before .before)) (element-right d) _)
-    (ap₂ (λ (n x : ℕ). set (array d) n x) s (c .held-as .ensures)) (array d)
+    let g = c .before in let f = g .before .before in let e = f .before .before in let s = at-slot (e .before) in let d = e .before .before in
+    array-taken (sym (unless-held (is-free s (array d) (g .if5 .left)) 13) ∙ test-passed (survives f) 14 _ ∙ test-passed (within s (e .if3 .left)) 8 _
+    ∙ passed (phase-right (d .before .before)) (element-right d) _) (ap₂ (λ (n x : ℕ). set (array d) n x) s (c .held-as .ensures)) (array d)
 
 pub put-reply-spec : {M : Type 1} → statement M
 put-reply-spec =
     tie.close
-    (tie.spec (λ c κs. search needs) returns (λ c κs. search needs) returns-2 (λ c κs. (fit c .low, omega arith)) (λ c. search needs) returns-3
-    holds-requires returns-4 (λ c. search needs) (λ c. search needs) returns-5 cast-held-as held-as-requires (λ c. search needs) (λ c. search needs)
+    (tie.spec
+    not-replying-requires
+    returns
+    element-refusal-requires
+    returns-2
+    row-start-requires
+    add-at
+    returns-3
+    holds-requires
+    returns-4
+    mul-if5
+    element-copy-out-if5
+    returns-5
+    cast-held-as
+    held-as-requires
+    mul-reply
+    element-write-reply
     returns-6)

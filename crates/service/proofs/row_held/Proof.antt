@@ -48,8 +48,7 @@ loop-less c = search needs
 
 loop-again : tie.Need-loop-again Inv-loop μ-loop
 loop-again c =
-    let l = c .before .before .before .loop in
-    let h = c .before .before .loop-test .taken in
+    let l = c .before .before .before .loop in let h = c .before .before .loop-test .taken in
     let g : Bool → Bool = λ b. l .good && b in (
       omega arith,
       ⊎-elim (λ w. rw (w .1) (sym (and-false (l .good)) ∙ ap g (sym (all-of-stop _ _ (l .i) h (ap not (eq-eqb _ _ (w .0 .taken))))) ∙ l .inv .1))
