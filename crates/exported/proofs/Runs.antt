@@ -6,6 +6,7 @@
 use mathlib.Core.Path.{_≡_, sym, ap, _∙_, subst}
 use mathlib.Core.Bool.{true}
 use mathlib.Core.List.{List, [], _∷_, map}
+use Prim.Native.Nat.{ℕ}
 use lib.Dec.{lit<}
 use lib.ListN.{take}
 use Rattle.scheme.specs.Scheme.{sixteen, plan-good, places, after, unless, _then_}
@@ -45,8 +46,10 @@ module _ (a : Arrays) (w : Formed sixteen (state a)) where
   step-right (reply-call k b x) = stands (calls-stand a .reply-stands k b x) (reply-steps sixteen (state a) k b x w)
   step-right (finish-call o) =
       let t = finish-step sixteen laws16 (state a) in
+      let say : List ℕ → Answer = λ l. totalled (state a .head .round) (take (places (plan-of (plan-in a))) l) in
       stands (calls-stand a .finish-stands)
-      (subst (λ (b : Answer). Is-step sixteen finish-record (state a) b (t .service)) (sym (told-after (λ l. totalled (state a .head .round) (take (places (plan-of (plan-in a))) l)) (t .number) (t .totals) o)) (finish-steps sixteen laws16 (state a) w))
+      (subst (λ (b : Answer). Is-step sixteen finish-record (state a) b (t .service)) (sym (told-after say (t .number) (t .totals) o))
+      (finish-steps sixteen laws16 (state a) w))
 
 pub run-formed : (cs : List Call) (a : Arrays) → Formed sixteen (state a) → Formed sixteen (state (run cs a))
 unfolding run
@@ -67,7 +70,8 @@ pub runs-right : Runs-right
 unfolding Runs-right New-formed New-stands
 runs-right cs =
     record {
-      runs = subst (λ (s : State). Runs sixteen (map record-of cs) s (answers cs zeros) (view (state (run cs zeros)))) (ap view new-stands ∙ new-formed sixteen (lit< tt) .0)
+      runs = subst (λ (s : State). Runs sixteen (map record-of cs) s (answers cs zeros) (view (state (run cs zeros))))
+          (ap view new-stands ∙ new-formed sixteen (lit< tt) .0)
           (run-steps cs zeros zeros-formed);
       formed = run-formed cs zeros zeros-formed;
     }
