@@ -163,7 +163,7 @@ fn element_refusal(users: u32, limit: u32, user: u32, at: u32, element: u32) -> 
 }
 
 // An element is held as itself plus 1, and 0 stands where none is held.
-pub fn held_as(element: u16) -> u16
+fn held_as(element: u16) -> u16
     requires { ⌜ element < q ⌝ }
     ensures { λ r. ⌜ r ≡ held-as element ⌝ }
 {
