@@ -1,5 +1,6 @@
 -- How far feed is, and what it hands back.
---   Ready, ready                            what a record that is taken has
+--   Ready, ready, ready-true, ready-false   what a record that is taken has
+--   stop-used                               none is taken where the chunk ends
 --   said, behind                            the line of the record at a place, and the state behind it
 --   Along, along-start, along-more          the bytes used so far are whole records, and state and length written are theirs
 --   fed-far, fed-near, fed-more, fed-end    what fed is: offsets that pass 64 bits or do not, one record more, no more
@@ -12,13 +13,13 @@ use mathlib.Core.List.{List, [], _∷_, _++_, append-nil}
 use Prim.Native.Nat.{ℕ, zero, suc, _+_, _-_, _^_, _≤_, _<_}
 use native.Mathlib.Omega.{arith}
 use lib.ListN.{length, take, length-append}
-use borrow.Author.Tests.{ltb-true, leb-true, eqb-false, not-true, le-leb, lt-leb}
-use Rattle.scheme.proofs.Tests.{both}
+use borrow.Author.Tests.{ltb-true, leb-true, eqb-false, not-true, lt-ltb, le-leb, lt-leb, ne-eqb}
+use Rattle.scheme.proofs.Tests.{both, is-false}
 use Rattle.service.specs.declared.Service.{Service}
 use Rattle.lines.specs.Text.{line}
 use Rattle.lines.specs.Put.{room, Put}
 use Rattle.lines.proofs.Lines.{put-none, put-append, put-as, put-length}
-use Rattle.stream.specs.declared.Stop.the-variants.{Far}
+use Rattle.stream.specs.declared.Stop.the-variants.{Used, Far}
 use Rattle.stream.specs.Stream.{length-at, record-at, Whole, Item, taken, items-from, items, step, answers, text, lines, ready-at, stop-at, halt, fed-from, fed, Turns}
 use Rattle.stream.specs.Promise.{all-taken, last-state}
 use Rattle.stream.proofs.Records.{items-next, taken-append, state-append, text-append}
@@ -39,6 +40,19 @@ ready b at left e =
     let i = ltb-true at (length b) (z .0) in
     let l = leb-true (length-at b at) (length b - at) (y .1) in
     record { known = eqb-false _ _ (not-true _ (z .1)); whole = record { inside = i; whole = omega arith }; fits = leb-true room left (x .1) }
+
+pub ready-true : {b : List ℕ} {at left : ℕ} → Ready b at left → ready-at b at left ≡ true
+unfolding ready-at
+ready-true {b} {at} {left} r =
+    let rest : length-at b at ≤ length b - at = omega (arith, r .whole .whole) in
+    simp (lt-ltb _ _ (r .whole .inside), ne-eqb _ _ (r .known), le-leb _ _ rest, le-leb _ _ (r .fits))
+
+pub ready-false : (b : List ℕ) (at left : ℕ) → (Ready b at left → ⊥) → ready-at b at left ≡ false
+ready-false b at left h = is-false _ (λ e. h (ready b at left e))
+
+pub stop-used : (b : List ℕ) (at : ℕ) → length b ≤ at → Used ≡ stop-at b at
+unfolding stop-at
+stop-used b at h = rw (le-leb (length b) at h)
 
 -- ---- whole records
 pub record Along (s : Service) (b : List ℕ) (o : ℕ) (t : Service) (at wrote : ℕ) : Type 0 where
@@ -131,10 +145,9 @@ module _ {s : Service} {b : List ℕ} {o : ℕ} {out₀ : List ℕ} {t : Service
   same : ready-at b at (length out₀ - wrote) ≡ ready-at b at (length out - wrote)
   same = ap (λ (n : ℕ). ready-at b at (n - wrote)) (sym (g .long))
 
-  pub going-more : ready-at b at (length out - wrote) ≡ true → {n : ℕ} → n ≡ length-at b at → {u : Service} {out′ : List ℕ} {next : ℕ}
+  pub going-more : Ready b at (length out - wrote) → {n : ℕ} → n ≡ length-at b at → {u : Service} {out′ : List ℕ} {next : ℕ}
       → Turns (record-at b at) (o + at) t u out out′ wrote next → Going s b o out₀ u (at + n) next out′
-  going-more e d p =
-      let r = ready b at (length out - wrote) e in
+  going-more r d p =
       let fuel : suc (g .most - 1) ≡ g .most = omega (arith, g .enough, r .whole .inside) in
       rw (d, p .put .place, p .state)
       (record {
@@ -145,9 +158,9 @@ module _ {s : Service} {b : List ℕ} {o : ℕ} {out₀ : List ℕ} {t : Service
         most = g .most - 1;
         enough = omega (arith, g .enough, r .known);
         rest =
-            sym (fed-more (g .most - 1) t b o (length out₀) at wrote (same ∙ e))
+            sym (fed-more (g .most - 1) t b o (length out₀) at wrote (same ∙ ready-true r))
             ∙ ap (λ (m : ℕ). fed-from m t b o (length out₀) at wrote) fuel ∙ g .rest;
       })
 
-  pub going-end : ready-at b at (length out - wrote) ≡ false → halt t at wrote (stop-at b at) ≡ fed s b o (length out₀)
-  going-end e = sym (fed-end (g .most) t b o (length out₀) at wrote (same ∙ e)) ∙ g .rest
+  pub going-end : (Ready b at (length out - wrote) → ⊥) → halt t at wrote (stop-at b at) ≡ fed s b o (length out₀)
+  going-end h = sym (fed-end (g .most) t b o (length out₀) at wrote (same ∙ ready-false b at _ h)) ∙ g .rest

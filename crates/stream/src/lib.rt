@@ -4,7 +4,7 @@
 //   Turned, take_plan .. take_other            one record other than an element: the head behind it, and how far out is written
 //   early_refusal                              what the head alone refuses
 //   take_first, take_reply, put_element        one element: how far out is written
-//   ready_at, stop_at                          whether a record is taken at a place, and why none is
+//   stop_at, halt                              why no record is taken at a place, and what is then handed back
 //   feed, feed_near                            takes the whole records of a chunk in order
 //   cut                                        the line of refusal 7, for an unknown kind or a record that the end of the input cuts short
 ghost use mathlib.Core.Path.{_≡_};
@@ -18,7 +18,7 @@ ghost use Rattle.service.specs.Calls.{lent};
 ghost use Rattle.service.specs.Promise.{told};
 ghost use Rattle.lines.specs.Text.{line};
 ghost use Rattle.lines.specs.Put.{room, Put};
-ghost use Rattle.stream.specs.Stream.{record-length, two-bytes, four-bytes, plan-at, record-at, Whole, Other, lines, ready-at, stop-at, fed, early-refusal, Turns, cut-length, cut-left};
+ghost use Rattle.stream.specs.Stream.{record-length, two-bytes, four-bytes, plan-at, record-at, Whole, Other, lines, stop-at, halt, fed, early-refusal, Turns, cut-length, cut-left};
 use lines::LINE;
 use plan::CELLS;
 use plan::FIRSTS;
@@ -318,24 +318,7 @@ fn take_reply(
     put_element(out, at, number, offset)
 }
 
-// Whether a record is taken at a place: it is of a known kind and whole, and its line fits into the bytes that are left of the buffer.
-fn ready_at(b: &[u8], at: usize, left: usize) -> bool
-    ensures { λ r. ⌜ r ≡ ready-at (now (b .entry)) at left ⌝ }
-{
-    if b.len() <= at {
-        return false;
-    }
-    let n = record_length(b[at]);
-    if n == 0 {
-        return false;
-    }
-    if b.len() - at < n {
-        return false;
-    }
-    LINE <= left
-}
-
-// Why none is: the room for a line is the last test.
+// Why no record is taken at a place: the room for a line is the last test.
 fn stop_at(b: &[u8], at: usize) -> Stop
     ensures { λ r. ⌜ r ≡ stop-at (now (b .entry)) at ⌝ }
 {
@@ -352,6 +335,20 @@ fn stop_at(b: &[u8], at: usize) -> Stop
     Stop::Partial
 }
 
+// The replies are kept beside the state while records are taken.
+fn halt(state: Service, reply: [u16; CELLS], at: usize, wrote: usize, stop: Stop) -> Fed
+    ensures { λ r. ⌜ r ≡ halt (lent (state .head) (state .first) reply) at wrote stop ⌝ }
+{
+    let mut service = state;
+    service.reply = reply;
+    Fed {
+        service,
+        at,
+        wrote,
+        stop,
+    }
+}
+
 fn feed_near(start: Service, b: &[u8], offset: u64, out: &mut [u8]) -> Fed
     requires { ⌜ offset + length (now b) < 2 ^ 64 ⌝ }
     ensures result { λ r. ⌜ r ≡ fed start (now (b .entry)) offset (length (now (out .entry))) ⌝ }
@@ -361,40 +358,36 @@ fn feed_near(start: Service, b: &[u8], offset: u64, out: &mut [u8]) -> Fed
     let mut reply = start.reply;
     let mut at: usize = 0;
     let mut wrote: usize = 0;
-    while ready_at(b, at, out.len() - wrote) {
+    while at < b.len() {
         let kind = b[at];
+        let n = record_length(kind);
+        if n == 0 || b.len() - at < n || out.len() - wrote < LINE {
+            return halt(state, reply, at, wrote, stop_at(b, at));
+        }
         let here = offset + at as u64;
         // an element's 6 or 5 bytes are written out, so that the next record need not wait for a length that is looked up
         if kind == 3 {
-            let head = state.head;
-            wrote = take_first(head, &mut state.first, b, at, here, out, wrote);
+            wrote = take_first(state.head, &mut state.first, b, at, here, out, wrote);
             at += 6;
         } else if kind == 5 {
-            let head = state.head;
-            wrote = take_reply(head, &mut reply, b, at, here, out, wrote);
+            wrote = take_reply(state.head, &mut reply, b, at, here, out, wrote);
             at += 5;
         } else {
             let head = state.head;
             let number = early_refusal(head, b, at);
             if number != 0 {
                 wrote = lines::put_refusal(out, wrote, number, here);
-                at += record_length(kind);
+                at += n;
             } else {
                 let turn = take_other(head, &mut state.first, &mut reply, b, at, here, out, wrote);
                 let next = turn.head;
                 state.head = next;
                 wrote = turn.wrote;
-                at += record_length(kind);
+                at += n;
             }
         }
     }
-    state.reply = reply;
-    Fed {
-        service: state,
-        at,
-        wrote,
-        stop: stop_at(b, at),
-    }
+    halt(state, reply, at, wrote, Stop::Used)
 }
 
 // Takes the whole records of b in order; the first byte of b stands at the offset. It stops where b ends, at an unknown kind, at a
