@@ -7,10 +7,9 @@
 // Lists come first: they are pointer and length in registers, as C passes them.
 ghost use mathlib.Core.Path.{_≡_};
 ghost use lib.ListN.{length};
-ghost use Rattle.scheme.specs.Scheme.{sixteen, key-refusal};
+ghost use Rattle.scheme.specs.Scheme.{sixteen, key-refusal, key-left};
 ghost use Rattle.plan.specs.Plan.{plan-of};
 ghost use Rattle.plan.specs.Lengths.{row-len, list-len, key-len};
-ghost use Rattle.keys.specs.Promise.{key-left};
 ghost use Rattle.capi.specs.Plans.{code-plan};
 
 pub mod ends;

@@ -11,8 +11,7 @@ use mathlib.Core.Option.{Option, none, some}
 use Prim.Native.Nat.{ℕ, _≤_}
 use lib.ListN.{length}
 use Rattle.scheme.specs.Lists.{span}
-use Rattle.scheme.specs.Scheme as scheme
-use Rattle.scheme.specs.Scheme.{Arithmetic, plan-good, places, usable, users-in, key-length, key-refusal, after}
+use Rattle.scheme.specs.Scheme.{Arithmetic, plan-good, places, usable, users-in, key-length, key-left}
 use Rattle.scheme.specs.Promise.{Table, shown, admissible, list-good}
 use Rattle.plan.specs.declared.Plan.{Plan}
 use Rattle.plan.specs.Plan.{plan-of}
@@ -33,7 +32,7 @@ client-calls A (some c) ks fs v o =
 -- the key is made into a buffer, and a fresh client takes it
 unfoldable pub calls : Arithmetic → Plan → (list : List ℕ) → (figures : List ℕ) → (set user : ℕ) → (key-buffer buffer : List ℕ) → Handed
 calls A p xs fs v k ko o =
-    client-calls A (begun p k .client) (after (key-refusal A (plan-of p) k xs (length ko)) (scheme.key A (plan-of p) xs k) ko) fs v o
+    client-calls A (begun p k .client) (key-left A (plan-of p) k xs ko) fs v o
 
 unfoldable pub Shown-is-sent : Arithmetic → Type 0
 Shown-is-sent A =

@@ -6,7 +6,7 @@ use mathlib.Core.Logic.{_≢_}
 use mathlib.Core.List.{List}
 use Prim.Native.Nat.{ℕ}
 use lib.ListN.{length}
-use Rattle.scheme.specs.Scheme.{sixteen, key, key-refusal, after}
+use Rattle.scheme.specs.Scheme.{sixteen, key-refusal, key-left}
 use Rattle.plan.specs.declared.Plan.{Plan}
 use Rattle.plan.specs.Plan.{plan-of}
 use Rattle.client.specs.Client.{begun, first-answer, message-left, reply-answer}
@@ -16,8 +16,8 @@ use Rattle.exported.specs.Runs.{Call, finish-call, number-of, leaves}
 
 -- the key's buffer; the end's array; array and buffer; array, and no part; the service's arrays; the buffer for totals
 pub record Refused-unchanged : Type 0 where
-  pub key-kept : (p : Plan) (k : ℕ) (xs o : List ℕ) → let n = key-refusal sixteen (plan-of p) k xs (length o) in n ≢ 0 →
-      after n (key sixteen (plan-of p) xs k) o ≡ o
+  pub key-kept : (p : Plan) (k : ℕ) (xs o : List ℕ) → key-refusal sixteen (plan-of p) k xs (length o) ≢ 0 →
+      key-left sixteen (plan-of p) k xs o ≡ o
   pub start-kept : (p : Plan) (k : ℕ) (e : List ℕ) → begun p k .number ≢ 0 → start-left p k e ≡ e
   pub first-kept : (e ks fs o : List ℕ) → let a = first-answer sixteen (end-at e) ks fs (length o) in a .number ≢ 0 →
       (kept a e ≡ e) × (message-left sixteen (end-at e) ks fs o ≡ o)

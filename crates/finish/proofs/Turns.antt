@@ -1,24 +1,19 @@
 -- One turn of each loop.
 --   Listing, listing-start, listing-more-in, listing-more-out, listing-end     the users of a set
 --   reply-inside, reply-behind                                                 the replies of a row: those of the blocks, and 0 behind them
---   summing-start, summing-more, summing-end                                   a sum that is reduced at its end
 -- Assumes nothing.
 use mathlib.Core.Path.{_≡_, refl, sym, ap, _∙_, subst}
 use mathlib.Core.Bool.{Bool, true, false, cond}
 use mathlib.Core.List.{List, [], _∷_, _++_}
-use Prim.Native.Nat.{ℕ, _+_, _%_, _≤_, _<_}
-use native.Mathlib.Nat.{add-comm, zero-add, zero-mod}
+use Prim.Native.Nat.{ℕ, _+_, _≤_, _<_}
+use native.Mathlib.Nat.{add-comm}
 use native.Mathlib.Omega.{arith}
 use lib.ListN.{length, getD, set, replicate, length-append}
 use borrow.Author.Tests.{lt-ltb, le-ltb}
-use Rattle.algebra.specs.Residue.{Prime}
-use Rattle.scheme.specs.Limits.{most-users, most-threshold, most-blocks}
-use Rattle.scheme.specs.Lists.{span, members, padded}
-use Rattle.scheme.specs.Scheme.{modular, sum}
-use Rattle.scheme.specs.Solve.{Unreduced}
+use Rattle.scheme.specs.Limits.{most-users, most-blocks}
+use Rattle.scheme.specs.Lists.{members, padded}
 use Rattle.scheme.proofs.Making.Rows.{members-take, members-skip}
 use Rattle.scheme.proofs.Padded.{padded-next}
-use Rattle.scheme.proofs.Solving.Modular.{unreduced-one, unreduced-both}
 use Rattle.service.specs.View.{held-in}
 use Rattle.finish.specs.Parts.{row-reply}
 
@@ -68,16 +63,3 @@ module _ (ys rs : List ℕ) (m a b : ℕ) where
   pub reply-behind : m ≤ b → row-reply ys rs m a b ≡ 0
   unfolding row-reply
   reply-behind h = ap (λ (t : Bool). cond t (held-in most-blocks ys (getD rs a 0) b) 0) (le-ltb b m h)
-
--- ---- a sum of numbers modulo a prime, one more a turn
-pub summing-start : (q most : ℕ) (f : ℕ → ℕ) → Unreduced q most f 0 0 0
-unfolding sum
-summing-start q most f = record { small = omega arith; right = zero-mod q }
-
-module _ {q : ℕ} (prime : Prime q) (large : most-users + most-threshold < q) (most : ℕ) (f : ℕ → ℕ) where
-  pub summing-more : (i s t : ℕ) → t ≡ f i → t ≤ most → Unreduced q most f 0 i s → Unreduced q most f 0 (i + 1) (s + t)
-  summing-more i s t e h g =
-      unreduced-both prime large most f 0 i 1 s t g (unreduced-one prime large most f (0 + i) t (ap (λ (x : ℕ). x % q) (e ∙ ap f (sym (zero-add i)))) h)
-
-pub summing-end : (q most : ℕ) (f : ℕ → ℕ) (n i s : ℕ) → i ≤ n → n ≤ i → Unreduced q most f 0 i s → s % q ≡ sum (modular q) (span n 0) f
-summing-end q most f n i s h l g = let e : i ≡ n = omega arith in g .right ∙ ap (λ (k : ℕ). sum (modular q) (span k 0) f) e

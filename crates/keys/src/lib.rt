@@ -19,10 +19,10 @@ ghost use lib.ListN.{length, getD, replicate};
 ghost use lib.Seq.{sets};
 ghost use Rattle.scheme.specs.Limits.{most-users, most-blocks, most-threshold, most-items, most-places, cells, points};
 ghost use Rattle.scheme.specs.Lists.{span, rows};
-ghost use Rattle.scheme.specs.Scheme.{q, sixteen, places, sets-with, mask, shares, key-length, key-refusal};
-ghost use Rattle.scheme.specs.KeyParts.{Key-input, Coefficients, block-values, Products, shares-from, Row-added, Unreduced-weight, Unreduced-sums};
+ghost use Rattle.scheme.specs.Scheme.{q, sixteen, places, sets-with, mask, shares, key-length, key-refusal, key-left};
+ghost use Rattle.scheme.specs.Weighed.{Unreduced};
+ghost use Rattle.scheme.specs.KeyParts.{Key-input, Coefficients, block-values, Products, shares-from, Row-added, Unreduced-sums};
 ghost use Rattle.plan.specs.Plan.{plan-of};
-ghost use Rattle.keys.specs.Promise.{key-left};
 ghost use Rattle.element.specs.Fold.{most-word, most-product};
 use element::Q;
 use element::all_elements;
@@ -232,7 +232,7 @@ fn coefficients(user: u32, first: u32, n: u32) -> [u16; USERS]
 // n numbers of the list from `from` on times the coefficients, not reduced.
 fn weigh(row: &[u16; USERS], n: usize, list: &[u16], from: usize) -> u64
     requires { ⌜ (n ≤ most-items) × (from + n ≤ length (now list)) ⌝ }
-    ensures { λ r. ⌜ Unreduced-weight q most-product (now (row .entry)) n (λ i. getD (now (list .entry)) (from + i) 0) r ⌝ }
+    ensures { λ r. ⌜ Unreduced q most-product (λ i. getD (now (row .entry)) i 0 * getD (now (list .entry)) (from + i) 0) 0 n r ⌝ }
 {
     let mut sum: u64 = 0;
     let mut i = 0;

@@ -1,21 +1,22 @@
 -- Numbers times a list of factors, one product more a turn.
 --   sum-more                                    a sum over one index more
---   weighed-same, weighed-more, weighed-small   the same values; one more; it is an element
+--   weighed-same, weighed-small                 the same values; it is an element
+--   unreduced-none, unreduced-one, unreduced-both, unreduced-more    sums that are reduced at their end: of no number, of one, of more, of one more
 -- Assumes nothing.
 use mathlib.Core.Path.{_≡_, sym, ap, ap₂, _∙_}
 use mathlib.Core.List.{List, [], _∷_, _++_}
-use Prim.Native.Nat.{ℕ, _+_, _<_}
-use native.Mathlib.Nat.{zero-add}
+use Prim.Native.Nat.{ℕ, _+_, _%_, _≤_, _<_}
+use native.Mathlib.Nat.{zero-add, add-zero, one-mul, add-mul, add-mod, zero-mod}
 use native.Mathlib.Omega.{arith}
 use lib.ListN.{getD}
 use Rattle.algebra.specs.Field.{Field}
 use Rattle.algebra.proofs.Sums.{sum-append as field-sum-append}
 use Rattle.scheme.specs.Lists.{span}
-use Rattle.scheme.specs.Scheme.{Arithmetic, sum}
+use Rattle.scheme.specs.Scheme.{Arithmetic, modular, sum}
 use Rattle.scheme.specs.Laws.{Laws}
-use Rattle.scheme.specs.Weighed.{weighed}
+use Rattle.scheme.specs.Weighed.{weighed, Unreduced}
 use Rattle.scheme.proofs.Lists.{span-append, span-in}
-use Rattle.scheme.proofs.Sums.{el-same, sum-el, sum-small, sum-same}
+use Rattle.scheme.proofs.Sums.{el-same, sum-el, sum-small, sum-same, sum-append}
 
 pub weighed-same : (A : Arithmetic) (cs : List ℕ) (n : ℕ) (f g : ℕ → ℕ) → ((i : ℕ) → i < n → f i ≡ g i) → weighed A cs n f ≡ weighed A cs n g
 unfolding weighed
@@ -30,13 +31,26 @@ module _ {A : Arithmetic} {n m : ℕ} (L : Laws A n m) where
       (sum-el A n m L (l ++ (k ∷ [])) f ∙ field-sum-append K l (k ∷ []) (λ i. el (f i))
       ∙ ap₂ _⊕_ (sym (sum-el A n m L l f)) (K .add-zero (el (f k))) ∙ sym (L .el-add (sum A l f) (f k)))
 
-  pub weighed-more : (cs : List ℕ) (i : ℕ) (f : ℕ → ℕ) → weighed A cs (i + 1) f ≡ A .add (weighed A cs i f) (A .multiply (getD cs i 0) (f i))
-  unfolding weighed
-  weighed-more cs i f =
-      let g : ℕ → ℕ = λ j. A .multiply (getD cs j 0) (f j) in
-      ap (λ (l : List ℕ). sum A l g) (span-append i 1 0) ∙ sum-more (span i 0) (0 + i) g
-      ∙ ap (λ (j : ℕ). A .add (sum A (span i 0) g) (g j)) (zero-add i)
-
   pub weighed-small : (cs : List ℕ) (i : ℕ) (f : ℕ → ℕ) → weighed A cs i f < A .size
   unfolding weighed
   weighed-small cs i f = sum-small A n m L (span i 0) (λ j. A .multiply (getD cs j 0) (f j))
+
+-- ---- sums that are reduced at their end
+pub unreduced-none : (q most : ℕ) (f : ℕ → ℕ) (k : ℕ) → Unreduced q most f k 0 0
+unfolding sum
+unreduced-none q most f k = record { small = omega arith; right = zero-mod q }
+
+module _ {q n m : ℕ} (L : Laws (modular q) n m) {most : ℕ} {f : ℕ → ℕ} where
+  pub unreduced-one : (k r : ℕ) → r % q ≡ f k % q → r ≤ most → Unreduced q most f k 1 r
+  unfolding sum
+  unreduced-one k r e h = record { small = omega (arith, one-mul most); right = e ∙ simp add-zero }
+
+  pub unreduced-both : (k i j r s : ℕ) → Unreduced q most f k i r → Unreduced q most f (k + i) j s → Unreduced q most f k (i + j) (r + s)
+  unreduced-both k i j r s a b = record {
+    small = omega (arith, add-mul i j most);
+    right = add-mod r s q ∙ ap₂ (λ (x y : ℕ). (x + y) % q) (a .right) (b .right)
+        ∙ sym (ap (λ (l : List ℕ). sum (modular q) l f) (span-append i j k) ∙ sum-append (modular q) n m L (span i k) (span j (k + i)) f);
+  }
+
+  pub unreduced-more : (i r s : ℕ) → Unreduced q most f 0 i r → s % q ≡ f i % q → s ≤ most → Unreduced q most f 0 (i + 1) (r + s)
+  unreduced-more i r s a e h = unreduced-both 0 i 1 r s a (rw (zero-add i) (unreduced-one i s e h))

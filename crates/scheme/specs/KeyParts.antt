@@ -5,7 +5,7 @@
 --   Products                                 the first columns with the masks of all users, a row of most-blocks numbers a user
 --   set-sum, share-from, shares-from         sums of products over a set; the shares from these and the noise
 --   Row-added                                n products, from a place on, added to the first n of a row of sums
---   Unreduced-weight, Unreduced-sums         totals modulo q that are not reduced yet, of summands up to `most`
+--   Unreduced-sums                           totals modulo q that are not reduced yet, of summands up to `most`
 -- Assumes nothing: these are definitions.
 use mathlib.Core.Path.{_≡_}
 use mathlib.Core.List.{List, map}
@@ -62,10 +62,6 @@ shares-from A p zs cs xs v from = map (share-from A p zs cs xs v from) (span (p 
 pub record Row-added (most : ℕ) (zs : List ℕ) (from n : ℕ) (old new : List ℕ) : Type 0 where
   pub small : (b : ℕ) → b < n → getD zs (from + b) 0 ≤ most
   pub right : new ≡ sets old 0 (map (λ b. getD old b 0 + getD zs (from + b) 0) (span n 0))
-
-pub record Unreduced-weight (q most : ℕ) (cs : List ℕ) (n : ℕ) (f : ℕ → ℕ) (total : ℕ) : Type 0 where
-  pub small : total ≤ n * most
-  pub right : total % q ≡ weighed (modular q) cs n f
 
 -- for each block, over those of the first n users that are in the set
 pub record Unreduced-sums (q most : ℕ) (zs : List ℕ) (v n : ℕ) (sums : List ℕ) : Type 0 where

@@ -5,7 +5,7 @@
 --   list-length, mask, noise           the random list and what stands where
 --   column, row-value, share, key      shares and keys
 --   first-message, reply, total-at     messages and totals
---   Stage, start-refusal, key-refusal, message-refusal, reply-refusal, after    what the calls answer and leave
+--   Stage, start-refusal, key-refusal, message-refusal, reply-refusal, after, key-left    what the calls answer and leave
 -- Document 01's airfield is a user here, and its S of an airfield is that user's mask. Assumes nothing: these are definitions.
 use mathlib.Core.Bool.{Bool, true, false, _&&_, not, cond}
 use mathlib.Core.List.{List, [], _∷_, _++_, map}
@@ -204,3 +204,6 @@ reply-refusal A p k g ks v =
 unfoldable pub after : {A : Type 0} → (refusal : ℕ) → (new old : A) → A
 after zero new old = new
 after (suc n) new old = old
+
+abbrev pub key-left : Arithmetic → Plan → (k : ℕ) → (list out : List ℕ) → List ℕ
+key-left A p k xs o = after (key-refusal A p k xs (length o)) (key A p xs k) o

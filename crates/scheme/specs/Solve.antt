@@ -14,7 +14,6 @@
 --   inverse-at                 what the value of a row counts for an unknown
 --   Sums-low                   sums with the first n points are below the bound of all
 --   Factors                    n factors, and 0 behind them
---   Unreduced                  a sum that is to be reduced at its end
 -- Assumes nothing: these are definitions.
 use mathlib.Core.Path.{_≡_}
 use mathlib.Core.Logic.{_≢_}
@@ -118,8 +117,3 @@ pub record Sums-low (x n : ℕ) (ps : List ℕ) : Type 0 where
 pub record Factors (n : ℕ) (cs : List ℕ) : Type 0 where
   pub few : n ≤ most-users
   pub behind : (i : ℕ) → n ≤ i → getD cs i 0 ≡ 0
-
--- of n terms from k on, each at most `most`
-pub record Unreduced (q most : ℕ) (f : ℕ → ℕ) (k n total : ℕ) : Type 0 where
-  pub small : total ≤ n * most
-  pub right : total % q ≡ sum (modular q) (span n k) f

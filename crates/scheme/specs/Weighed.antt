@@ -1,11 +1,18 @@
--- Numbers times factors, over an arithmetic.
---   weighed   what f says of the first n numbers, times the factors
+-- Numbers times factors, over an arithmetic, and sums modulo q that are reduced at their end.
+--   weighed     what f says of the first n numbers, times the factors
+--   Unreduced   a total modulo q, of summands up to `most`
 -- Assumes nothing: these are definitions.
+use mathlib.Core.Path.{_≡_}
 use mathlib.Core.List.{List}
-use Prim.Native.Nat.{ℕ}
+use Prim.Native.Nat.{ℕ, _*_, _%_, _≤_}
 use lib.ListN.{getD}
 use Rattle.scheme.specs.Lists.{span}
-use Rattle.scheme.specs.Scheme.{Arithmetic, sum}
+use Rattle.scheme.specs.Scheme.{Arithmetic, modular, sum}
 
 unfoldable pub weighed : Arithmetic → (factors : List ℕ) → (n : ℕ) → (values : ℕ → ℕ) → ℕ
 weighed A cs n f = sum A (span n 0) (λ i. A .multiply (getD cs i 0) (f i))
+
+-- of the n numbers from k on
+pub record Unreduced (q most : ℕ) (f : ℕ → ℕ) (k n total : ℕ) : Type 0 where
+  pub small : total ≤ n * most
+  pub right : total % q ≡ sum (modular q) (span n k) f

@@ -2,25 +2,24 @@
 -- The measure is how many are left. Assumes nothing.
 use mathlib.Core.Path.{_≡_, sym, ap, _∙_}
 use mathlib.Core.List.{map}
-use Prim.Native.Nat.{ℕ, _+_, _-_, _≤_, _<_}
+use Prim.Native.Nat.{ℕ, _+_, _-_, _%_, _≤_, _<_}
 use native.Mathlib.Nat.{zero-add}
 use native.Mathlib.Omega.{arith}
-use lib.Dec.{lit<}
 use lib.ListN.{length, getD, length-replicate}
 use lib.Seq.{length-sets}
 use borrow.Author.Needs.{needs}
-use Rattle.algebra.proofs.Primes.{prime-65521}
 use Rattle.scheme.specs.Limits.{most-users, most-places}
 use Rattle.scheme.specs.Lists.{span}
 use Rattle.scheme.specs.Scheme.{q}
-use Rattle.scheme.specs.Solve.{Unreduced}
+use Rattle.scheme.specs.Weighed.{Unreduced}
 use Rattle.scheme.proofs.Lists.{zeros-at}
+use Rattle.scheme.proofs.Modular.{sixteen-sums}
+use Rattle.scheme.proofs.Weighed.{unreduced-none, unreduced-more}
 use Rattle.scheme.proofs.Making.Rows.{row-at}
 use Rattle.element.specs.Fold.{most-word}
 use Rattle.service.specs.View.{held-in}
 use Rattle.service.proofs.View.{held-at}
 use Rattle.finish.specs.Parts.{raised, first-sum}
-use Rattle.finish.proofs.Turns.{summing-start, summing-more, summing-end}
 use Rattle.finish.proofs.first_sums.Statement.{statement}
 use Rattle.finish.proofs.first_sums.Tie as tie
 
@@ -45,7 +44,7 @@ no-sums-requires c κs = search needs
 loop-holds : tie.Need-loop-holds Inv-loop μ-loop
 loop-holds c =
     let z = c .no-sums .ensures in
-    (omega arith, rw z (length-replicate {A = ℕ} most-places 0), λ p h. rw (z, zeros-at most-places p) (summing-start _ _ _))
+    (omega arith, rw z (length-replicate {A = ℕ} most-places 0), λ p h. rw (z, zeros-at most-places p) (unreduced-none _ _ _ _))
 
 mul-row-start : tie.Need-mul-row-start Inv-loop μ-loop
 mul-row-start c = search needs
@@ -78,18 +77,21 @@ loop-again c =
     let d = c .add-first .ensures .0 in (
       omega arith,
       ap length d ∙ length-sets (l .sums) 0 (map f (span n 0)) ∙ l .inv .1,
-      λ p h. rw (row-at (l .sums) 0 f n d p p (sym (zero-add p)) h (omega (arith, start t .pre .1, l .inv .1)))
-          (summing-more prime-65521 (lit< tt) _ _ (l .i) _ _ (ap (λ (f : ℕ). getD y (f + p) 0 - 1) (c .before .before .row-start .ensures)
-          ∙ sym (held-at most-places y _ p (k .0) (k .1) (omega (arith, start t .pre)))) (c .add-first .ensures .1 p h) (l .inv .2 p h)),
+      λ p h.
+          let held = held-at most-places y _ p (k .0) (k .1) (omega (arith, start t .pre)) in
+          let new = ap (λ (f : ℕ). getD y (f + p) 0 - 1) (c .before .before .row-start .ensures) ∙ sym held in
+          rw (row-at (l .sums) 0 f n d p p (sym (zero-add p)) h (omega (arith, start t .pre .1, l .inv .1)))
+          (unreduced-more sixteen-sums (l .i) _ _ (l .inv .2 p h) (ap (λ (x : ℕ). x % q) new) (c .add-first .ensures .1 p h)),
     )
 
 returns : tie.Need-returns Inv-loop μ-loop
 unfolding first-sum
 returns c =
     let l = c .before .loop in
+    let e : l .i ≡ c .before .before .before .args .count = omega (arith, l .inv .0, c .loop-test .left) in
     record {
       small = record { low = λ i h. omega (arith, l .inv .2 i h .small, l .inv .0, c .before .before .before .pre .0) };
-      right = λ i h. summing-end _ _ _ _ (l .i) _ (l .inv .0) (c .loop-test .left) (l .inv .2 i h);
+      right = λ i h. rw (← e) (l .inv .2 i h .right);
     }
 
 pub first-sums-spec : {M : Type 1} → statement M

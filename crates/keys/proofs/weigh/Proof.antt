@@ -1,25 +1,25 @@
--- `keys::weigh` meets its contract: one number a turn (KeySums.weight-more).
+-- `keys::weigh` meets its contract: one number a turn (Weighed.unreduced-more).
 use mathlib.Core.Path.{_≡_, ap}
-use Prim.Native.Nat.{ℕ, _+_, _-_, _%_, _≤_}
+use Prim.Native.Nat.{ℕ, _+_, _*_, _-_, _%_, _≤_}
 use native.Mathlib.Omega.{arith}
 use lib.ListN.{getD}
 use borrow.Author.Needs.{needs}
 use Rattle.scheme.specs.Scheme.{q}
-use Rattle.scheme.specs.KeyParts.{Unreduced-weight}
+use Rattle.scheme.specs.Weighed.{Unreduced}
 use Rattle.scheme.proofs.Modular.{sixteen-sums}
-use Rattle.scheme.proofs.Making.Sums.{weight-start, weight-more}
+use Rattle.scheme.proofs.Weighed.{unreduced-none, unreduced-more}
 use Rattle.element.specs.Fold.{most-product}
 use Rattle.keys.proofs.weigh.Statement.{statement}
 use Rattle.keys.proofs.weigh.Tie as tie
 
 abbrev Inv-loop : tie.InvT-loop
-Inv-loop row n list from sum₀ i₀ sum i = (i ≤ n) × Unreduced-weight q most-product row i (λ j. getD list (from + j) 0) sum
+Inv-loop row n list from sum₀ i₀ sum i = (i ≤ n) × Unreduced q most-product (λ j. getD row j 0 * getD list (from + j) 0) 0 i sum
 
 abbrev μ-loop : tie.MeasureT-loop
 μ-loop row n list from sum₀ i₀ sum i = n - i
 
 loop-holds : tie.Need-loop-holds Inv-loop μ-loop
-loop-holds c = (search needs, weight-start _ _ _ _)
+loop-holds c = (search needs, unreduced-none _ _ _ _)
 
 mul-times : tie.Need-mul-times Inv-loop μ-loop
 mul-times c = search needs
@@ -51,7 +51,7 @@ loop-less c = search needs
 loop-again : tie.Need-loop-again Inv-loop μ-loop
 loop-again c =
     let t = c .times .ensures in
-    (omega arith, weight-more sixteen-sums (c .before .before .before .before .loop .inv .1) (ap (λ (x : ℕ). x % q) (t .0), t .1))
+    (omega arith, unreduced-more sixteen-sums _ _ _ (c .before .before .before .before .loop .inv .1) (ap (λ (x : ℕ). x % q) (t .0)) (t .1))
 
 returns : tie.Need-returns Inv-loop μ-loop
 returns c =

@@ -1,5 +1,5 @@
 -- Totals modulo q that a loop builds up, one summand a turn, and reduces once.
---   weight-start, weight-more, weight-end    numbers times factors, each product reduced or not; with a sum they are the value of a block
+--   weight-end                               numbers times factors, with a sum, are the value of a block
 --   added-start, added-more                  a row of numbers added to sums, one place a turn
 --   added-long, added-rest, added-at         the length and the next sum stay; those so far
 --   sums-start, sums-take, sums-skip         sums over the users of a set
@@ -16,32 +16,18 @@ use lib.Seq.{length-sets}
 use Rattle.scheme.specs.Limits.{most-blocks}
 use Rattle.scheme.specs.Scheme.{modular, sum, Plan, in-set}
 use Rattle.scheme.specs.Laws.{Laws}
-use Rattle.scheme.specs.Weighed.{weighed}
-use Rattle.scheme.specs.KeyParts.{block-item, block-value, block-values, set-sum, share-from, shares-from, Row-added, Unreduced-weight, Unreduced-sums}
+use Rattle.scheme.specs.Weighed.{weighed, Unreduced}
+use Rattle.scheme.specs.KeyParts.{block-item, block-value, block-values, set-sum, share-from, shares-from, Row-added, Unreduced-sums}
 use Rattle.scheme.proofs.Tests.{none-below}
 use Rattle.scheme.proofs.Lists.{map-below-same, zeros-at}
-use Rattle.scheme.proofs.Weighed.{weighed-same, weighed-more}
+use Rattle.scheme.proofs.Weighed.{weighed-same}
 use Rattle.scheme.proofs.Making.Rows.{below-more, sum-take, sum-skip, row-more, row-at, row-other}
 use Rattle.scheme.proofs.Making.Places.{row-next}
 
 -- ---- numbers times factors
-pub weight-start : (q most : ℕ) (cs : List ℕ) (f : ℕ → ℕ) → Unreduced-weight q most cs 0 f 0
-unfolding weighed sum
-weight-start q most cs f = record { small = omega arith; right = zero-mod q }
-
-pub weight-more : {q n m : ℕ} → Laws (modular q) n m → {most : ℕ} {cs : List ℕ} {i : ℕ} {f : ℕ → ℕ} {total x : ℕ}
-    → Unreduced-weight q most cs i f total → (x % q ≡ getD cs i 0 * f i % q) × (x ≤ most) → Unreduced-weight q most cs (i + 1) f (total + x)
-weight-more {q} L {most} {cs} {i} {f} {total} {x} d h =
-    let y : ℕ = getD cs i 0 * f i in
-    record {
-      small = omega (arith, row-next i most);
-      right = sym (add-mod-mod total x q) ∙ ap (λ (z : ℕ). (total + z) % q) (h .0) ∙ add-mod-mod total y q
-          ∙ sym (weighed-more L cs i f ∙ rw (← d .right, mod-add-mod));
-    }
-
 pub weight-end : {q most : ℕ} (sums cs : List ℕ) (n : ℕ) (xs : List ℕ) (start from b total : ℕ) → from ≡ start + b * n
-    → Unreduced-weight q most cs n (λ i. getD xs (from + i) 0) total → (getD sums b 0 + total) % q ≡ block-value (modular q) sums cs n xs start b
-unfolding block-value
+    → Unreduced q most (λ i. getD cs i 0 * getD xs (from + i) 0) 0 n total → (getD sums b 0 + total) % q ≡ block-value (modular q) sums cs n xs start b
+unfolding block-value weighed
 weight-end {q} sums cs n xs start from b total e d = sym (add-mod-mod (getD sums b 0) total q)
     ∙ ap (λ (x : ℕ). (getD sums b 0 + x) % q) (d .right ∙ weighed-same (modular q) cs n _ (block-item xs start n b) (λ i h.
     let same : from + i ≡ start + (b * n + i) = omega arith in ap (λ (j : ℕ). getD xs j 0) same))

@@ -3,14 +3,13 @@
 --   gap-shift                       1 / (x - y) by most-threshold + x - y
 --   Factoring, factoring-start, factoring-more, factoring-end     a loop that makes a weight, factor by factor
 --   inverse-row-right               a row of the inverse times values is an unknown
---   unreduced-one, unreduced-both   sums that are reduced at their end: of one term, of more
 --   unreduced-weighed               factors that are 0 do not count
 -- Assumes nothing.
 use mathlib.Core.Path.{_≡_, refl, sym, ap, ap₂, _∙_}
 use mathlib.Core.Bool.{Bool, true, false, cond}
 use mathlib.Core.List.{List}
 use Prim.Native.Nat.{ℕ, _+_, _*_, _-_, _%_, _≤_, _<_}
-use native.Mathlib.Nat.{add-zero, zero-mul, one-mul, add-mul, add-mod, mod-lt, mod-eq-of-lt}
+use native.Mathlib.Nat.{zero-mul, mod-lt, mod-eq-of-lt}
 use native.Mathlib.Decide.{ℕ-discrete}
 use native.Mathlib.Omega.{arith}
 use lib.Dec.{eqb}
@@ -21,14 +20,13 @@ use Rattle.algebra.specs.Residue.{Prime, inverse}
 use Rattle.algebra.specs.Cauchy.{gap}
 use Rattle.algebra.proofs.Residue.{mods, el-path, prime-positive, residue}
 use Rattle.scheme.specs.Limits.{most-users, most-threshold}
-use Rattle.scheme.specs.Lists.{span, filled}
-use Rattle.scheme.specs.Scheme.{Arithmetic, modular, sum}
+use Rattle.scheme.specs.Lists.{filled}
+use Rattle.scheme.specs.Scheme.{Arithmetic, modular}
 use Rattle.scheme.specs.Laws.{Laws}
 use Rattle.scheme.specs.Modular.{modular-laws}
-use Rattle.scheme.specs.Weighed.{weighed}
-use Rattle.scheme.specs.Solve.{Points, cell, block, row-points, column-points, row-weight, column-weight, row-weights, column-weights, Weighted, unknown-at, gap-between, gap-entry, inverse-at, Factors, Unreduced}
-use Rattle.scheme.proofs.Lists.{span-append}
-use Rattle.scheme.proofs.Sums.{sum-append, coefficient-el}
+use Rattle.scheme.specs.Weighed.{weighed, Unreduced}
+use Rattle.scheme.specs.Solve.{Points, cell, block, row-points, column-points, row-weight, column-weight, row-weights, column-weights, Weighted, unknown-at, gap-between, gap-entry, inverse-at, Factors}
+use Rattle.scheme.proofs.Sums.{coefficient-el}
 use Rattle.scheme.proofs.Padded.{filled-at}
 use Rattle.scheme.proofs.Solving.Closed.{α, β, row-weight-el, column-weight-el, sum-short, unknown-right, Weighing, weighing-start, weighing-more, weighing-end}
 
@@ -132,19 +130,6 @@ module _ {q : ℕ} (prime : Prime q) (large : most-users + most-threshold < q) w
         → weighed (modular q) list n (λ a. cell vs a b) ≡ unknown-at (modular q) L rs cs (block vs b) n i
     inverse-row-right list b e = unknown-right A L rs cs n vs list i b (weighted .square .few) (λ a l.
         ap el (ap (λ (c : List ℕ). getD c a 0) e ∙ filled-at most-users _ n a l) ∙ inverse-el a l)
-
-  -- ---- sums that are reduced at their end
-  module _ (most : ℕ) (f : ℕ → ℕ) where
-    pub unreduced-one : (k r : ℕ) → r % q ≡ f k % q → r ≤ most → Unreduced q most f k 1 r
-    unfolding sum
-    unreduced-one k r e h = record { small = omega (arith, one-mul most); right = e ∙ simp (mods, add-zero) }
-
-    pub unreduced-both : (k n m r s : ℕ) → Unreduced q most f k n r → Unreduced q most f (k + n) m s → Unreduced q most f k (n + m) (r + s)
-    unreduced-both k n m r s a b = record {
-      small = omega (arith, add-mul n m most);
-      right = add-mod r s q ∙ ap₂ (λ (x y : ℕ). (x + y) % q) (a .right) (b .right)
-          ∙ sym (ap (λ (l : List ℕ). sum A l f) (span-append n m k) ∙ sum-append A _ _ L (span n k) (span m (k + n)) f);
-    }
 
   -- factors that are 0 do not count
   pub unreduced-weighed : (most : ℕ) (cs : List ℕ) (f : ℕ → ℕ) (n m r : ℕ) → Factors n cs → n ≤ m

@@ -7,8 +7,11 @@ use lib.ListN.{getD}
 use borrow.Author.Needs.{needs}
 use Rattle.algebra.proofs.Primes.{prime-65521}
 use Rattle.scheme.specs.Scheme.{q}
-use Rattle.scheme.specs.Solve.{cell, Unreduced}
-use Rattle.scheme.proofs.Solving.Modular.{unreduced-both, unreduced-weighed}
+use Rattle.scheme.specs.Weighed.{Unreduced}
+use Rattle.scheme.specs.Solve.{cell}
+use Rattle.scheme.proofs.Modular.{sixteen-sums}
+use Rattle.scheme.proofs.Weighed.{unreduced-both}
+use Rattle.scheme.proofs.Solving.Modular.{unreduced-weighed}
 use Rattle.element.specs.Fold.{most-folded}
 use Rattle.solve.proofs.all_products.Statement.{statement}
 use Rattle.solve.proofs.all_products.Tie as tie
@@ -18,7 +21,7 @@ abbrev First : (c : tie.Start) → (count total : ℕ) → Type 0
 First c = Unreduced q most-folded (λ k. getD (c .args .list .now) k 0 * cell (c .args .grid .now) k (c .args .b)) 0
 
 four : (c : tie.After-two-products2) → First (c .before .before .before) 4 (c .before .before .two-products .result + c .two-products2 .result)
-four c = unreduced-both prime-65521 (lit< tt) _ _ 0 2 2 _ _ (c .before .before .two-products .ensures) (c .two-products2 .ensures)
+four c = unreduced-both sixteen-sums 0 2 2 _ _ (c .before .before .two-products .ensures) (c .two-products2 .ensures)
 
 abbrev first-four : tie.After-two-products4 → tie.After-two-products2
 first-four c = c .before .before .before
@@ -33,8 +36,8 @@ eight-sum c =
 
 eight : (c : tie.After-two-products4) → First (start c) 8 (eight-sum c)
 eight c =
-    unreduced-both prime-65521 (lit< tt) _ _ 0 4 4 _ _ (four (first-four c))
-    (unreduced-both prime-65521 (lit< tt) _ _ 4 2 2 _ _ (c .before .two-products3 .ensures) (c .two-products4 .ensures))
+    unreduced-both sixteen-sums 0 4 4 _ _ (four (first-four c))
+    (unreduced-both sixteen-sums 4 2 2 _ _ (c .before .two-products3 .ensures) (c .two-products4 .ensures))
 
 two-products-requires : tie.Need-two-products-requires
 two-products-requires c κs = search needs
@@ -82,7 +85,7 @@ add-result c = search needs
 
 returns-4 : tie.Need-returns-4
 returns-4 c =
-    let u = unreduced-both prime-65521 (lit< tt) _ _ 0 8 2 _ _ (eight (c .before .before)) (c .two-products5 .ensures) in
+    let u = unreduced-both sixteen-sums 0 8 2 _ _ (eight (c .before .before)) (c .two-products5 .ensures) in
     let f = start (c .before .before) .pre .0 in
     (omega (arith, u .small, c .before .if3 .left), unreduced-weighed prime-65521 (lit< tt) _ _ _ _ 10 _ f (omega (arith, f .few)) u)
 

@@ -3,14 +3,12 @@
 use mathlib.Core.Path.{_≡_, ap, _∙_}
 use Prim.Native.Nat.{ℕ, _+_, _*_, _%_}
 use native.Mathlib.Omega.{arith}
-use lib.Dec.{lit<}
 use lib.ListN.{getD}
 use borrow.Author.Needs.{needs}
-use Rattle.algebra.proofs.Primes.{prime-65521}
 use Rattle.scheme.specs.Limits.{most-blocks}
 use Rattle.scheme.specs.Scheme.{q}
-use Rattle.scheme.proofs.Solving.Modular.{unreduced-one, unreduced-both}
-use Rattle.element.specs.Fold.{most-folded}
+use Rattle.scheme.proofs.Modular.{sixteen-sums}
+use Rattle.scheme.proofs.Weighed.{unreduced-one, unreduced-both}
 use Rattle.solve.proofs.two_products.Statement.{statement}
 use Rattle.solve.proofs.two_products.Tie as tie
 
@@ -67,8 +65,8 @@ returns c =
     let t = c .folded2 .ensures in
     let e : a .i * most-blocks + a .b + most-blocks ≡ (a .i + 1) * most-blocks + a .b = omega arith in
     let f = ap (λ (k : ℕ). getD (a .list .now) (a .i + 1) 0 * getD (a .grid .now) k 0 % q) e in
-    unreduced-both prime-65521 (lit< tt) most-folded _ (a .i) 1 1 _ _ (unreduced-one prime-65521 (lit< tt) _ _ (a .i) _ (s .0) (s .1))
-    (unreduced-one prime-65521 (lit< tt) _ _ (a .i + 1) _ (t .0 ∙ f) (t .1))
+    unreduced-both sixteen-sums (a .i) 1 1 _ _ (unreduced-one sixteen-sums (a .i) _ (s .0) (s .1))
+    (unreduced-one sixteen-sums (a .i + 1) _ (t .0 ∙ f) (t .1))
 
 pub two-products-spec : {M : Type 1} → statement M
 two-products-spec =
