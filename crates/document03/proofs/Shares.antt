@@ -16,6 +16,7 @@ use borrow.Author.Tests.{eqb-true, le-leb, lt-leb}
 use lib.Dec.{eqb}
 use lib.ListN.{getD}
 use Rattle.algebra.specs.Residue.{inverse, inverse-from}
+use Rattle.scheme.specs.Limits.{points}
 use Rattle.scheme.specs.Lists.{span, keep, members}
 use Rattle.scheme.specs.Scheme.{q, sixteen, sum, items, places, in-set, usable, users-in, mask, noise, noise-start, column, row-value, share, shares, total-at}
 use Rattle.scheme.specs.Good.{Good}
@@ -32,7 +33,7 @@ pub noise-same : (p : D.Plan) (xs : List ℕ) (v b i : ℕ) → usable (our-plan
 unfolding D.noise noise noise-start
 noise-same p xs v b i h = ap₂ (λ (n r : ℕ). getD xs (p .k * n + (r * p .m + b) * p .t + i) 0) (places-same p) (usable-index p v h)
 
--- ---- inverses: those of 2 to 15 are computed
+-- ---- inverses: those of the numbers from 2 on, below points, are computed
 abbrev agree : (f g : ℕ → ℕ) → (n a : ℕ) → Bool
 agree f g zero a = true
 agree f g (suc n) a = eqb (f a) (g a) && agree f g n (suc a)
@@ -45,11 +46,11 @@ agree-at f g (suc n) a i e lo hi = let s = both _ _ e in pick (ℕ-discrete a i)
     pick (yes r) t rest = rw (← r) t
     pick (no r) t rest = rest (omega arith) (omega arith)
 
-pub inverse-same : (a : ℕ) → 2 ≤ a → a < 16 → D.inverse a ≡ inverse q a
+pub inverse-same : (a : ℕ) → 2 ≤ a → a < points → D.inverse a ≡ inverse q a
 unfolding D.inverse D.power inverse inverse-from
-inverse-same a lo hi = agree-at D.inverse (inverse q) 14 2 a refl lo hi
+inverse-same a lo hi = agree-at D.inverse (inverse q) (points - 2) 2 a refl lo hi
 
-pub coefficient-same : (k j : ℕ) → 2 ≤ k + j → k + j < 16 → D.coefficient k j ≡ sixteen .coefficient k j
+pub coefficient-same : (k j : ℕ) → 2 ≤ k + j → k + j < points → D.coefficient k j ≡ sixteen .coefficient k j
 unfolding D.coefficient
 coefficient-same k j = inverse-same (k + j)
 
@@ -78,7 +79,7 @@ pub total-at-same : (p : D.Plan) (x : ℕ → List ℕ) (v i : ℕ) → D.total-
 unfolding D.total-at total-at users-in
 total-at-same p x v i = sum-set-same (p .k) 1 v (λ k. getD (x k) i 0)
 
-pub dotted-same : (n j k : ℕ) (f g : ℕ → ℕ) → 2 ≤ k + j → k + j + n ≤ 16 → ((i : ℕ) → j ≤ i → i < j + n → f i ≡ g i)
+pub dotted-same : (n j k : ℕ) (f g : ℕ → ℕ) → 2 ≤ k + j → k + j + n ≤ points → ((i : ℕ) → j ≤ i → i < j + n → f i ≡ g i)
     → D.dotted n j k f ≡ sum sixteen (span n j) (λ i. inverse q (k + i) * g i)
 unfolding D.dotted sum
 dotted-same zero j k f g lo hi h = refl

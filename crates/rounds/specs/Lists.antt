@@ -5,14 +5,15 @@
 use mathlib.Core.Path.{_≡_}
 use mathlib.Core.Bool.{Bool, true}
 use Prim.Native.Nat.{ℕ, _+_}
+use Rattle.scheme.specs.Limits.{most-list, most-key}
 
--- past the longest random list, 7952 elements
+-- past every random list
 abbrev pub key-start : ℕ
-key-start = 8192
+key-start = most-list
 
--- more than the longest key, 2048 elements
+-- past every key
 abbrev pub room : ℕ
-room = 2304
+room = most-key
 
 abbrev pub lent-length : ℕ
 lent-length = key-start + room

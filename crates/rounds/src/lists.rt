@@ -14,11 +14,18 @@ ghost use lib.Dec.{leb};
 ghost use lib.ListN.{length, getD, take, drop, replicate};
 ghost use lib.Seq.{sets};
 ghost use Rattle.rounds.specs.Lists.{lent-length, key-start, room, mark, Exactly};
+use plan::BLOCKS;
+use plan::FIRSTS;
+use plan::MOST_PLACES;
+use plan::USERS;
 
-// Room for what is lent: the longest random list, 7952 elements, and behind it the longest key, 2048. No line has more numbers.
+// Room for what is lent: a random list, and behind it a key. No line has more numbers.
 pub const SPACE: usize = KEY_AT + ROOM;
 
-pub const KEY_AT: usize = 8192;
+// No plan has more sets, a longer random list, or a longer key.
+const MOST_SETS: usize = 1 << USERS;
+
+pub const KEY_AT: usize = FIRSTS + MOST_SETS * MOST_PLACES;
 
 pub fn space() -> [u16; SPACE]
     ensures { λ r. ⌜ r ≡ replicate lent-length 0 ⌝ }
@@ -27,7 +34,7 @@ pub fn space() -> [u16; SPACE]
 }
 
 // A buffer for a key or a message, with the mark throughout.
-pub const ROOM: usize = 2304;
+pub const ROOM: usize = MOST_PLACES + MOST_SETS * BLOCKS;
 
 pub const MARK: u16 = 7;
 

@@ -28,19 +28,21 @@ fn say_number(n: u64) {
 }
 
 // "Plan 8 2 1 16: random list 4080, each key 2048 elements."
+const EXAMPLE_USERS: u32 = 8;
+
 const LIST: usize = 4080;
 
 const KEY: usize = 2048;
 
 fn lengths_right() -> bool {
     let plan = Plan {
-        users: Client::MOST_USERS,
+        users: EXAMPLE_USERS,
         threshold: 2,
         collusion: Client::LEAST_COLLUSION,
         blocks: Client::MOST_BLOCKS,
     };
     let mut user: u32 = 1;
-    while user <= Client::MOST_USERS {
+    while user <= EXAMPLE_USERS {
         if plan::key_length(plan, user) != KEY {
             return false;
         }

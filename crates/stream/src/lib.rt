@@ -76,7 +76,7 @@ fn byte_at(b: &[u8], i: usize) -> u32
     wide(b[i])
 }
 
-fn both(low: u8, high: u8) -> u16
+fn from_bytes(low: u8, high: u8) -> u16
     ensures { λ r. ⌜ r ≡ low + high * 256 ⌝ }
 {
     low as u16 + high as u16 * 256
@@ -86,7 +86,7 @@ fn two_at(b: &[u8], i: usize) -> u32
     requires { ⌜ i + 2 ≤ length (now b) ⌝ }
     ensures { λ r. ⌜ (r ≡ two-bytes (now (b .entry)) i) × (r < 65536) ⌝ }
 {
-    both(b[i], b[i + 1]) as u32
+    from_bytes(b[i], b[i + 1]) as u32
 }
 
 fn four_at(b: &[u8], i: usize) -> u32
