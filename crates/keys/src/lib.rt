@@ -180,13 +180,13 @@ fn write_blocks(
         ≡ sets (now (out .entry)) at (block-values sixteen (now (sums .entry)) (now (row .entry)) n (now (list .entry)) start blocks) ⌝ }
 {
     match n {
+        0 => write_blocks_of(sums, row, 0, list, start, out, at, blocks),
         1 => write_blocks_of(sums, row, 1, list, start, out, at, blocks),
         2 => write_blocks_of(sums, row, 2, list, start, out, at, blocks),
         3 => write_blocks_of(sums, row, 3, list, start, out, at, blocks),
         4 => write_blocks_of(sums, row, 4, list, start, out, at, blocks),
         5 => write_blocks_of(sums, row, 5, list, start, out, at, blocks),
-        6 => write_blocks_of(sums, row, 6, list, start, out, at, blocks),
-        _ => write_blocks_of(sums, row, n as usize, list, start, out, at, blocks),
+        _ => write_blocks_of(sums, row, 6, list, start, out, at, blocks),
     }
 }
 

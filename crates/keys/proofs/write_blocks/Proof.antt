@@ -1,5 +1,5 @@
 -- `keys::write_blocks` meets its contract: in each arm n is the number that the call is given.
-use mathlib.Core.Path.{_≡_, refl, sym, ap, _∙_}
+use mathlib.Core.Path.{_≡_, sym, ap, _∙_}
 use mathlib.Core.List.{List}
 use Prim.Native.Nat.{ℕ, _+_, _*_, _≤_}
 use native.Mathlib.Omega.{arith}
@@ -10,6 +10,7 @@ use borrow.Author.Needs.{needs}
 use Rattle.scheme.specs.Limits.{most-blocks, most-items}
 use Rattle.scheme.specs.Scheme.{sixteen}
 use Rattle.scheme.specs.KeyParts.{block-values}
+use Rattle.scheme.proofs.Tests.{last-arm}
 use Rattle.keys.proofs.write_blocks.Statement.{statement}
 use Rattle.keys.proofs.write_blocks.Tie as tie
 
@@ -27,6 +28,10 @@ module _ (s : tie.Start) {m : ℕ} (e : s .args .n ≡ m) where
   given : {new : List ℕ} → new ≡ left m → new ≡ left (s .args .n)
   given r = r ∙ ap left (sym e)
 
+-- what is left behind the arms
+last : (c : tie.At-match-rest) → c .before .before .before .args .n ≡ most-items
+last c = last-arm most-items _ (c .match .rest) (c .before .before .before .pre .0)
+
 pub write-blocks-spec : {M : Type 1} → statement M
 write-blocks-spec =
     tie.close
@@ -37,7 +42,7 @@ write-blocks-spec =
     (λ c κs. asked (c .before .before .before .before) (c .before .match .keys4))
     (λ c κs. asked (c .before .before .before .before) (c .before .match .keys5))
     (λ c κs. asked (c .before .before .before .before) (c .before .match .keys6))
-    (λ c κs. asked (c .before .before .before .before) refl)
+    (λ c κs. asked (c .before .before .before .before) (last (c .before)))
     (λ c. search needs)
     (λ c. let s = c .before .before .before .before in given (s .before .before .before) (s .match .keys1) (c .before .before .write-blocks-of .ensures))
     (λ c. search needs)
@@ -51,4 +56,4 @@ write-blocks-spec =
     (λ c. search needs)
     (λ c. let s = c .before .before .before .before in given (s .before .before .before) (s .match .keys6) (c .before .before .write-blocks-of6 .ensures))
     (λ c. search needs)
-    (λ c. let s = c .before .before .before .before in given (s .before .before .before) refl (c .before .before .write-blocks-of7 .ensures)))
+    (λ c. let s = c .before .before .before .before in given (s .before .before .before) (last s) (c .before .before .write-blocks-of7 .ensures)))
