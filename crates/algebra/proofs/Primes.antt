@@ -1,7 +1,7 @@
 -- Primes by trial division up to the root.
---   trial           none of n numbers from a on divides q, as a computation
---   prime-by-root   no divisor from 2 to s + 1, and q below (s + 1)²: q is prime
---   prime-65521
+--   divides-not, trial     none of n numbers from a on divides q, as a computation
+--   prime-by-root          no divisor from 2 to s + 1, and q below (s + 1)²: q is prime
+--   prime-65521            65521 is prime
 use mathlib.Core.Path.{_≡_}
 use mathlib.Core.Logic.{_≢_}
 use mathlib.Core.Bool.{Bool, true, false}
@@ -12,24 +12,24 @@ use native.Mathlib.Decide.{ℕ-discrete, decLe}
 use native.Mathlib.Omega.{arith}
 use Rattle.algebra.specs.Residue.{Prime}
 
-abbrev pub unless-zero : (remainder : ℕ) → Bool → Bool
-unless-zero zero b = false
-unless-zero (suc r) b = b
+abbrev pub divides-not : (remainder : ℕ) → Bool → Bool
+divides-not zero b = false
+divides-not (suc r) b = b
 
 abbrev pub trial : (n q a : ℕ) → Bool
 trial zero q a = true
-trial (suc n) q a = unless-zero (q % a) (trial n q (suc a))
+trial (suc n) q a = divides-not (q % a) (trial n q (suc a))
 
-both : (r : ℕ) (b : Bool) → T (unless-zero r b) → (r ≢ 0) × T b
-both zero b t = absurd t
-both (suc r) b t = (omega arith, t)
+not-divided : (r : ℕ) (b : Bool) → T (divides-not r b) → (r ≢ 0) × T b
+not-divided zero b t = absurd t
+not-divided (suc r) b t = (omega arith, t)
 
 trial-right : (n q a : ℕ) → T (trial n q a) → (d : ℕ) → a ≤ d → d < a + n → q % d ≢ 0
 trial-right zero q a t d low high = absurd (omega arith)
 trial-right (suc n) q a t d low high = go (ℕ-discrete d a) (trial-right n q (suc a) (now .1) d)
   where
     now : (q % a ≢ 0) × T (trial n q (suc a))
-    now = both (q % a) (trial n q (suc a)) t
+    now = not-divided (q % a) (trial n q (suc a)) t
 
     go : Dec (d ≡ a) → (suc a ≤ d → d < suc a + n → q % d ≢ 0) → q % d ≢ 0
     go (yes e) later = rw e (now .0)

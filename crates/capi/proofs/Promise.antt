@@ -15,7 +15,7 @@ use lib.Seq.{set-set}
 use borrow.Author.Tests.{eq-eqb, leb-true}
 use Rattle.scheme.specs.Scheme as scheme
 use Rattle.scheme.specs.Scheme.{sixteen, places, is-user, key-length, reply-start, reply, is-fresh, open-to, after}
-use Rattle.scheme.proofs.Tests.{both}
+use Rattle.scheme.proofs.Tests.{and-both}
 use Rattle.scheme.proofs.Good.{good}
 use Rattle.scheme.proofs.Refusals.{after-taken, after-refused}
 use Rattle.plan.specs.declared.Plan as code
@@ -35,7 +35,7 @@ pub same-length : Same-length
 unfolding Same-length is-user key-length
 same-length p k g u =
     let f = good p g in
-    let r = both _ _ u in
+    let r = and-both _ _ u in
     let e = sym (with-same p k (leb-true _ _ (r .0)) (leb-true _ _ (r .1))) ∙ with-same p 1 (omega arith) (omega (arith, f .users-low)) in
     ap (λ (n : ℕ). places p + n * p .blocks) e ∙ sym (key-len-good p 1 (f, omega arith, omega (arith, f .users-low)))
 

@@ -20,10 +20,10 @@ use Rattle.client.specs.Client as Client
 use Rattle.service.specs.View as View
 use Rattle.service.specs.Calls as Calls
 use Rattle.finish.specs.Finish as Finish
-use Rattle.cases.specs.Cases.{key-from, key-of, message, asked, tried, planned, opened, firsts, replies, pooled, told, told-5, told-7, Cases}
+use Rattle.cases.specs.Cases.{key-from, key-of, message, asked, tried, planned, opened, firsts, replies, pooled, finish-tells, finish-tells-5, finish-tells-7, Cases}
 
 pub cases : Cases
-unfolding key-from key-of message asked tried planned opened firsts replies pooled told told-5 told-7
+unfolding key-from key-of message asked tried planned opened firsts replies pooled finish-tells finish-tells-5 finish-tells-7
     sub inverse inverse-from modular-laws padded unknown-at shown
     Lists.rank Scheme.elements Scheme.sum Scheme.plan-good Scheme.items Scheme.places Scheme.is-user Scheme.in-set Scheme.ones Scheme.usable Scheme.usable-with
     Scheme.users-in Scheme.usable-sets Scheme.sets-with Scheme.list-length Scheme.mask Scheme.noise-start Scheme.noise Scheme.column Scheme.row-value

@@ -3,7 +3,7 @@
 --   key-of, end-of, message                         a user's key; its airfield end; its first message
 --   handed, asked, part                             number and end handed back; what a reply to a set hands back, and its part alone
 --   tried                                           the numbers that the service and an airfield end have for a plan
---   planned, opened, pooled, told                   a service with the plan; in a round; with the replies; what its finish tells
+--   planned, opened, pooled, finish-tells           a service with the plan; in a round; with the replies; what its finish tells
 --   Cases                                           THE TABLE
 -- Assumes nothing: these are definitions.
 use mathlib.Core.Path.{_≡_}
@@ -100,15 +100,15 @@ unfoldable pub pooled : (sent answered : List (ℕ × ℕ)) → Service
 pooled xs ys = replies ys (close-step (firsts xs (opened 7)) .service)
 
 -- number and total
-unfoldable pub told : Finished → List ℕ
-told f = f .number ∷ take 1 (f .totals)
+unfoldable pub finish-tells : Finished → List ℕ
+finish-tells f = f .number ∷ take 1 (f .totals)
 
 -- survivors 1 and 3, with their replies; survivors 1, 2 and 3, with the replies that came
-unfoldable pub told-5 : (a c : ℕ) → List ℕ
-told-5 a c = told (finish-step sixteen laws16 (pooled ((1, 110) ∷ (3, 330) ∷ []) ((1, a) ∷ (3, c) ∷ [])))
+unfoldable pub finish-tells-5 : (a c : ℕ) → List ℕ
+finish-tells-5 a c = finish-tells (finish-step sixteen laws16 (pooled ((1, 110) ∷ (3, 330) ∷ []) ((1, a) ∷ (3, c) ∷ [])))
 
-unfoldable pub told-7 : (answered : List (ℕ × ℕ)) → List ℕ
-told-7 ys = told (finish-step sixteen laws16 (pooled ((1, 110) ∷ (2, 220) ∷ (3, 330) ∷ []) ys))
+unfoldable pub finish-tells-7 : (answered : List (ℕ × ℕ)) → List ℕ
+finish-tells-7 ys = finish-tells (finish-step sixteen laws16 (pooled ((1, 110) ∷ (2, 220) ∷ (3, 330) ∷ []) ys))
 
 -- ---- THE TABLE
 pub record Cases : Type 0 where
@@ -122,14 +122,14 @@ pub record Cases : Type 0 where
   pub parts-7 : map (part 7) (1 ∷ 2 ∷ 3 ∷ []) ≡ (340 ∷ []) ∷ (230 ∷ []) ∷ (174 ∷ []) ∷ []
   -- totals: of set 5; of set 7 with any two replies, and with all three
   pub survivors-5 : close-step (firsts ((1, 110) ∷ (3, 330) ∷ []) (opened 7)) .set ≡ 5
-  pub total-5 : told-5 220 112 ≡ 0 ∷ 40 ∷ []
-  pub total-7-by-1-2 : told-7 ((1, 340) ∷ (2, 230) ∷ []) ≡ 0 ∷ 60 ∷ []
-  pub total-7-by-1-3 : told-7 ((1, 340) ∷ (3, 174) ∷ []) ≡ 0 ∷ 60 ∷ []
-  pub total-7-by-2-3 : told-7 ((2, 230) ∷ (3, 174) ∷ []) ≡ 0 ∷ 60 ∷ []
-  pub total-7-by-all : told-7 ((1, 340) ∷ (2, 230) ∷ (3, 174) ∷ []) ≡ 0 ∷ 60 ∷ []
+  pub total-5 : finish-tells-5 220 112 ≡ 0 ∷ 40 ∷ []
+  pub total-7-by-1-2 : finish-tells-7 ((1, 340) ∷ (2, 230) ∷ []) ≡ 0 ∷ 60 ∷ []
+  pub total-7-by-1-3 : finish-tells-7 ((1, 340) ∷ (3, 174) ∷ []) ≡ 0 ∷ 60 ∷ []
+  pub total-7-by-2-3 : finish-tells-7 ((2, 230) ∷ (3, 174) ∷ []) ≡ 0 ∷ 60 ∷ []
+  pub total-7-by-all : finish-tells-7 ((1, 340) ∷ (2, 230) ∷ (3, 174) ∷ []) ≡ 0 ∷ 60 ∷ []
   -- three replies show that one is wrong; two do not
-  pub wrong-7 : told-7 ((1, 340) ∷ (2, 230) ∷ (3, 175) ∷ []) ≡ 16 ∷ 0 ∷ []
-  pub wrong-5 : told-5 221 113 ≡ 0 ∷ 48 ∷ []
+  pub wrong-7 : finish-tells-7 ((1, 340) ∷ (2, 230) ∷ (3, 175) ∷ []) ≡ 16 ∷ 0 ∷ []
+  pub wrong-5 : finish-tells-5 221 113 ≡ 0 ∷ 48 ∷ []
   -- set 5, colluder 1, and the table 10, 25, 30
   pub good : plan-good (plan-of plan) ≡ true
   pub partner : Delta.partner sixteen (plan-of plan) (sixteen-field 3 2 (lit< tt)) 1 (figures 10 20 30) (figures 10 25 30) random ≡ partner-list

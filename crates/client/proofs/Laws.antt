@@ -15,7 +15,7 @@ use borrow.Author.Tests.{eqb-true, eq-eqb}
 use Rattle.scheme.specs.Scheme as scheme
 use Rattle.scheme.specs.Lists.{each}
 use Rattle.scheme.specs.Scheme.{Arithmetic, elements, places, in-set, usable, usable-with, key-length, first-message, is-fresh, open-to, start-refusal, message-refusal, reply-refusal, unless, _then_}
-use Rattle.scheme.proofs.Tests.{both, joined}
+use Rattle.scheme.proofs.Tests.{and-both, and-joined}
 use Rattle.scheme.proofs.Refusals.{then-zero, unless-zero}
 use Rattle.scheme.proofs.PlanBounds.{masks-inside}
 use Rattle.client.specs.Client.{stage-of-number}
@@ -34,21 +34,21 @@ module _ (A : Arithmetic) (p : scheme.Plan) (k : ℕ) (g : scheme.Stage) (ks fs 
 
   message-lengths : (length ks ≡ key-length p k) × (length fs ≡ places p) × (out ≡ places p)
   message-lengths =
-      let l = both _ _ (unless-zero _ _ (message-tests .0)) in
-      let m = both _ _ (l .1) in
+      let l = and-both _ _ (unless-zero _ _ (message-tests .0)) in
+      let m = and-both _ _ (l .1) in
       (eqb-true _ _ (l .0), eqb-true _ _ (m .0), eqb-true _ _ (m .1))
 
   pub message-fits : (out ≤ length fs) × (out ≤ length ks)
   message-fits = let l = message-lengths in (omega arith, omega (arith, masks-inside p k))
 
   pub message-clean : (elements A fs ≡ true) × (elements A ks ≡ true)
-  message-clean = let l = both _ _ (unless-zero _ _ (message-tests .1)) in (l .1, l .0)
+  message-clean = let l = and-both _ _ (unless-zero _ _ (message-tests .1)) in (l .1, l .0)
 
   pub message-written : each (A .add) out fs ks ≡ first-message A p ks fs
   unfolding first-message
   message-written = ap (λ (n : ℕ). each (A .add) n fs ks) (message-lengths .2)
 
--- what test 18 and test 19 do not say of a reply that is taken
+-- what the tests other than 18 and 19 say of a reply that is taken
 pub record Answers (A : Arithmetic) (p : scheme.Plan) (k : ℕ) (ks : List ℕ) (v : ℕ) : Type 0 where
   pub begun : start-refusal p k ≡ 0
   pub long : length ks ≡ key-length p k
@@ -78,4 +78,4 @@ module _ {A : Arithmetic} {p : scheme.Plan} {k : ℕ} {ks : List ℕ} {v : ℕ} 
 
   pub answers-held : Answers A p k ks v → usable-with p k v ≡ true
   unfolding usable-with
-  answers-held a = joined (a .whole) (a .member)
+  answers-held a = and-joined (a .whole) (a .member)

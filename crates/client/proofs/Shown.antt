@@ -1,5 +1,5 @@
 -- Demand 3 speaks of what the calls give.
---   Ready, message-is-sent, part-is-sent   one user's calls are taken, and give its first message and its reply
+--   Inputs-right, message-is-sent, part-is-sent   one user's calls are taken, and give its first message and its reply
 --   calls-show      the statement of specs/Shown.antt, over an arithmetic with its laws
 --   shown-is-sent   the same modulo 65521
 -- Assumes nothing.
@@ -46,14 +46,14 @@ unfolding message-refusal is-fresh unless _then_
 message-taken A p k ks fs out s l e f o = simp (s, eq-eqb _ _ l, eq-eqb _ _ (f .0), eq-eqb _ _ o, e, f .1)
 
 -- ---- what they give: one user's calls
-pub record Ready (A : Arithmetic) (p : Plan) (xs : List ℕ) (k : ℕ) (fs ko o : List ℕ) : Type 0 where
+pub record Inputs-right (A : Arithmetic) (p : Plan) (xs : List ℕ) (k : ℕ) (fs ko o : List ℕ) : Type 0 where
   pub good-plan : plan-good (plan-of p) ≡ true
   pub good-list : list-good A (plan-of p) xs ≡ true
   pub user : (1 ≤ k) × (k ≤ p .users)
   pub figures : (length fs ≡ places (plan-of p)) × (elements A fs ≡ true)
   pub room : (length ko ≡ key-length (plan-of p) k) × (length o ≡ places (plan-of p))
 
-module _ (A : Arithmetic) {n m : ℕ} (L : Laws A n m) (p : Plan) (xs : List ℕ) (v k : ℕ) (fs ko o : List ℕ) (r : Ready A p xs k fs ko o) where
+module _ (A : Arithmetic) {n m : ℕ} (L : Laws A n m) (p : Plan) (xs : List ℕ) (v k : ℕ) (fs ko o : List ℕ) (r : Inputs-right A p xs k fs ko o) where
   abbrev ks : List ℕ
   ks = key A (plan-of p) xs k
 
@@ -97,9 +97,9 @@ module _ (A : Arithmetic) {n m : ℕ} (L : Laws A n m) (p : Plan) (xs : List ℕ
 pub calls-show : (A : Arithmetic) {n m : ℕ} → Laws A n m → Shown-is-sent A
 unfolding Shown-is-sent shown admissible users-in
 calls-show A L p v c xs x ko o good u ok rows room =
-    let ready : (k : ℕ) → 1 ≤ k → k ≤ p .users → Ready A p xs k (x k) (ko k) (o k) = λ k lo hi.
+    let ready : (k : ℕ) → 1 ≤ k → k ≤ p .users → Inputs-right A p xs k (x k) (ko k) (o k) = λ k lo hi.
     record { good-plan = good; good-list = ok; user = (lo, hi); figures = rows k lo hi; room = room k lo hi } in
-    let in-plan : (s k : ℕ) → In k (users-in (plan-of p) s) → Ready A p xs k (x k) (ko k) (o k) = λ s k m.
+    let in-plan : (s k : ℕ) → In k (users-in (plan-of p) s) → Inputs-right A p xs k (x k) (ko k) (o k) = λ s k m.
     let i = members-in (in-set s) (p .users) 1 k m in ready k (i .0) (omega arith) in
     λ i.
     record {

@@ -18,7 +18,7 @@ use Rattle.scheme.specs.Promise.{Table, admissible, list-good}
 use Rattle.scheme.specs.Good.{Good}
 use Rattle.scheme.specs.Totals.{Follows, One-choice, Rules-explain, Totals-right}
 use Rattle.scheme.specs.Service.{replied, finish-record, refusal, values, explained-by, totals-by}
-use Rattle.scheme.proofs.Tests.{both, holds}
+use Rattle.scheme.proofs.Tests.{and-both, holds}
 use Rattle.scheme.proofs.Good.{good}
 use Rattle.scheme.proofs.Pooling.Held.{complete-held}
 use Rattle.scheme.proofs.Pooling.Well.{finishing}
@@ -91,7 +91,7 @@ within-at : (n k a b : ℕ) → P.within-from n k a b ≡ true → (i : ℕ) →
 unfolding P.within-from
 within-at zero k a b e i lo hi h = absurd (omega arith)
 within-at (suc n) k a b e i lo hi h =
-    let s = both (not (D.in-set a k) || D.in-set b k) (P.within-from n (suc k) a b) e in
+    let s = and-both (not (D.in-set a k) || D.in-set b k) (P.within-from n (suc k) a b) e in
     pick (ℕ-discrete k i) (s .0) (within-at n (suc k) a b (s .1) i)
   where
     pick : Dec (k ≡ i) → (not (D.in-set a k) || D.in-set b k) ≡ true
@@ -122,7 +122,7 @@ module _ (s : S.State) (xs : List ℕ) (x : Table) (pg : D.plan-good (s .plan-of
       g = good (our-plan p) (ok-plan s pg fine)
 
       long : length xs ≡ list-length (our-plan p)
-      long = eqb-true _ _ (both _ _ ok .0)
+      long = eqb-true _ _ (and-both _ _ ok .0)
 
       survives : (k : ℕ) → 1 ≤ k → k ≤ p .k → in-set (replied (our-state s)) k ≡ true → in-set (s .survivors) k ≡ true
       survives k lo hi e =

@@ -14,7 +14,7 @@ use lib.Seq.{ext-getD, getD-take, getD-drop, length-take-le}
 use Rattle.scheme.specs.Lists.{span, rows}
 use Rattle.scheme.specs.Scheme.{q, sixteen, items, places, in-set, usable, usable-with, sets-with, list-length, mask, shares, key, first-message, reply}
 use Rattle.scheme.specs.Good.{Good}
-use Rattle.scheme.proofs.Tests.{both}
+use Rattle.scheme.proofs.Tests.{and-both}
 use Rattle.scheme.proofs.Lists.{map-span-length, map-span-at, members-in, rows-same}
 use Rattle.document03.specs.Ours.{our-plan}
 use Rattle.document03.specs.Scheme as D
@@ -41,7 +41,7 @@ module _ (p : D.Plan) (g : Good (our-plan p)) (xs : List ℕ) (k : ℕ) (lo : 1 
       ap (D.all-shares p xs k) (holding-same p k) ∙ all-shares-rows p xs k (sets-with (our-plan p) k)
       ∙ rows-same (D.shares p xs k) (shares sixteen (our-plan p) xs k) (sets-with (our-plan p) k) (λ v i.
       let s = members-in (usable-with (our-plan p) k) (2 ^ p .k) 0 v i in
-      shares-same p xs v (both _ _ (s .2) .0) g k lo hi)
+      shares-same p xs v (and-both _ _ (s .2) .0) g k lo hi)
 
   pub key-same : length xs ≡ list-length (our-plan p) → D.key p xs k ≡ key sixteen (our-plan p) xs k
   unfolding D.key key D.places places D.items items list-length mask

@@ -10,7 +10,7 @@ use native.Mathlib.Omega.{arith}
 use borrow.Author.Tests.{eqb-true}
 use lib.ListN.{length}
 use Rattle.scheme.specs.Scheme.{Plan, Stage, sixteen, key, key-length, first-message, reply-start, key-refusal, message-refusal, reply-refusal, after}
-use Rattle.scheme.proofs.Tests.{both}
+use Rattle.scheme.proofs.Tests.{and-both}
 use Rattle.scheme.proofs.Refusals.{then-zero, start-taken, unless-zero, after-taken, after-refused}
 use Rattle.plan.specs.declared.Plan as code
 use Rattle.plan.specs.Plan.{plan-of}
@@ -46,7 +46,7 @@ key-says k u t m a xs r o z f d =
     put-says _ _ r o z (key-refusal-same (D.plan k u t m) a xs (length o)) (λ e.
     let s = then-zero _ _ e in
     let w = start-taken (our-plan (D.plan k u t m)) a (s .0) in
-    let l = both _ _ (unless-zero _ _ (then-zero _ _ (s .1) .0)) in
+    let l = and-both _ _ (unless-zero _ _ (then-zero _ _ (s .1) .0)) in
     key-same (D.plan k u t m) (w .0) xs a (w .1) (w .2) (eqb-true _ _ (l .0))) f d
 
 -- ---- the first message
@@ -67,9 +67,9 @@ first-says {k} {u} {t} {m} {a} {g} w ks fs r o z f taken refused d =
     let same = by-numbers w (λ (p : Plan) (k : ℕ) (g : Stage). message-refusal sixteen p k g ks fs (length o)) in
     sent-says _ _ g r o z (message-refusal-same (D.plan k u t m) a g ks fs (length o) ∙ sym same) (λ e.
     let c = then-zero _ _ (then-zero _ _ (then-zero _ _ (sym same ∙ e) .1) .1) in
-    let l = both _ _ (unless-zero _ _ (c .0)) in
+    let l = and-both _ _ (unless-zero _ _ (c .0)) in
     let long : length ks ≡ key-length p a = eqb-true _ _ (l .0) in
-    first-message-same (D.plan k u t m) ks fs (eqb-true _ _ (both _ _ (l .1) .0)) (omega arith)
+    first-message-same (D.plan k u t m) ks fs (eqb-true _ _ (and-both _ _ (l .1) .0)) (omega arith)
     ∙ sym (by-numbers w (λ (p : Plan) (k : ℕ) (g : Stage). first-message sixteen p ks fs))) f taken refused d
 
 -- ---- the reply

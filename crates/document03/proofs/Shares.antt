@@ -20,7 +20,7 @@ use Rattle.scheme.specs.Limits.{points}
 use Rattle.scheme.specs.Lists.{span, keep, members}
 use Rattle.scheme.specs.Scheme.{q, sixteen, sum, items, places, in-set, usable, users-in, mask, noise, noise-start, column, row-value, share, shares, total-at}
 use Rattle.scheme.specs.Good.{Good}
-use Rattle.scheme.proofs.Tests.{both}
+use Rattle.scheme.proofs.Tests.{and-both}
 use Rattle.scheme.proofs.Lists.{span-append}
 use Rattle.scheme.proofs.Sums.{sum-small, sum-append}
 use Rattle.scheme.proofs.Modular.{sixteen-sums}
@@ -40,7 +40,7 @@ agree f g (suc n) a = eqb (f a) (g a) && agree f g n (suc a)
 
 agree-at : (f g : ℕ → ℕ) (n a i : ℕ) → agree f g n a ≡ true → a ≤ i → i < a + n → f i ≡ g i
 agree-at f g zero a i e lo hi = absurd (omega arith)
-agree-at f g (suc n) a i e lo hi = let s = both _ _ e in pick (ℕ-discrete a i) (eqb-true _ _ (s .0)) (agree-at f g n (suc a) i (s .1))
+agree-at f g (suc n) a i e lo hi = let s = and-both _ _ e in pick (ℕ-discrete a i) (eqb-true _ _ (s .0)) (agree-at f g n (suc a) i (s .1))
   where
     pick : Dec (a ≡ i) → f a ≡ g a → (suc a ≤ i → i < suc a + n → f i ≡ g i) → f i ≡ g i
     pick (yes r) t rest = rw (← r) t

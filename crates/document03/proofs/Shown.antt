@@ -15,7 +15,7 @@ use Rattle.scheme.specs.Lists.{span, keep, members}
 use Rattle.scheme.specs.Scheme.{q, sixteen, elements, plan-good, in-set, usable, users-in, list-length, key, first-message, reply}
 use Rattle.scheme.specs.Promise.{Table, admissible, list-good, Shown, shown, Alike, Matching, Nothing-told, Demand-3}
 use Rattle.scheme.specs.Good.{Good}
-use Rattle.scheme.proofs.Tests.{both}
+use Rattle.scheme.proofs.Tests.{and-both}
 use Rattle.scheme.proofs.Good.{good}
 use Rattle.scheme.proofs.Privacy.Demand.{demand-3}
 use Rattle.document03.specs.Ours.{our-plan}
@@ -80,7 +80,7 @@ pub shown-same : (p : D.Plan) (v c : ℕ) (xs : List ℕ) (x : Table) → Good (
     → list-good sixteen (our-plan p) xs ≡ true → admissible sixteen (our-plan p) x → P.shown p v c xs x ≡ as-document (shown sixteen (our-plan p) v c xs x)
 unfolding P.shown shown users-in list-good
 shown-same p v c xs x g h ok ax =
-    let long : length xs ≡ list-length (our-plan p) = eqb-true _ _ (both _ _ ok .0) in
+    let long : length xs ≡ list-length (our-plan p) = eqb-true _ _ (and-both _ _ ok .0) in
     λ i.
     record {
       firsts = firsts-same p g xs long x ax (p .k) 1 (omega arith) (omega arith) i;

@@ -15,7 +15,7 @@ use lib.ListN.{getD}
 use borrow.Author.Tests.{eqb-true}
 use Rattle.scheme.specs.Scheme.{Arithmetic, sixteen}
 use Rattle.scheme.specs.Service.{Phase, unplanned, idle, gathering, replying, is-gathering, is-replying, State, nothing, is-held, element-of, with-element, gathered, Record, plan-record, open-record, first-record, close-record, reply-record, finish-record, Answer, refusal, planned-state, opened-state, idle-state, next-state, Steps, refuses, accepts, totals-up, disagrees}
-use Rattle.scheme.proofs.Tests.{both, holds}
+use Rattle.scheme.proofs.Tests.{and-both, holds}
 use Rattle.scheme.proofs.Refusals.{then-zero}
 use Rattle.scheme.proofs.Pooling.Well.{gathers}
 use Rattle.service.specs.View.{view, Formed}
@@ -40,7 +40,7 @@ module _ (k : ℕ) (f : List ℕ) where
     where
       pick : (j : ℕ) (b : Bool) → (eqb k l && eqb j i) ≡ b → is-held (cond b (some x) (held k j)) ≡ true → element-of (cond b (some x) (held k j)) ≡ getD f j 0
       pick j true t h =
-          let s = both (eqb k l) (eqb j i) t in
+          let s = and-both (eqb k l) (eqb j i) t in
           e (sym (eqb-true k l (s .0))) ∙ ap (λ (n : ℕ). getD f n 0) (sym (eqb-true j i (s .1)))
       pick j false t h = c .right j h
 

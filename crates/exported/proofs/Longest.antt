@@ -15,7 +15,7 @@ use Rattle.scheme.specs.Limits.{most-users, most-blocks, most-places}
 use Rattle.scheme.specs.Lists.{span, all-of}
 use Rattle.scheme.specs.Scheme.{Plan, plan-good, items, places, is-user, in-set, ones, usable, usable-with, usable-sets, sets-with, list-length, key-length}
 use Rattle.scheme.specs.Good.{Good}
-use Rattle.scheme.proofs.Tests.{both}
+use Rattle.scheme.proofs.Tests.{and-both}
 use Rattle.scheme.proofs.Good.{good}
 use Rattle.scheme.proofs.Lists.{in-span}
 use Rattle.scheme.proofs.Pooling.Totals.{all-of-in}
@@ -47,7 +47,7 @@ module _ (p : Plan) (g : Good p) where
       let a = all-of-in _ (span (suc most-users) 0) computed (p .users) (in-span (suc most-users) 0 (p .users) (omega arith) (omega arith)) in
       let b = all-of-in _ (span (p .users) 0) a (p .threshold) (in-span (p .users) 0 (p .threshold) (omega arith) (omega arith)) in
       let i = in-span (p .threshold - 1) 1 (p .collusion) (omega arith) (omega arith) in
-      let c = both _ _ (all-of-in (fits (p .users) (p .threshold)) (span (p .threshold - 1) 1) b (p .collusion) i) in
+      let c = and-both _ _ (all-of-in (fits (p .users) (p .threshold)) (span (p .threshold - 1) 1) b (p .collusion) i) in
       (leb-true _ _ (c .0), leb-true _ _ (c .1))
 
 -- M taken out
@@ -80,7 +80,7 @@ longest =
     record {
       row = λ p. when _ _ most-places (λ e. places-le p (good p e));
       list = λ p. when _ _ longest-list (λ e. list-le p (good p e));
-      key = λ p k. when _ _ longest-key (λ e. let s = both (plan-good p) (is-user p k) e in let u = both (leb 1 k) (leb k (p .users)) (s .1) in
+      key = λ p k. when _ _ longest-key (λ e. let s = and-both (plan-good p) (is-user p k) e in let u = and-both (leb 1 k) (leb k (p .users)) (s .1) in
           key-le p k (good p (s .0)) (leb-true 1 k (u .0)) (leb-true k (p .users) (u .1)));
       row-met = refl;
       list-met = refl;

@@ -35,7 +35,7 @@ use Rattle.service.specs.View.{held-in}
 use Rattle.finish.specs.Finish.{rows-of, values-of, columns, choice-of}
 use Rattle.finish.specs.Parts.{row-reply, reply-grid, Prepared}
 use Rattle.finish.specs.declared.System.{System}
-use Rattle.finish.proofs.Turns.{reply-inside, reply-behind}
+use Rattle.finish.proofs.Turns.{row-reply-inside, row-reply-behind}
 use Rattle.finish.proofs.Blocks.{users-few, enough-rows, rows-square, listed-few, listed-points, listed-at, value-at, explains-further, fits-further, explained-small}
 
 -- ---- tests of a list
@@ -57,7 +57,7 @@ all-swap s ks bs = same-test _ _ (turn s ks bs) (turn (λ b a. s a b) bs ks)
 module _ (ys rs : List ℕ) (n m : ℕ) where
   reply-cell : (a b : ℕ) → a < n → b < m → m ≤ most-blocks → cell (reply-grid ys rs n m) a b ≡ held-in most-blocks ys (getD rs a 0) b
   unfolding reply-grid
-  reply-cell a b h l few = grid-at (row-reply ys rs m) n a b h (omega arith) ∙ reply-inside ys rs m a b l
+  reply-cell a b h l few = grid-at (row-reply ys rs m) n a b h (omega arith) ∙ row-reply-inside ys rs m a b l
 
   grid-elements : (A : Arithmetic) → 0 < A .size → ((a b : ℕ) → a < n → b < m → held-in most-blocks ys (getD rs a 0) b < A .size)
       → elements A (reply-grid ys rs n m) ≡ true
@@ -65,8 +65,8 @@ module _ (ys rs : List ℕ) (n m : ℕ) where
   grid-elements A z h = elements-every A _ (grid-small (row-reply ys rs m) n (A .size) z (λ a b l k. go a b l (decLt b m)))
     where
       go : (a b : ℕ) → a < n → Dec (b < m) → row-reply ys rs m a b < A .size
-      go a b l (yes k) = rw (reply-inside ys rs m a b k) (h a b l k)
-      go a b l (no k) = rw (reply-behind ys rs m a b (omega arith)) z
+      go a b l (yes k) = rw (row-reply-inside ys rs m a b k) (h a b l k)
+      go a b l (no k) = rw (row-reply-behind ys rs m a b (omega arith)) z
 
 -- ---- the system of the complete replies
 module _ (A : Arithmetic) (L : Laws A most-users most-threshold) (plan : code.Plan) (r : ℕ) (s : System) (h : Prepared A L plan r s) where

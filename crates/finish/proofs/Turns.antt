@@ -1,6 +1,6 @@
 -- One turn of each loop.
 --   Listing, listing-start, listing-more-in, listing-more-out, listing-end     the users of a set
---   reply-inside, reply-behind                                                 the replies of a row: those of the blocks, and 0 behind them
+--   row-reply-inside, row-reply-behind                                                 the replies of a row: those of the blocks, and 0 behind them
 -- Assumes nothing.
 use mathlib.Core.Path.{_≡_, refl, sym, ap, _∙_, subst}
 use mathlib.Core.Bool.{Bool, true, false, cond}
@@ -13,7 +13,7 @@ use borrow.Author.Tests.{lt-ltb, le-ltb}
 use Rattle.scheme.specs.Limits.{most-users, most-blocks}
 use Rattle.scheme.specs.Lists.{members, padded}
 use Rattle.scheme.proofs.Making.Rows.{members-take, members-skip}
-use Rattle.scheme.proofs.Padded.{padded-next}
+use Rattle.scheme.proofs.Padded.{padded-more}
 use Rattle.service.specs.View.{held-in}
 use Rattle.finish.specs.Parts.{row-reply}
 
@@ -38,7 +38,7 @@ module _ (t : ℕ → Bool) (n : ℕ) where
           few = omega (arith, s .few);
           counted = omega (arith, s .counted, ap length m, length-append (members t k 1) ((k + 1) ∷ []));
           written = ap (λ (o : List ℕ). set o count (k + 1)) (s .written)
-              ∙ padded-next most-users (members t k 1) (k + 1) count (sym (s .counted)) (omega (arith, s .few)) ∙ ap (padded most-users) (sym m);
+              ∙ padded-more most-users (members t k 1) (k + 1) count (sym (s .counted)) (omega (arith, s .few)) ∙ ap (padded most-users) (sym m);
         }
 
     pub listing-more-out : k < n → t (k + 1) ≡ false → Listing t n (k + 1) list count
@@ -56,10 +56,10 @@ module _ (t : ℕ → Bool) (n : ℕ) where
 
 -- ---- the replies of a row
 module _ (ys rs : List ℕ) (m a b : ℕ) where
-  pub reply-inside : b < m → row-reply ys rs m a b ≡ held-in most-blocks ys (getD rs a 0) b
+  pub row-reply-inside : b < m → row-reply ys rs m a b ≡ held-in most-blocks ys (getD rs a 0) b
   unfolding row-reply
-  reply-inside h = ap (λ (t : Bool). cond t (held-in most-blocks ys (getD rs a 0) b) 0) (lt-ltb b m h)
+  row-reply-inside h = ap (λ (t : Bool). cond t (held-in most-blocks ys (getD rs a 0) b) 0) (lt-ltb b m h)
 
-  pub reply-behind : m ≤ b → row-reply ys rs m a b ≡ 0
+  pub row-reply-behind : m ≤ b → row-reply ys rs m a b ≡ 0
   unfolding row-reply
-  reply-behind h = ap (λ (t : Bool). cond t (held-in most-blocks ys (getD rs a 0) b) 0) (le-ltb b m h)
+  row-reply-behind h = ap (λ (t : Bool). cond t (held-in most-blocks ys (getD rs a 0) b) 0) (le-ltb b m h)

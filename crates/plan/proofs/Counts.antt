@@ -21,24 +21,24 @@ use Rattle.scheme.specs.Limits.{most-users, most-sets}
 use Rattle.scheme.specs.Lists.{rank}
 use Rattle.scheme.specs.Scheme.{Plan, in-set, ones, usable, usable-with, usable-sets, sets-with}
 use Rattle.scheme.proofs.Tests.{and-true, and-false}
-use Rattle.scheme.proofs.Lists.{members-le, rank-zero, rank-step, high, low}
+use Rattle.scheme.proofs.Lists.{members-le, rank-start, rank-more, high, low}
 use Rattle.plan.specs.Counts.{sets-of, sets-rule}
 
 -- ---- by the lowest bit
 rank-suc : (t : ℕ → Bool) (n : ℕ) → rank t (suc n) ≡ rank t n + cond (t n) 1 0
-rank-suc t n = ap (rank t) (sym (add-one n)) ∙ rank-step t n
+rank-suc t n = ap (rank t) (sym (add-one n)) ∙ rank-more t n
 
 same-rank : (s t : ℕ → Bool) (n : ℕ) → ((v : ℕ) → v < n → s v ≡ t v) → rank s n ≡ rank t n
-same-rank s t zero h = rank-zero s ∙ sym (rank-zero t)
+same-rank s t zero h = rank-start s ∙ sym (rank-start t)
 same-rank s t (suc n) h =
     rank-suc s n ∙ ap₂ (λ (m : ℕ) (b : Bool). m + cond b 1 0) (same-rank s t n (λ v l. h v (omega arith))) (h n (omega arith)) ∙ sym (rank-suc t n)
 
 halves : (t : ℕ → Bool) (m : ℕ) → rank t (2 * m) ≡ rank (λ w. t (2 * w)) m + rank (λ w. t (2 * w + 1)) m
-halves t zero = omega (arith, rank-zero t, rank-zero (λ w. t (2 * w)), rank-zero (λ w. t (2 * w + 1)))
+halves t zero = omega (arith, rank-start t, rank-start (λ w. t (2 * w)), rank-start (λ w. t (2 * w + 1)))
 halves t (suc m) =
     let e : 2 * suc m ≡ 2 * m + 1 + 1 = omega arith in
     ap (rank t) e
-    ∙ omega (arith, rank-step t (2 * m + 1), rank-step t (2 * m), halves t m, rank-suc (λ w. t (2 * w)) m, rank-suc (λ w. t (2 * w + 1)) m)
+    ∙ omega (arith, rank-more t (2 * m + 1), rank-more t (2 * m), halves t m, rank-suc (λ w. t (2 * w)) m, rank-suc (λ w. t (2 * w + 1)) m)
 
 twice : (n : ℕ) → 2 ^ suc n ≡ 2 * 2 ^ n
 twice n = pow-suc 2 n ∙ mul-comm (2 ^ n) 2
@@ -49,7 +49,7 @@ by-bit t even odd n h l =
     ap (rank t) (twice n) ∙ halves t (2 ^ n) ∙ ap₂ _+_ (same-rank _ even (2 ^ n) (λ w b. h w)) (same-rank _ odd (2 ^ n) (λ w b. l w))
 
 none : (n : ℕ) → rank (λ v. false) n ≡ 0
-none zero = rank-zero (λ v. false)
+none zero = rank-start (λ v. false)
 none (suc n) = omega (arith, rank-suc (λ v. false) n, none n)
 
 -- the sets of n users with at least u members, and those of them that hold user k

@@ -1,6 +1,6 @@
 -- What several proofs share, and the count of ones for callers.
 --   ones-same                                the machine's count of ones is the definition's, of a number of k bits
---   Counting, counting-start, counting-yes, counting-no, counting-end   a loop that counts the numbers that pass a test
+--   Counting, counting-start, counting-more-in, counting-more-out, counting-end   a loop that counts the numbers that pass a test
 -- Assumes nothing.
 use mathlib.Core.Path.{_≡_, sym, ap, _∙_}
 use mathlib.Core.Bool.{Bool, true, false}
@@ -10,7 +10,7 @@ use native.Mathlib.Omega.{arith}
 use lib.Count as machine
 use Rattle.scheme.specs.Lists.{rank}
 use Rattle.scheme.specs.Scheme.{ones}
-use Rattle.scheme.proofs.Lists.{rank-zero, rank-step}
+use Rattle.scheme.proofs.Lists.{rank-start, rank-more}
 
 pub ones-same : (k v : ℕ) → v < 2 ^ k → machine.ones v ≡ ones k v
 unfolding ones machine.ones
@@ -27,13 +27,13 @@ pub record Counting (t : ℕ → Bool) (end v n : ℕ) : Type 0 where
 
 module _ (t : ℕ → Bool) (end : ℕ) where
   pub counting-start : Counting t end 0 0
-  counting-start = record { inside = omega arith; few = omega arith; exact = sym (rank-zero t) }
+  counting-start = record { inside = omega arith; few = omega arith; exact = sym (rank-start t) }
 
-  pub counting-yes : (v n : ℕ) → Counting t end v n → v < end → t v ≡ true → Counting t end (v + 1) (n + 1)
-  counting-yes v n g h e = record { inside = omega arith; few = omega arith; exact = omega (arith, rw e at (rank-step t v)) }
+  pub counting-more-in : (v n : ℕ) → Counting t end v n → v < end → t v ≡ true → Counting t end (v + 1) (n + 1)
+  counting-more-in v n g h e = record { inside = omega arith; few = omega arith; exact = omega (arith, rw e at (rank-more t v)) }
 
-  pub counting-no : (v n : ℕ) → Counting t end v n → v < end → t v ≡ false → Counting t end (v + 1) n
-  counting-no v n g h e = record { inside = omega arith; few = omega arith; exact = omega (arith, rw e at (rank-step t v)) }
+  pub counting-more-out : (v n : ℕ) → Counting t end v n → v < end → t v ≡ false → Counting t end (v + 1) n
+  counting-more-out v n g h e = record { inside = omega arith; few = omega arith; exact = omega (arith, rw e at (rank-more t v)) }
 
   pub counting-end : (v n : ℕ) → Counting t end v n → end ≤ v → (n ≡ rank t end) × (n ≤ end)
   counting-end v n g h =

@@ -1,4 +1,4 @@
--- What several proofs share, and laws for callers.
+-- Laws: the count of ones, and loops that count. Counts: how many sets are usable. Lengths: how long a key is.
 pub mod Laws
 pub mod Counts
 pub mod Lengths

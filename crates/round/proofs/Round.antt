@@ -19,7 +19,7 @@ use Rattle.scheme.proofs.Modular.{sixteen-sums}
 use Rattle.scheme.proofs.Pooling.Well.{Finishing, finishing, replied-survives}
 use Rattle.plan.specs.declared.Plan.{Plan}
 use Rattle.plan.specs.Plan.{plan-of}
-use Rattle.client.proofs.Shown.{Ready, message-is-sent, part-is-sent}
+use Rattle.client.proofs.Shown.{Inputs-right, message-is-sent, part-is-sent}
 use Rattle.scheme.proofs.Padded.{padded-take}
 use Rattle.solve.specs.Solve.{laws16}
 use Rattle.service.specs.View.{view}
@@ -52,7 +52,7 @@ round-right s xs x ko o w e ok rows room held =
     good : plan-good q ≡ true
     good = w .well .good (f .planned)
 
-    ready : (k : ℕ) → 1 ≤ k → k ≤ p .users → Ready sixteen p xs k (x k) (ko k) (o k)
+    ready : (k : ℕ) → 1 ≤ k → k ≤ p .users → Inputs-right sixteen p xs k (x k) (ko k) (o k)
     ready k lo hi = record { good-plan = good; good-list = ok; user = (lo, hi); figures = rows k lo hi; room = room k lo hi }
 
     survives : (k : ℕ) → 1 ≤ k → k ≤ p .users → in-set (replied (view s)) k ≡ true → in-set v k ≡ true

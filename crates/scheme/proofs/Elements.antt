@@ -1,5 +1,5 @@
 -- Test 3 of document 01: `elements` of what is left of a list, one element at a time, over any arithmetic that has an element.
---   elements-step   with the next number tested: by its excess, gathered by `|`
+--   elements-more   with the next number tested: by its excess, gathered by `|`
 --   elements-end    nothing is left
 -- Assumes nothing.
 use mathlib.Core.Path.{_≡_, refl, sym, ap, _∙_}
@@ -39,5 +39,5 @@ module _ (A : Arithmetic) (xs : List ℕ) (i : ℕ) where
         let n : bitOr past over ≡ 0 → ⊥ = λ z. omega (arith, ltb-false (getD xs i 0) (A .size) e, z, or-add-and past over, and-le-l past over) in
         ap (λ (b : Bool). b && elements A (drop (i + 1) xs)) (ne-eqb _ _ n) ∙ sym (and-false (eqb past 0))
 
-    pub elements-step : (eqb (bitOr past over) 0 && elements A (drop (i + 1) xs)) ≡ (eqb past 0 && elements A (drop i xs))
-    elements-step = tested (ltb (getD xs i 0) (A .size)) refl ∙ ap (λ (b : Bool). eqb past 0 && b) (sym (left h))
+    pub elements-more : (eqb (bitOr past over) 0 && elements A (drop (i + 1) xs)) ≡ (eqb past 0 && elements A (drop i xs))
+    elements-more = tested (ltb (getD xs i 0) (A .size)) refl ∙ ap (λ (b : Bool). eqb past 0 && b) (sym (left h))

@@ -7,17 +7,17 @@ use mathlib.Core.Bool.{true, false}
 use borrow.Author.Tests.{le-leb, lt-ltb, leb-true, ltb-true}
 use Rattle.scheme.specs.Scheme.{Plan, plan-good}
 use Rattle.scheme.specs.Good.{Good}
-use Rattle.scheme.proofs.Tests.{both, is-false}
+use Rattle.scheme.proofs.Tests.{and-both, is-false}
 
 pub good : (p : Plan) → plan-good p ≡ true → Good p
 unfolding plan-good
 good p h =
-    let s = both _ _ h in
-    let us = both _ _ (s .0) in
-    let u = both _ _ (us .0) in
-    let c = both _ _ (us .1) in
-    let tb = both _ _ (s .1) in
-    let b = both _ _ (tb .1) in
+    let s = and-both _ _ h in
+    let us = and-both _ _ (s .0) in
+    let u = and-both _ _ (us .0) in
+    let c = and-both _ _ (us .1) in
+    let tb = and-both _ _ (s .1) in
+    let b = and-both _ _ (tb .1) in
     record {
       users-low = leb-true _ _ (u .0);
       users-high = leb-true _ _ (u .1);

@@ -23,7 +23,7 @@ use Rattle.scheme.specs.Lists.{span, rank, rows, each}
 use Rattle.scheme.specs.Scheme.{Arithmetic, elements, Plan, places, in-set, usable, usable-with, sets-with, list-length, mask, share, shares, key, key-length, reply-start, reply}
 use Rattle.scheme.specs.Promise.{list-good}
 use Rattle.scheme.specs.Laws.{Laws}
-use Rattle.scheme.proofs.Tests.{both, joined}
+use Rattle.scheme.proofs.Tests.{and-both, and-joined}
 use Rattle.scheme.proofs.Lists.{map-span-length, map-below-at, rows-length, rows-at}
 use Rattle.scheme.proofs.Sets.{usable-below}
 use Rattle.scheme.proofs.Sums.{zero-small, row-value-small}
@@ -79,25 +79,25 @@ module _ (A : Arithmetic) (p : Plan) (xs : List ℕ) (k : ℕ) where
       ap (λ (n : ℕ). take (p .blocks) (drop (n + rank (usable-with p k) v * p .blocks) (key A p xs k))) (sym (map-span-length (mask p xs k) (places p) 0))
       ∙ ap (take (p .blocks))
       (drop-append-add (map (mask p xs k) (span (places p) 0)) (rows (shares A p xs k) (sets-with p k)) (rank (usable-with p k) v * p .blocks))
-      ∙ rows-at (shares A p xs k) (p .blocks) shares-length (usable-with p k) (2 ^ p .users) v (usable-below p v u) (joined u e)
+      ∙ rows-at (shares A p xs k) (p .blocks) shares-length (usable-with p k) (2 ^ p .users) v (usable-below p v u) (and-joined u e)
 
 -- ---- lists of elements
 module _ (A : Arithmetic) where
   pub elements-at : 0 < A .size → (xs : List ℕ) (i : ℕ) → elements A xs ≡ true → getD xs i 0 < A .size
   unfolding elements
   elements-at z [] i h = z
-  elements-at z (x ∷ xs) zero h = ltb-true x (A .size) (both (ltb x (A .size)) (elements A xs) h .0)
-  elements-at z (x ∷ xs) (suc i) h = elements-at z xs i (both (ltb x (A .size)) (elements A xs) h .1)
+  elements-at z (x ∷ xs) zero h = ltb-true x (A .size) (and-both (ltb x (A .size)) (elements A xs) h .0)
+  elements-at z (x ∷ xs) (suc i) h = elements-at z xs i (and-both (ltb x (A .size)) (elements A xs) h .1)
 
   pub elements-map : (f : ℕ → ℕ) (l : List ℕ) → ((k : ℕ) → In k l → f k < A .size) → elements A (map f l) ≡ true
   unfolding elements
   elements-map f [] h = refl
-  elements-map f (k ∷ l) h = joined (lt-ltb (f k) (A .size) (h k (inl refl))) (elements-map f l (λ i m. h i (inr m)))
+  elements-map f (k ∷ l) h = and-joined (lt-ltb (f k) (A .size) (h k (inl refl))) (elements-map f l (λ i m. h i (inr m)))
 
   pub elements-append : (xs ys : List ℕ) → elements A xs ≡ true → elements A ys ≡ true → elements A (xs ++ ys) ≡ true
   unfolding elements
   elements-append [] ys h l = l
-  elements-append (x ∷ xs) ys h l = let s = both (ltb x (A .size)) (elements A xs) h in joined (s .0) (elements-append xs ys (s .1) l)
+  elements-append (x ∷ xs) ys h l = let s = and-both (ltb x (A .size)) (elements A xs) h in and-joined (s .0) (elements-append xs ys (s .1) l)
 
   pub elements-rows : (f : ℕ → List ℕ) (l : List ℕ) → ((k : ℕ) → In k l → elements A (f k) ≡ true) → elements A (rows f l) ≡ true
   unfolding elements
@@ -115,8 +115,8 @@ key-elements A n m L p xs k h = elements-append A (map (mask p xs k) (span (plac
 -- what makes a random list good
 pub list-long : (A : Arithmetic) (p : Plan) (xs : List ℕ) → list-good A p xs ≡ true → length xs ≡ list-length p
 unfolding list-good
-list-long A p xs ok = eqb-true _ _ (both (eqb (length xs) (list-length p)) (elements A xs) ok .0)
+list-long A p xs ok = eqb-true _ _ (and-both (eqb (length xs) (list-length p)) (elements A xs) ok .0)
 
 pub list-elements : (A : Arithmetic) (p : Plan) (xs : List ℕ) → list-good A p xs ≡ true → elements A xs ≡ true
 unfolding list-good
-list-elements A p xs ok = both (eqb (length xs) (list-length p)) (elements A xs) ok .1
+list-elements A p xs ok = and-both (eqb (length xs) (list-length p)) (elements A xs) ok .1

@@ -1,10 +1,10 @@
 -- Laws of span, members, rank and rows.
 --   span-append, span-in, in-span, span-once, span-length       the n numbers from k on
---   span-start, span-next, span-end                             those from i on, of n: all, one and the others, none
+--   span-start, span-more, span-end                             those from i on, of n: all, one and the others, none
 --   map-same, map-span-length, map-span-at                      maps over them
 --   map-below-same, map-below-at                                and over those below n
 --   members-append, members-in, in-members, members-once, members-fewer, members-le     those that pass a test
---   rank-zero, rank-step, rank-at, rank-lt                      how many below v pass
+--   rank-start, rank-more, rank-at, rank-lt                      how many below v pass
 --   rows-same, rows-append, rows-length, rows-at                        one list for each number
 --   sets-append, sets-more, sets-whole                          lists written one behind the other; one word more of a map; all of a list
 --   zeros-at                                                    a list of zeros
@@ -52,8 +52,8 @@ span-length (suc n) k = ap suc (span-length n (suc k))
 pub span-start : (n : ℕ) → span (n - 0) 0 ≡ span n 0
 span-start n = let e : n - 0 ≡ n = omega arith in rw e
 
-pub span-next : (n i : ℕ) → i < n → span (n - i) i ≡ i ∷ span (n - (i + 1)) (i + 1)
-span-next n i h = let e : n - i ≡ suc (n - (i + 1)) = omega arith in rw (e, add-one)
+pub span-more : (n i : ℕ) → i < n → span (n - i) i ≡ i ∷ span (n - (i + 1)) (i + 1)
+span-more n i h = let e : n - i ≡ suc (n - (i + 1)) = omega arith in rw (e, add-one)
 
 pub span-end : (n i : ℕ) → n ≤ i → span (n - i) i ≡ []
 span-end n i h = let e : n - i ≡ 0 = omega arith in rw e
@@ -131,16 +131,16 @@ members-fewer s t zero k = omega arith
 members-fewer s t (suc n) k = keep-fewer (s k) (t k) k _ _ (members-fewer s t n (suc k))
 
 -- ---- rank
-pub rank-zero : (t : ℕ → Bool) → rank t 0 ≡ 0
+pub rank-start : (t : ℕ → Bool) → rank t 0 ≡ 0
 unfolding rank
-rank-zero t = refl
+rank-start t = refl
 
 keep-length : (b : Bool) (k : ℕ) (l : List ℕ) → length (keep b k l) ≡ cond b 1 0 + length l
 keep-length b k l = elim b [ true ↦ omega arith | false ↦ omega arith ]
 
-pub rank-step : (t : ℕ → Bool) (v : ℕ) → rank t (v + 1) ≡ rank t v + cond (t v) 1 0
+pub rank-more : (t : ℕ → Bool) (v : ℕ) → rank t (v + 1) ≡ rank t v + cond (t v) 1 0
 unfolding rank
-rank-step t v = ap length (members-append t v 1 0) ∙ length-append (members t v 0) (members t 1 (0 + v))
+rank-more t v = ap length (members-append t v 1 0) ∙ length-append (members t v 0) (members t 1 (0 + v))
     ∙ ap (λ (n : ℕ). length (members t v 0) + n) (keep-length (t (0 + v)) (0 + v) [] ∙ add-zero _ ∙ ap (λ (i : ℕ). cond (t i) 1 0) (zero-add v))
 
 pub members-le : (t : ℕ → Bool) (n k : ℕ) → length (members t n k) ≤ n

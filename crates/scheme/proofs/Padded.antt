@@ -1,8 +1,8 @@
 -- A list in the first of `size` places and 0 behind it, and lists taken place by place.
 --   padded-at, padded-take, padded-length, padded-behind    an entry; the list again; the length; behind the list
---   padded-next                                             one entry more
+--   padded-more                                             one entry more
 --   filled-at, filled-behind, filled-length                 n entries by a rule: one of them; behind them; all
---   filled-next, filled-sets, filled-zeros                  one more; several from another rule; several that are 0
+--   filled-more, filled-sets, filled-zeros                  one more; several from another rule; several that are 0
 --   Filling, filling-start, filling-more, filling-end       a loop that writes n entries in order
 --   Setting, setting-start, setting-more, setting-end       a loop that writes n numbers into a list, from a place on
 --   map-at, sum-by-place                                    a map over a list, and a sum, by the places of its padded form
@@ -42,17 +42,17 @@ module _ (size : ℕ) (l : List ℕ) where
       ap (λ (k : ℕ). getD (l ++ replicate (size - length l) 0) k 0) e
       ∙ getD-append-add l (replicate (size - length l) 0) (i - length l) 0 ∙ zeros-at (size - length l) (i - length l)
 
-  pub padded-next : (x i : ℕ) → length l ≡ i → i < size → set (padded size l) i x ≡ padded size (l ++ (x ∷ []))
+  pub padded-more : (x i : ℕ) → length l ≡ i → i < size → set (padded size l) i x ≡ padded size (l ++ (x ∷ []))
   unfolding padded
-  padded-next x i e h =
+  padded-more x i e h =
       let d : size - length l ≡ suc (size - suc i) = omega arith in
       let r : size - length (l ++ (x ∷ [])) ≡ size - suc i = omega (arith, length-append l (x ∷ [])) in
       let z : List ℕ = replicate (size - suc (length l)) 0 in
       rw (d, r, ← e) (set-append-seam l 0 z x ∙ sym (append-assoc l (x ∷ []) z))
 
 -- ---- the first n entries by a rule
-span-more : (f : ℕ → ℕ) (n : ℕ) → map f (span (n + 1) 0) ≡ map f (span n 0) ++ (f n ∷ [])
-span-more f n = ap (map f) (span-append n 1 0) ∙ map-append f (span n 0) (span 1 (0 + n))
+map-span-more : (f : ℕ → ℕ) (n : ℕ) → map f (span (n + 1) 0) ≡ map f (span n 0) ++ (f n ∷ [])
+map-span-more f n = ap (map f) (span-append n 1 0) ∙ map-append f (span n 0) (span 1 (0 + n))
     ∙ ap (λ (i : ℕ). map f (span n 0) ++ (f i ∷ [])) (zero-add n)
 
 module _ (size : ℕ) (f : ℕ → ℕ) where
@@ -68,9 +68,9 @@ module _ (size : ℕ) (f : ℕ → ℕ) where
   unfolding filled
   filled-length n h = padded-length size (map f (span n 0)) (omega (arith, map-span-length f n 0))
 
-  pub filled-next : (n : ℕ) → n < size → set (filled size n f) n (f n) ≡ filled size (n + 1) f
+  pub filled-more : (n : ℕ) → n < size → set (filled size n f) n (f n) ≡ filled size (n + 1) f
   unfolding filled
-  filled-next n h = padded-next size (map f (span n 0)) (f n) n (map-span-length f n 0) h ∙ ap (padded size) (sym (span-more f n))
+  filled-more n h = padded-more size (map f (span n 0)) (f n) n (map-span-length f n 0) h ∙ ap (padded size) (sym (map-span-more f n))
 
   -- several more behind the first `at`, from another rule
   pub filled-sets : (n at j : ℕ) (h : ℕ → ℕ) → at + n ≤ size → ((i : ℕ) → i < n → h (j + i) ≡ f (at + i))
@@ -80,7 +80,7 @@ module _ (size : ℕ) (f : ℕ → ℕ) where
       let first : h j ≡ f at = ap h (sym (add-zero j)) ∙ e 0 (omega arith) ∙ ap f (add-zero at) in
       let d : suc at + n ≡ at + suc n = omega arith in
       ap (λ (o : List ℕ). sets o (suc at) (map h (span n (suc j))))
-      (ap (λ (x : ℕ). set (filled size at f) at x) first ∙ filled-next at (omega arith) ∙ ap (λ (k : ℕ). filled size k f) (add-one at))
+      (ap (λ (x : ℕ). set (filled size at f) at x) first ∙ filled-more at (omega arith) ∙ ap (λ (k : ℕ). filled size k f) (add-one at))
       ∙ filled-sets n (suc at) (suc j) h (omega arith) (λ i m.
       let a : suc j + i ≡ j + suc i = omega arith in
       let b : at + suc i ≡ suc at + i = omega arith in
@@ -107,7 +107,7 @@ module _ (size : ℕ) (f : ℕ → ℕ) (n : ℕ) where
 
   pub filling-more : (i x : ℕ) (out : List ℕ) → n ≤ size → i < n → x ≡ f i → Filling size f n i out → Filling size f n (i + 1) (set out i x)
   filling-more i x out h l e s =
-      record { inside = omega arith; done = ap₂ (λ (o : List ℕ) (y : ℕ). set o i y) (s .done) e ∙ filled-next size f i (omega arith) }
+      record { inside = omega arith; done = ap₂ (λ (o : List ℕ) (y : ℕ). set o i y) (s .done) e ∙ filled-more size f i (omega arith) }
 
   pub filling-end : (i : ℕ) (out : List ℕ) → n ≤ i → Filling size f n i out → out ≡ filled size n f
   filling-end i out h s = let e : i ≡ n = omega arith in s .done ∙ ap (λ (k : ℕ). filled size k f) e

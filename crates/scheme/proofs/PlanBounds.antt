@@ -13,7 +13,7 @@ use Rattle.scheme.specs.Limits.{most-users, most-blocks, most-items, mos
 use Rattle.scheme.specs.Lists.{rank}
 use Rattle.scheme.specs.Scheme.{Plan, items, places, usable, usable-with, sets-with, key-length, reply-start}
 use Rattle.scheme.specs.Good.{Good}
-use Rattle.scheme.proofs.Tests.{both}
+use Rattle.scheme.proofs.Tests.{and-both}
 use Rattle.scheme.proofs.Sets.{usable-below}
 use Rattle.scheme.proofs.Lists.{rank-lt}
 
@@ -40,7 +40,7 @@ usable-le p v g e = omega (arith, usable-below p v e, sets-le p g)
 
 pub with-usable : (p : Plan) (k v : ℕ) → usable-with p k v ≡ true → usable p v ≡ true
 unfolding usable-with
-with-usable p k v e = both _ _ e .0
+with-usable p k v e = and-both _ _ e .0
 
 -- ---- inside the key
 pub masks-inside : (p : Plan) (k : ℕ) → places p ≤ key-length p k

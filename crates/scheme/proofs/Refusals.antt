@@ -18,7 +18,7 @@ use native.Mathlib.Omega.{arith}
 use borrow.Author.Tests.{leb-true}
 use Rattle.scheme.specs.Scheme.{Plan, is-user, _then_, unless, start-refusal, after}
 use Rattle.scheme.specs.Good.{Good}
-use Rattle.scheme.proofs.Tests.{both}
+use Rattle.scheme.proofs.Tests.{and-both}
 use Rattle.scheme.proofs.Good.{good}
 
 pub then-taken : {a : ℕ} → a ≡ 0 → (b : ℕ) → (a then b) ≡ b
@@ -82,5 +82,5 @@ pub start-taken : (p : Plan) (k : ℕ) → start-refusal p k ≡ 0 → Good p ×
 unfolding start-refusal is-user
 start-taken p k e =
     let s = then-zero _ _ e in
-    let u = both _ _ (unless-zero _ _ (s .1)) in
+    let u = and-both _ _ (unless-zero _ _ (s .1)) in
     (good p (unless-zero _ _ (s .0)), leb-true _ _ (u .0), leb-true _ _ (u .1))

@@ -1,6 +1,6 @@
 -- Sets of users, and where the masks and the noise stand in the random list.
 --   users-in-in, user-in            the users of a set
---   users-in-size                   as many as the set number has ones
+--   count-ones, users-in-size       as many as the set number has ones
 --   usable-below, usable-size       what makes a set usable
 --   colluders-few, colluders-in-in  the colluders in a set
 --   place-lt                        the place of a block's item
@@ -19,7 +19,7 @@ use Rattle.algebra.specs.Sums.{In}
 use Rattle.scheme.specs.Lists.{keep, members, rank}
 use Rattle.scheme.specs.Scheme.{Plan, items, places, in-set, ones, usable, users-in, usable-sets, list-length, noise-start}
 use Rattle.scheme.specs.Delta.{colluders-in}
-use Rattle.scheme.proofs.Tests.{both}
+use Rattle.scheme.proofs.Tests.{and-both}
 use Rattle.scheme.proofs.Lists.{members-in, members-fewer, rank-lt, digits-lt}
 
 pub users-in-in : (p : Plan) (v k : ℕ) → In k (users-in p v) → (1 ≤ k) × (k ≤ p .users) × (in-set v k ≡ true)
@@ -54,11 +54,11 @@ users-in-size p v = count-ones (p .users) v
 
 pub usable-below : (p : Plan) (v : ℕ) → usable p v ≡ true → v < 2 ^ p .users
 unfolding usable
-usable-below p v h = ltb-true _ _ (both (ltb v (2 ^ p .users)) _ h .0)
+usable-below p v h = ltb-true _ _ (and-both (ltb v (2 ^ p .users)) _ h .0)
 
 pub usable-size : (p : Plan) (v : ℕ) → usable p v ≡ true → p .threshold ≤ ones (p .users) v
 unfolding usable
-usable-size p v h = leb-true _ _ (both (ltb v (2 ^ p .users)) _ h .1)
+usable-size p v h = leb-true _ _ (and-both (ltb v (2 ^ p .users)) _ h .1)
 
 pub colluders-few : (p : Plan) (c w : ℕ) → ones (p .users) c ≤ p .collusion → length (colluders-in p c w) ≤ p .collusion
 unfolding colluders-in

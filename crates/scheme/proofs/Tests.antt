@@ -1,8 +1,9 @@
 -- Tests and the facts that they stand for.
---   both, joined              the two halves of a true `&&`
+--   holds                     a test that is true, as a fact
+--   is-false                  a test by what it would say
+--   and-both, and-joined      the two halves of a true `&&`
 --   and-true, and-false       `&&` with a test that is settled
 --   not-not                   `not` twice
---   is-false                  a test by what it would say
 --   Past, last-arm            not one of the first k numbers: of those up to k, the last; so for what a match leaves behind its arms 0, 1, ..
 --   none-below                no number is below 0
 -- Assumes nothing.
@@ -20,12 +21,12 @@ pub is-false : (b : Bool) → (b ≡ true → ⊥) → b ≡ false
 is-false true h = absurd (h refl)
 is-false false h = refl
 
-pub both : (a b : Bool) → (a && b) ≡ true → (a ≡ true) × (b ≡ true)
-both true b e = (refl, e)
-both false b e = absurd (holds e)
+pub and-both : (a b : Bool) → (a && b) ≡ true → (a ≡ true) × (b ≡ true)
+and-both true b e = (refl, e)
+and-both false b e = absurd (holds e)
 
-pub joined : {a b : Bool} → a ≡ true → b ≡ true → (a && b) ≡ true
-joined {a} {b} e f = ap₂ (λ (x y : Bool). x && y) e f
+pub and-joined : {a b : Bool} → a ≡ true → b ≡ true → (a && b) ≡ true
+and-joined {a} {b} e f = ap₂ (λ (x y : Bool). x && y) e f
 
 pub and-true : (b : Bool) → (b && true) ≡ b
 and-true b = elim b [ true ↦ refl | false ↦ refl ]

@@ -1,7 +1,7 @@
--- Numbers times a list of factors, one product more a turn.
+-- Numbers times a list of factors, and sums that are reduced at their end.
 --   sum-more                                    a sum over one index more
 --   weighed-same, weighed-small                 the same values; it is an element
---   unreduced-none, unreduced-one, unreduced-both, unreduced-more    sums that are reduced at their end: of no number, of one, of more, of one more
+--   unreduced-start, unreduced-one, unreduced-both, unreduced-more    sums that are reduced at their end: of no number, of one, of more, of one more
 -- Assumes nothing.
 use mathlib.Core.Path.{_≡_, sym, ap, ap₂, _∙_}
 use mathlib.Core.List.{List, [], _∷_, _++_}
@@ -36,9 +36,9 @@ module _ {A : Arithmetic} {n m : ℕ} (L : Laws A n m) where
   weighed-small cs i f = sum-small A n m L (span i 0) (λ j. A .multiply (getD cs j 0) (f j))
 
 -- ---- sums that are reduced at their end
-pub unreduced-none : (q most : ℕ) (f : ℕ → ℕ) (k : ℕ) → Unreduced q most f k 0 0
+pub unreduced-start : (q most : ℕ) (f : ℕ → ℕ) (k : ℕ) → Unreduced q most f k 0 0
 unfolding sum
-unreduced-none q most f k = record { small = omega arith; right = zero-mod q }
+unreduced-start q most f k = record { small = omega arith; right = zero-mod q }
 
 module _ {q n m : ℕ} (L : Laws (modular q) n m) {most : ℕ} {f : ℕ → ℕ} where
   pub unreduced-one : (k r : ℕ) → r % q ≡ f k % q → r ≤ most → Unreduced q most f k 1 r

@@ -19,7 +19,7 @@ use lib.Seq.{getD-set-same, getD-set-other}
 use borrow.Author.Tests.{le-leb, lt-ltb, eq-eqb, ne-eqb, eqb-true, eqb-false, leb-true, ltb-true}
 use Rattle.scheme.specs.Limits.{most-users}
 use Rattle.scheme.specs.Service.{is-held, element-of, with-element}
-use Rattle.scheme.proofs.Tests.{both, not-not}
+use Rattle.scheme.proofs.Tests.{and-both, not-not}
 use Rattle.scheme.proofs.Lists.{zeros-at, high, low}
 use Rattle.service.specs.View.{held-as, stored, slot, put, look, held-in}
 
@@ -78,8 +78,8 @@ module _ (w : ℕ) (xs : List ℕ) (k i x : ℕ) (a : In-row w k i) where
     where
       same : inside w l j ≡ true → getD (put w xs k i x) (slot w l j) 0 ≡ getD xs (slot w l j) 0
       same d =
-          let s = both (leb 1 l) (leb l most-users && ltb j w) d in
-          let f = both (leb l most-users) (ltb j w) (s .1) in
+          let s = and-both (leb 1 l) (leb l most-users && ltb j w) d in
+          let f = and-both (leb l most-users) (ltb j w) (s .1) in
           getD-set-other xs (slot w k i) (slot w l j) (held-as x) 0 (λ e. h (apart l j (leb-true 1 l (s .0)) (ltb-true j w (f .1)) e))
 
   pub look-put : slot w k i < length xs → (l j : ℕ) → look w (put w xs k i x) l j ≡ with-element k i x (look w xs) l j

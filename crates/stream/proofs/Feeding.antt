@@ -3,7 +3,7 @@
 --   stop-used                               none is taken where the chunk ends
 --   said, behind                            the line of the record at a place, and the state behind it
 --   Along, along-start, along-more          the bytes used so far are whole records, and state and length written are theirs
---   fed-far, fed-near, fed-more, fed-end    what fed is: offsets that pass 64 bits or do not, one record more, no more
+--   fed-far, fed-within, fed-more, fed-end    what fed is: offsets that pass 64 bits or do not, one record more, no more
 --   Going, going-start, going-more, going-end     what holds at each turn of feed
 -- Assumes nothing.
 use mathlib.Core.Path.{_≡_, refl, sym, ap, _∙_}
@@ -14,7 +14,7 @@ use Prim.Native.Nat.{ℕ, zero, suc, _+_, _-_, _^_, _≤_, _<_}
 use native.Mathlib.Omega.{arith}
 use lib.ListN.{length, take, length-append}
 use borrow.Author.Tests.{ltb-true, leb-true, eqb-false, not-true, lt-ltb, le-leb, lt-leb, ne-eqb}
-use Rattle.scheme.proofs.Tests.{both, is-false}
+use Rattle.scheme.proofs.Tests.{and-both, is-false}
 use Rattle.service.specs.declared.Service.{Service}
 use Rattle.lines.specs.Text.{line}
 use Rattle.lines.specs.Put.{room, Put}
@@ -34,9 +34,9 @@ pub record Ready (b : List ℕ) (at left : ℕ) : Type 0 where
 pub ready : (b : List ℕ) (at left : ℕ) → ready-at b at left ≡ true → Ready b at left
 unfolding ready-at
 ready b at left e =
-    let x = both _ _ e in
-    let y = both _ _ (x .0) in
-    let z = both _ _ (y .0) in
+    let x = and-both _ _ e in
+    let y = and-both _ _ (x .0) in
+    let z = and-both _ _ (y .0) in
     let i = ltb-true at (length b) (z .0) in
     let l = leb-true (length-at b at) (length b - at) (y .1) in
     record { known = eqb-false _ _ (not-true _ (z .1)); whole = record { inside = i; whole = omega arith }; fits = leb-true room left (x .1) }
@@ -102,9 +102,9 @@ module _ (s : Service) (b : List ℕ) (o n : ℕ) where
   unfolding fed
   fed-far h = rw (le-leb (2 ^ 64) (o + length b) h)
 
-  pub fed-near : o + length b < 2 ^ 64 → fed-from (length b) s b o n 0 0 ≡ fed s b o n
+  pub fed-within : o + length b < 2 ^ 64 → fed-from (length b) s b o n 0 0 ≡ fed s b o n
   unfolding fed
-  fed-near h = rw (lt-leb (2 ^ 64) (o + length b) h)
+  fed-within h = rw (lt-leb (2 ^ 64) (o + length b) h)
 
 module _ (m : ℕ) (t : Service) (b : List ℕ) (o n at w : ℕ) where
   pub fed-more : ready-at b at (n - w) ≡ true
@@ -138,7 +138,7 @@ going-start s b o out h =
       put = put-none out 0;
       most = length b;
       enough = omega arith;
-      rest = fed-near s b o (length out) h;
+      rest = fed-within s b o (length out) h;
     }
 
 module _ {s : Service} {b : List ℕ} {o : ℕ} {out₀ : List ℕ} {t : Service} {at wrote : ℕ} {out : List ℕ} (g : Going s b o out₀ t at wrote out) where

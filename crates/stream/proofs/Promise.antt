@@ -30,7 +30,7 @@ use Rattle.stream.specs.Stream.{record-length, length-at, record-at, Ite
 use Rattle.stream.specs.Promise.{Step-right, records-of, answers-of, all-taken, last-state, Answers-run, whole-of, ending, Lines-right, Cut-free, Stops, Fed-says, Fed-right, Opens-as-new, breaks-off, Seven-ends}
 use Rattle.stream.proofs.Records.{items-append, text-append, lines-broken}
 use Rattle.stream.proofs.Turns.{line-short}
-use Rattle.stream.proofs.Feeding.{Ready, ready, said, behind, Along, along-start, along-more, fed-far, fed-near, fed-more, fed-end}
+use Rattle.stream.proofs.Feeding.{Ready, ready, said, behind, Along, along-start, along-more, fed-far, fed-within, fed-more, fed-end}
 
 pub step-right : Step-right
 unfolding Step-right step Plan-steps Open-steps First-steps Reply-steps Close-steps Finish-steps
@@ -126,7 +126,7 @@ fed-right s b o n = pick (decLe (2 ^ 64) (o + length b))
   where
     pick : Dec (2 ^ 64 ≤ o + length b) → Fed-says s b o n (fed s b o n)
     pick (yes h) = rw (← fed-far s b o n h) (halted s b o n s 0 0 Far (along-start s b o) (omega arith) (h, refl))
-    pick (no h) = rw (← fed-near s b o n (omega arith)) (says-from s b o n (length b) s 0 0 (along-start s b o) (omega arith) (omega arith))
+    pick (no h) = rw (← fed-within s b o n (omega arith)) (says-from s b o n (length b) s 0 0 (along-start s b o) (omega arith) (omega arith))
 
 -- ---- a new round; refusal 7
 pub opens-as-new : Opens-as-new

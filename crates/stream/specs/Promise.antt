@@ -27,7 +27,7 @@ use Rattle.lines.specs.Put.{room}
 use Rattle.stream.specs.declared.Stop.{Stop}
 use Rattle.stream.specs.declared.Stop.the-variants.{Used, Unknown, Partial, Full, Far}
 use Rattle.stream.specs.declared.Fed.{Fed}
-use Rattle.stream.specs.Stream.{record-length, length-at, Item, taken, broken, items, step, Told, answers, text, lines, fed}
+use Rattle.stream.specs.Stream.{record-length, length-at, Item, taken, broken, items, step, Placed, answers, text, lines, fed}
 
 unfoldable pub Step-right : Type 0
 Step-right = (s : Service) (r : Record) → Formed sixteen s → Is-step sixteen r s (step s r .answer) (step s r .service)
@@ -38,8 +38,8 @@ records-of [] = []
 records-of (taken o r ∷ l) = r ∷ records-of l
 records-of (broken o ∷ l) = []
 
-unfoldable pub answers-of : List Told → List Answer
-answers-of l = map (λ (t : Told). t .answer) l
+unfoldable pub answers-of : List Placed → List Answer
+answers-of l = map (λ (t : Placed). t .answer) l
 
 unfoldable pub all-taken : List Item → Bool
 all-taken [] = true
@@ -64,7 +64,7 @@ whole-of [] = []
 whole-of (taken o r ∷ l) = taken o r ∷ whole-of l
 whole-of (broken o ∷ l) = []
 
-unfoldable pub ending : List Item → List Told
+unfoldable pub ending : List Item → List Placed
 ending [] = []
 ending (taken o r ∷ l) = ending l
 ending (broken o ∷ l) = record { offset = o; answer = refused 7 } ∷ []

@@ -5,7 +5,7 @@
 --   Whole, Other                 a whole record stands at a place, and it is no element
 --   Item, items                  the records of an input, each with its offset, and where it breaks off
 --   Outcome, outcome, step       one record on the service's state: the answer and the next state
---   Told, answers                the answers to a list of records, each with its record's offset; 7 ends the run
+--   Placed, answers                the answers to a list of records, each with its record's offset; 7 ends the run
 --   text, lines                  what is printed for a list of answers, and for an input
 --   ready-at, stop-at            whether a record is taken at a place, and why none is
 --   fed-from, fed                what feed hands back: the state, the bytes used and written, and why it stops
@@ -116,17 +116,17 @@ step s finish-record =
     outcome (finish-step sixteen laws16 s .number) (totalled (s .head .round) (take (places (plan-of (s .head .plan))) (finish-step sixteen laws16 s .totals)))
     (finish-step sixteen laws16 s .service)
 
-pub record Told : Type 0 where
+pub record Placed : Type 0 where
   pub offset : ℕ
   pub answer : Answer
 
-unfoldable pub answers : Service → List Item → List Told
+unfoldable pub answers : Service → List Item → List Placed
 answers s [] = []
 answers s (taken o r ∷ l) = record { offset = o; answer = step s r .answer } ∷ answers (step s r .service) l
 answers s (broken o ∷ l) = record { offset = o; answer = refused 7 } ∷ []
 
 -- ---- ANSWERS TO LINES
-unfoldable pub text : List Told → List ℕ
+unfoldable pub text : List Placed → List ℕ
 text [] = []
 text (t ∷ l) = line (t .offset) (t .answer) ++ text l
 

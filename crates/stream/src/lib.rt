@@ -5,7 +5,7 @@
 //   early_refusal                              what the head alone refuses
 //   take_first, take_reply, put_element        one element: how far out is written
 //   stop_at, halt                              why no record is taken at a place, and what is then handed back
-//   feed, feed_near                            takes the whole records of a chunk in order
+//   feed, feed_records                         takes the whole records of a chunk in order; the same where no offset passes 64 bits
 //   cut                                        the line of refusal 7, for an unknown kind or a record that the end of the input cuts short
 ghost use mathlib.Core.Path.{_≡_};
 ghost use mathlib.Core.List.{List};
@@ -349,7 +349,7 @@ fn halt(state: Service, reply: [u16; CELLS], at: usize, wrote: usize, stop: Stop
     }
 }
 
-fn feed_near(start: Service, b: &[u8], offset: u64, out: &mut [u8]) -> Fed
+fn feed_records(start: Service, b: &[u8], offset: u64, out: &mut [u8]) -> Fed
     requires { ⌜ offset + length (now b) < 2 ^ 64 ⌝ }
     ensures result { λ r. ⌜ r ≡ fed start (now (b .entry)) offset (length (now (out .entry))) ⌝ }
     ensures left { λ r. ⌜ now (out .exit) ≡ sets (now (out .entry)) 0 (lines start offset (take (r .at) (now (b .entry)))) ⌝ }
@@ -404,7 +404,7 @@ pub fn feed(start: Service, b: &[u8], offset: u64, out: &mut [u8]) -> Fed
             stop: Stop::Far,
         };
     }
-    feed_near(start, b, offset, out)
+    feed_records(start, b, offset, out)
 }
 
 // Writes the line of refusal 7 and answers its length, or 0 where out has no room for a line.

@@ -8,7 +8,7 @@ use lib.ListN.{length, drop}
 use borrow.Author.Needs.{needs}
 use Rattle.scheme.specs.Scheme.{sixteen, elements}
 use Rattle.scheme.proofs.Tests.{and-true}
-use Rattle.scheme.proofs.Elements.{elements-step, elements-end}
+use Rattle.scheme.proofs.Elements.{elements-more, elements-end}
 use Rattle.element.proofs.all_elements.Statement.{statement}
 use Rattle.element.proofs.all_elements.Tie as tie
 
@@ -41,7 +41,7 @@ loop-again c =
     let s = c .before .before .before in
     let xs = s .before .before .args .list .now in
     let h = c .before .before .loop-test .taken in
-    (search needs, rw (c .excess .ensures) (elements-step sixteen xs (s .loop .i) (lit< tt) (s .loop .past) h ∙ s .loop .inv .1))
+    (search needs, rw (c .excess .ensures) (elements-more sixteen xs (s .loop .i) (lit< tt) (s .loop .past) h ∙ s .loop .inv .1))
 
 returns : tie.Need-returns Inv-loop μ-loop
 returns c =

@@ -14,7 +14,7 @@ use Rattle.scheme.specs.Scheme.{q}
 use Rattle.scheme.specs.Weighed.{Unreduced}
 use Rattle.scheme.proofs.Lists.{zeros-at}
 use Rattle.scheme.proofs.Modular.{sixteen-sums}
-use Rattle.scheme.proofs.Weighed.{unreduced-none, unreduced-more}
+use Rattle.scheme.proofs.Weighed.{unreduced-start, unreduced-more}
 use Rattle.scheme.proofs.Making.Rows.{row-at}
 use Rattle.element.specs.Fold.{most-word}
 use Rattle.service.specs.View.{held-in}
@@ -44,7 +44,7 @@ no-sums-requires c κs = search needs
 loop-holds : tie.Need-loop-holds Inv-loop μ-loop
 loop-holds c =
     let z = c .no-sums .ensures in
-    (omega arith, rw z (length-replicate {A = ℕ} most-places 0), λ p h. rw (z, zeros-at most-places p) (unreduced-none _ _ _ _))
+    (omega arith, rw z (length-replicate {A = ℕ} most-places 0), λ p h. rw (z, zeros-at most-places p) (unreduced-start _ _ _ _))
 
 mul-row-start : tie.Need-mul-row-start Inv-loop μ-loop
 mul-row-start c = search needs

@@ -9,7 +9,7 @@ use Rattle.scheme.specs.Limits.{most-users, most-blocks}
 use Rattle.scheme.proofs.Solving.Grids.{Rows, rows-long, rows-start, rows-more, rows-end}
 use Rattle.service.proofs.View.{held-at}
 use Rattle.finish.specs.Parts.{row-reply, reply-grid}
-use Rattle.finish.proofs.Turns.{reply-inside, reply-behind}
+use Rattle.finish.proofs.Turns.{row-reply-inside, row-reply-behind}
 use Rattle.finish.proofs.gather.Statement.{statement}
 use Rattle.finish.proofs.gather.Tie as tie
 
@@ -61,8 +61,8 @@ loop-again c =
     let y = start t .args .reply .now in
     rows-more _ _ (l .i) _ _ _ _ _ (s .0) (s .1) (t .loop-test .taken) (λ b h.
     ap (λ (f : ℕ). getD y (f + b) 0 - 1) (c .before .before .row-start .ensures)
-    ∙ sym (reply-inside _ _ _ _ b h ∙ held-at most-blocks y _ b (k .0) (k .1) (omega (arith, s .1))))
-    (λ b low high. reply-behind _ _ _ _ b low) (c .put-held .ensures) (l .inv)
+    ∙ sym (row-reply-inside _ _ _ _ b h ∙ held-at most-blocks y _ b (k .0) (k .1) (omega (arith, s .1))))
+    (λ b low high. row-reply-behind _ _ _ _ b low) (c .put-held .ensures) (l .inv)
 
 returns : tie.Need-returns Inv-loop μ-loop
 unfolding reply-grid

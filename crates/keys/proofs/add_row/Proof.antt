@@ -1,4 +1,4 @@
--- `keys::add_row` meets its contract: one sum a turn (KeySums.added-more).
+-- `keys::add_row` meets its contract: one sum a turn (Making.Sums.added-more).
 use mathlib.Core.Path.{_≡_, _∙_}
 use Prim.Native.Nat.{_-_, _≤_}
 use native.Mathlib.Omega.{arith}

@@ -1,4 +1,4 @@
--- `keys::coefficients` meets its contract: one column a turn (KeyRows.row-more).
+-- `keys::coefficients` meets its contract: one column a turn (Making.Rows.row-more).
 use mathlib.Core.Path.{_≡_, refl, sym, ap, _∙_}
 use mathlib.Core.List.{map}
 use Prim.Native.Nat.{ℕ, _+_, _-_, _≤_}

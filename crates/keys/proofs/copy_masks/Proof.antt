@@ -1,4 +1,4 @@
--- `keys::copy_masks` meets its contract: what is written so far is the masks so far (KeyRows.row-more).
+-- `keys::copy_masks` meets its contract: what is written so far is the masks so far (Making.Rows.row-more).
 use mathlib.Core.Path.{_≡_, refl, sym, ap, ap₂, _∙_}
 use mathlib.Core.List.{map}
 use Prim.Native.Nat.{ℕ, _+_, _*_, _-_, _≤_}

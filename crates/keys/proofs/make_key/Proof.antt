@@ -1,4 +1,4 @@
--- `keys::make_key` meets its contract: past the refusals, the user's masks and behind them its shares fill the buffer (KeyWriting.key-whole).
+-- `keys::make_key` meets its contract: past the refusals, the user's masks and behind them its shares fill the buffer (Making.Writing.key-whole).
 use mathlib.Core.Path.{_≡_, sym, _∙_}
 use native.Mathlib.Omega.{arith}
 use lib.ListN.{length}

@@ -1,4 +1,4 @@
--- `keys::mask_products` meets its contract: one user a turn (KeyWriting.products-more).
+-- `keys::mask_products` meets its contract: one user a turn (Making.Writing.products-more).
 use mathlib.Core.Path.{_≡_, refl, sym, ap, _∙_, subst}
 use Prim.Native.Nat.{ℕ, _+_, _*_, _-_, _≤_}
 use native.Mathlib.Nat.{zero-mul}

@@ -1,4 +1,4 @@
--- `keys::sum_rows` meets its contract: after k users the sums are those over the users up to k (KeySums.sums-take, sums-skip).
+-- `keys::sum_rows` meets its contract: after k users the sums are those over the users up to k (Making.Sums.sums-more-in, sums-more-out).
 use mathlib.Core.Path.{_≡_, refl, sym, _∙_}
 use mathlib.Core.Logic.{⊎-elim}
 use Prim.Native.Nat.{_*_, _-_, _≤_}
@@ -8,7 +8,7 @@ use Rattle.scheme.specs.Limits.{most-blocks}
 use Rattle.scheme.specs.Scheme.{q}
 use Rattle.scheme.specs.KeyParts.{Unreduced-sums}
 use Rattle.scheme.proofs.Modular.{sixteen-sums}
-use Rattle.scheme.proofs.Making.Sums.{sums-start, sums-take, sums-skip}
+use Rattle.scheme.proofs.Making.Sums.{sums-start, sums-more-in, sums-more-out}
 use Rattle.element.specs.Fold.{most-word}
 use Rattle.keys.proofs.sum_rows.Statement.{statement}
 use Rattle.keys.proofs.sum_rows.Tie as tie
@@ -53,8 +53,8 @@ loop-again c =
     let u = sym (c .before .holds .ensures) in (
       omega arith,
       omega (arith, i .inv .1),
-      ⊎-elim (λ w. rw (w .3) (sums-take sixteen-sums (i .inv .2) (u ∙ w .0 .taken) _ (i .inv .1) _ (w .2 .ensures)))
-          (λ w. rw (w .1) (sums-skip sixteen-sums (i .inv .2) (u ∙ w .0 .left))) (c .if1 .came),
+      ⊎-elim (λ w. rw (w .3) (sums-more-in sixteen-sums (i .inv .2) (u ∙ w .0 .taken) _ (i .inv .1) _ (w .2 .ensures)))
+          (λ w. rw (w .1) (sums-more-out sixteen-sums (i .inv .2) (u ∙ w .0 .left))) (c .if1 .came),
     )
 
 returns : tie.Need-returns Inv-loop μ-loop

@@ -7,7 +7,7 @@ use borrow.Author.Needs.{needs}
 use Rattle.scheme.specs.Scheme.{q}
 use Rattle.scheme.specs.Weighed.{Unreduced}
 use Rattle.scheme.proofs.Modular.{sixteen-sums}
-use Rattle.scheme.proofs.Weighed.{unreduced-none, unreduced-more}
+use Rattle.scheme.proofs.Weighed.{unreduced-start, unreduced-more}
 use Rattle.element.specs.Fold.{most-product}
 use Rattle.keys.proofs.weigh.Statement.{statement}
 use Rattle.keys.proofs.weigh.Tie as tie
@@ -19,7 +19,7 @@ abbrev μ-loop : tie.MeasureT-loop
 μ-loop row n list from sum₀ i₀ sum i = n - i
 
 loop-holds : tie.Need-loop-holds Inv-loop μ-loop
-loop-holds c = (search needs, unreduced-none _ _ _ _)
+loop-holds c = (search needs, unreduced-start _ _ _ _)
 
 mul-times : tie.Need-mul-times Inv-loop μ-loop
 mul-times c = search needs

@@ -1,4 +1,4 @@
--- `keys::write_blocks_of` meets its contract: one block a turn; what is written so far is the values so far (KeyRows.row-more).
+-- `keys::write_blocks_of` meets its contract: one block a turn; what is written so far is the values so far (Making.Rows.row-more).
 use mathlib.Core.Path.{_≡_, refl, ap, _∙_}
 use Prim.Native.Nat.{ℕ, _+_, _*_, _-_, _≤_}
 use native.Mathlib.Omega.{arith}

@@ -1,4 +1,4 @@
--- `keys::write_sets` meets its contract: what is written so far is the shares for the sets so far (KeyWriting.Written).
+-- `keys::write_sets` meets its contract: what is written so far is the shares for the sets so far (Making.Writing.Written).
 use mathlib.Core.Path.{_≡_, sym, ap, _∙_}
 use mathlib.Core.Logic.{⊎-elim}
 use mathlib.Core.Bool.{true}
@@ -11,11 +11,11 @@ use denote.Ref.{now}
 use borrow.Author.Needs.{needs}
 use Rattle.scheme.specs.Limits.{most-blocks, most-items}
 use Rattle.scheme.specs.Scheme.{sixteen, items, usable, usable-with}
-use Rattle.scheme.proofs.Tests.{joined}
+use Rattle.scheme.proofs.Tests.{and-joined}
 use Rattle.scheme.proofs.Modular.{sixteen-sums}
 use Rattle.scheme.proofs.Making.Places.{rows-in, noise-room}
 use Rattle.scheme.proofs.Making.Shares.{shares-right}
-use Rattle.scheme.proofs.Making.Writing.{Written, written-start, written-take, written-pass, written-skip, written-end}
+use Rattle.scheme.proofs.Making.Writing.{Written, written-start, written-more-in, written-pass, written-more-out, written-end}
 use Rattle.plan.specs.Plan.{plan-of}
 use Rattle.scheme.proofs.PlanBounds.{sets-le, reply-inside}
 use Rattle.keys.proofs.write_sets.Statement.{statement}
@@ -112,7 +112,7 @@ unfolding usable-with
 room c =
     let l = turn (c .before .before) in
     let s = begun l in
-    let w = joined (is-usable (c .before .before)) (sym (c .before .holds .ensures) ∙ c .if2 .taken) in
+    let w = and-joined (is-usable (c .before .before)) (sym (c .before .holds .ensures) ∙ c .if2 .taken) in
     omega (arith, l .loop .inv .1 .at-is, reply-inside (plan-of (s .args .plan)) (s .args .user) (l .loop .v) w, s .pre .1 .2)
 
 write-shares-requires : tie.Need-write-shares-requires Inv-loop μ-loop
@@ -153,9 +153,9 @@ loop-again c =
     let r = shares-right sixteen-sums (plan-of (s .args .plan)) (now (s .args .list)) (s .args .user) (m .result) (k .coefficients .result)
     (m .ensures) (omega arith) (k .coefficients .ensures) (i .v) (i .noise) (g .noise-is) in (
       omega (arith, i .inv .0, c .before .before .loop-test .taken),
-      ⊎-elim (λ w. rw (w .9, w .6 .ensures, r, w .10, w .11) (written-take g (u ∙ w .0 .taken) (sym (w .1 .ensures) ∙ w .2 .taken)))
+      ⊎-elim (λ w. rw (w .9, w .6 .ensures, r, w .10, w .11) (written-more-in g (u ∙ w .0 .taken) (sym (w .1 .ensures) ∙ w .2 .taken)))
           (⊎-elim (λ w. rw (w .3, w .4, w .5) (written-pass g (u ∙ w .0 .taken) (sym (w .1 .ensures) ∙ w .2 .left)))
-          (λ w. rw (w .1, w .2, w .3) (written-skip g (u ∙ w .0 .left))))
+          (λ w. rw (w .1, w .2, w .3) (written-more-out g (u ∙ w .0 .left))))
           (c .if1 .came),
     )
 

@@ -1,4 +1,4 @@
--- `keys::write_shares` meets its contract: the sums are those over the set (KeySums.sums-end).
+-- `keys::write_shares` meets its contract: the sums are those over the set (Making.Sums.sums-end).
 use mathlib.Core.Path.{ap, _∙_}
 use lib.Seq.{sets}
 use denote.Ref.{now}

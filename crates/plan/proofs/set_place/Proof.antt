@@ -6,7 +6,7 @@ use Prim.Native.Nat.{_-_}
 use borrow.Author.Needs.{needs}
 use Rattle.scheme.specs.Scheme.{usable-with}
 use Rattle.plan.specs.Plan.{plan-of}
-use Rattle.plan.proofs.Laws.{Counting, counting-start, counting-yes, counting-no, counting-end}
+use Rattle.plan.proofs.Laws.{Counting, counting-start, counting-more-in, counting-more-out, counting-end}
 use Rattle.plan.proofs.set_place.Statement.{statement}
 use Rattle.plan.proofs.set_place.Tie as tie
 
@@ -36,8 +36,8 @@ loop-again c =
     let l = c .before .before .before .loop in
     let h = c .before .before .loop-test .taken in
     let e = sym (c .before .is-usable-with .ensures) in
-    ⊎-elim (λ w. rw (w .1) (counting-yes _ _ (l .v) (l .count) (l .inv) h (e ∙ w .0 .taken)))
-    (λ w. rw (w .1) (counting-no _ _ (l .v) (l .count) (l .inv) h (e ∙ w .0 .left)))
+    ⊎-elim (λ w. rw (w .1) (counting-more-in _ _ (l .v) (l .count) (l .inv) h (e ∙ w .0 .taken)))
+    (λ w. rw (w .1) (counting-more-out _ _ (l .v) (l .count) (l .inv) h (e ∙ w .0 .left)))
     (c .if1 .came)
 
 returns : tie.Need-returns Inv-loop μ-loop

@@ -13,7 +13,7 @@ use native.Mathlib.Omega.{arith}
 use lib.ListN.{length}
 use Rattle.scheme.specs.Lists.{rank}
 use Rattle.scheme.specs.Scheme.{Plan, places, usable, usable-with, usable-sets, list-length, noise-start, reply-start}
-use Rattle.scheme.proofs.Lists.{rank-step, rank-lt}
+use Rattle.scheme.proofs.Lists.{rank-more, rank-lt}
 use Rattle.scheme.proofs.Sets.{usable-below}
 
 pub row-in : (k n row : ℕ) → k < n → k * row + row ≤ n * row
@@ -28,7 +28,7 @@ rows-in p = omega arith
 
 -- what lies behind the rows of the numbers below v + 1 that pass a test
 rank-next : (t : ℕ → Bool) (v n : ℕ) → rank t (v + 1) * n ≡ rank t v * n + cond (t v) n 0
-rank-next t v n = ap (λ (m : ℕ). m * n) (rank-step t v) ∙ elim (t v) as (λ b. (rank t v + cond b 1 0) * n ≡ rank t v * n + cond b n 0)
+rank-next t v n = ap (λ (m : ℕ). m * n) (rank-more t v) ∙ elim (t v) as (λ b. (rank t v + cond b 1 0) * n ≡ rank t v * n + cond b n 0)
     [ true ↦ sym (row-next (rank t v) n) | false ↦ rw (add-zero, add-zero) ]
 
 module _ (p : Plan) where

@@ -2,7 +2,7 @@
 --   weight-end                               numbers times factors, with a sum, are the value of a block
 --   added-start, added-more                  a row of numbers added to sums, one place a turn
 --   added-long, added-rest, added-at         the length and the next sum stay; those so far
---   sums-start, sums-take, sums-skip         sums over the users of a set
+--   sums-start, sums-more-in, sums-more-out         sums over the users of a set
 --   sums-end                                 reduced with the noise they are the shares
 -- Assumes nothing.
 use mathlib.Core.Path.{_≡_, refl, sym, ap, ap₂, _∙_}
@@ -62,10 +62,10 @@ sums-start q most zs v = record {
 }
 
 module _ {q n m : ℕ} (L : Laws (modular q) n m) {most : ℕ} {zs : List ℕ} {v k : ℕ} {sums : List ℕ} (s : Unreduced-sums q most zs v k sums) where
-  pub sums-take : in-set v (k + 1) ≡ true → (from : ℕ) → from ≡ k * most-blocks → (new : List ℕ) → Row-added most zs from most-blocks sums new
+  pub sums-more-in : in-set v (k + 1) ≡ true → (from : ℕ) → from ≡ k * most-blocks → (new : List ℕ) → Row-added most zs from most-blocks sums new
       → Unreduced-sums q most zs v (k + 1) new
   unfolding set-sum
-  sums-take e from f new a =
+  sums-more-in e from f new a =
       let added = added-at a (omega arith) in
       record {
         long = added-long a ∙ s .long;
@@ -76,9 +76,9 @@ module _ {q n m : ℕ} (L : Laws (modular q) n m) {most : ℕ} {zs : List ℕ} {
             ∙ sym (sum-take L (in-set v) k (λ j. getD zs ((j - 1) * most-blocks + b) 0) e ∙ rw (← s .right b h, mod-add-mod));
       }
 
-  pub sums-skip : in-set v (k + 1) ≡ false → Unreduced-sums q most zs v (k + 1) sums
+  pub sums-more-out : in-set v (k + 1) ≡ false → Unreduced-sums q most zs v (k + 1) sums
   unfolding set-sum
-  sums-skip e = record {
+  sums-more-out e = record {
     long = s .long;
     small = λ b h. omega (arith, s .small b h, row-next k most);
     right = λ b h. s .right b h ∙ sym (sum-skip L (in-set v) k _ e);

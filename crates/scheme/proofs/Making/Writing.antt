@@ -2,7 +2,7 @@
 --   key-accepted                                         what a call of a key maker that is not refused has been told
 --   products-start, products-more                        the products, one user a turn
 --   Written, written-start                               the shares so far, and where the noise and the shares of the next set lie
---   written-take, written-pass, written-skip             one set more: it is usable and holds the user; does not hold the user; is not usable
+--   written-more-in, written-pass, written-more-out             one set more: it is usable and holds the user; does not hold the user; is not usable
 --   written-end                                          after the last set
 --   key-whole                                            the masks and behind them the shares fill the buffer
 -- Assumes nothing.
@@ -23,7 +23,7 @@ use Rattle.scheme.specs.Scheme.{Arithmetic, Plan, items, places, in-set,
 use Rattle.scheme.specs.Laws.{Laws}
 use Rattle.scheme.specs.Weighed.{weighed}
 use Rattle.scheme.specs.KeyParts.{Key-input, columns-value, Coefficients, block-item, block-value, block-values, Products}
-use Rattle.scheme.proofs.Tests.{both, joined, none-below}
+use Rattle.scheme.proofs.Tests.{and-both, and-joined, none-below}
 use Rattle.scheme.proofs.Lists.{map-span-length, rows-length, sets-append, sets-whole, zeros-at}
 use Rattle.scheme.proofs.Refusals.{then-zero, unless-zero, start-taken}
 use Rattle.scheme.proofs.Sums.{el-same}
@@ -38,7 +38,7 @@ unfolding key-refusal
 key-accepted A p k xs out e =
     let s = then-zero _ _ e in
     let g = start-taken p k (s .0) in
-    let l = both _ _ (unless-zero _ _ (then-zero _ _ (s .1) .0)) in
+    let l = and-both _ _ (unless-zero _ _ (then-zero _ _ (s .1) .0)) in
     (record { good = g .0; user-low = g .1; user-high = g .2; long = eqb-true _ _ (l .0) }, eqb-true _ _ (l .1))
 
 -- ---- products
@@ -100,10 +100,10 @@ module _ {A : Arithmetic} {p : Plan} {k : ℕ} {xs old new : List ℕ} {noise at
   left : usable-with p k v ≡ false → new ≡ sets old (places p) (rows (shares A p xs k) (members (usable-with p k) (v + 1) 0))
   left w = g .written ∙ ap (sets old (places p)) (sym (rows-skip (usable-with p k) (shares A p xs k) v w))
 
-  pub written-take : usable p v ≡ true → in-set v k ≡ true →
+  pub written-more-in : usable p v ≡ true → in-set v k ≡ true →
       Written A p k xs old (sets new at (shares A p xs k v)) (noise + p .blocks * p .collusion) (at + p .blocks) (v + 1)
   unfolding reply-start rank usable-with
-  written-take u i =
+  written-more-in u i =
       let t = usable-with p k in
       let f = shares A p xs k in
       let l = members t v 0 in
@@ -111,15 +111,15 @@ module _ {A : Arithmetic} {p : Plan} {k : ℕ} {xs old new : List ℕ} {noise at
       (moved (sets new at (f v))
       (ap₂ (λ (o : List ℕ) (a : ℕ). sets o a (f v)) (g .written)
       (g .at-is ∙ ap (λ (a : ℕ). places p + a) (sym (rows-length f (p .blocks) (shares-length A p xs k) l)))
-      ∙ sets-append old (places p) (rows f l) (f v) ∙ ap (sets old (places p)) (sym (rows-take t f v (joined u i)))))
+      ∙ sets-append old (places p) (rows f l) (f v) ∙ ap (sets old (places p)) (sym (rows-take t f v (and-joined u i)))))
 
   pub written-pass : usable p v ≡ true → in-set v k ≡ false → Written A p k xs old new (noise + p .blocks * p .collusion) at (v + 1)
   unfolding usable-with
   written-pass u i = rw (u, i, add-zero at) at (moved new (left (rw (u, i))))
 
-  pub written-skip : usable p v ≡ false → Written A p k xs old new noise at (v + 1)
+  pub written-more-out : usable p v ≡ false → Written A p k xs old new noise at (v + 1)
   unfolding usable-with
-  written-skip u = rw (u, add-zero noise, add-zero at) at (moved new (left (rw u)))
+  written-more-out u = rw (u, add-zero noise, add-zero at) at (moved new (left (rw u)))
 
   pub written-end : (row : ℕ) → row ≡ places p → v ≡ 2 ^ p .users → new ≡ sets old row (rows (shares A p xs k) (sets-with p k))
   unfolding sets-with

@@ -17,7 +17,7 @@ use Rattle.scheme.specs.Lists.{span, all-of}
 use Rattle.scheme.specs.Scheme.{Arithmetic, elements, sum, Plan, items, places, in-set, ones, users-in}
 use Rattle.scheme.specs.Totals.{explains, explains-all, total-of, totals, Choice, One-choice, Some-choice}
 use Rattle.scheme.specs.Laws.{Laws}
-use Rattle.scheme.proofs.Tests.{holds, both, joined}
+use Rattle.scheme.proofs.Tests.{holds, and-both, and-joined}
 use Rattle.scheme.proofs.Lists.{span-in, map-below-same, in-members}
 use Rattle.scheme.proofs.Sets.{users-in-in}
 use Rattle.scheme.proofs.Pooling.Held.{part}
@@ -38,10 +38,10 @@ module _ (A : Arithmetic) (p : Plan) (y : (k block : ℕ) → ℕ) where
       → explains-all A p r y f ≡ true → explains-all A p v y f ≡ true
   unfolding explains-all explains users-in
   choice-part r v f inside = all-of-part _ _ (span (p .blocks) 0) _ (λ b i. i) (λ b i h.
-      let s = both (eqb (length (f b)) (p .threshold) && elements A (f b)) _ h in
+      let s = and-both (eqb (length (f b)) (p .threshold) && elements A (f b)) _ h in
       let sub : (k : ℕ) → In k (users-in p v) → In k (users-in p r) =
       λ k m. let e = users-in-in p v k m in in-members (in-set r) (p .users) 1 k (e .0) (omega arith) (inside k (e .0) (e .2)) in
-      joined (s .0) (all-of-part _ _ (users-in p r) (users-in p v) sub (λ k m e. e) (s .1)))
+      and-joined (s .0) (all-of-part _ _ (users-in p r) (users-in p v) sub (λ k m e. e) (s .1)))
 
   pub totals-same : (v : ℕ) (x : (k place : ℕ) → ℕ) (f g : (block : ℕ) → List ℕ) → ((b : ℕ) → b < p .blocks → f b ≡ g b) → totals A p v x f ≡ totals A p v x g
   unfolding totals total-of places

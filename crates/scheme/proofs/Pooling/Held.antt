@@ -17,7 +17,7 @@ use borrow.Author.Tests.{eqb-true}
 use Rattle.scheme.specs.Lists.{span, all-of}
 use Rattle.scheme.specs.Scheme.{Plan, in-set, ones}
 use Rattle.scheme.specs.Service.{is-held, element-of, with-element, set-of, complete-set, values}
-use Rattle.scheme.proofs.Tests.{both, holds}
+use Rattle.scheme.proofs.Tests.{and-both, holds}
 use Rattle.scheme.proofs.Lists.{high, low, in-span}
 use Rattle.scheme.proofs.Pooling.Totals.{all-of-in}
 
@@ -119,4 +119,4 @@ module _ (k i x : ℕ) (f : (k at : ℕ) → Option ℕ) where
   unfolding with-element
   with-held l j =
       elim (eqb l k && eqb j i) as (λ b. (eqb l k && eqb j i) ≡ b → is-held (cond b (some x) (f l j)) ≡ true → (l ≡ k) ⊎ (is-held (f l j) ≡ true))
-      [ true ↦ λ t e. inl (eqb-true l k (both (eqb l k) (eqb j i) t .0)) | false ↦ λ t e. inr e ] refl
+      [ true ↦ λ t e. inl (eqb-true l k (and-both (eqb l k) (eqb j i) t .0)) | false ↦ λ t e. inr e ] refl

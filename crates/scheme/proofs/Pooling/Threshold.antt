@@ -23,7 +23,7 @@ use Rattle.scheme.specs.Scheme.{Arithmetic, sixteen, elements, sum, Plan
 use Rattle.scheme.specs.Totals.{explains}
 use Rattle.scheme.specs.Laws.{Laws}
 use Rattle.scheme.specs.Sharp.{smallest, Threshold-needed, Sums-open}
-use Rattle.scheme.proofs.Tests.{joined}
+use Rattle.scheme.proofs.Tests.{and-joined}
 use Rattle.scheme.proofs.Lists.{span-in, map-span-length, map-span-at, members-once}
 use Rattle.scheme.proofs.Sums.{el-same, row-value-el, row-value-small}
 use Rattle.scheme.proofs.Sets.{user-in, users-in-size}
@@ -82,7 +82,7 @@ pub sums-open : (A : Arithmetic) (p : Plan) → Laws A (p .users) (p .threshold)
 unfolding Sums-open explains ws columns
 sums-open A p L r y c fewer small h = record {
   unknowns = ws A p L r y c fewer;
-  right = joined (joined (eq-eqb _ _ (map-span-length _ (p .threshold) 1)) (elements-map A _ (span (p .threshold) 1) (λ j m. L .val-small _)))
+  right = and-joined (and-joined (eq-eqb _ _ (map-span-length _ (p .threshold) 1)) (elements-map A _ (span (p .threshold) 1) (λ j m. L .val-small _)))
       (at-all-of _ (users-in p r) (λ a i. eq-eqb _ _ (ws-right A p L r y c fewer small _ (in-at (users-in p r) a i))));
   first-sum = ws-at A p L r y c fewer 1 (omega arith) (omega arith) ∙ L .val-el c h;
 }

@@ -1,6 +1,6 @@
 -- Demand 2 of one round: U replies settle the sums and the noise, and with them the total.
 --   all-of-in, at-all-of, all-of-same  a test of each number of a list
---   all-of-pass, all-of-stop, all-of-end     of the numbers from i on: i passes, i does not, none is left
+--   all-of-more, all-of-stop, all-of-end     of the numbers from i on: i passes, i does not, none is left
 --   in-at, at-apart                    the number at a place
 --   Enough, enough                     rows of at least U users
 --   Explained, explained, explained-back     what `explains` says, for the first rows of a list
@@ -31,8 +31,8 @@ use Rattle.scheme.specs.Scheme.{Arithmetic, elements, sum, Plan, items, 
 use Rattle.scheme.specs.Promise.{Table, list-good}
 use Rattle.scheme.specs.Totals.{explains, explains-all, total-of, totals, Follows, One-choice, Totals-right, Some-choice, Rules-explain}
 use Rattle.scheme.specs.Laws.{Laws}
-use Rattle.scheme.proofs.Tests.{both, joined}
-use Rattle.scheme.proofs.Lists.{span-in, in-span, span-once, span-length, span-next, span-end, map-below-same, map-span-length, map-span-at, map-below-at, members-once}
+use Rattle.scheme.proofs.Tests.{and-both, and-joined}
+use Rattle.scheme.proofs.Lists.{span-in, in-span, span-once, span-length, span-more, span-end, map-below-same, map-span-length, map-span-at, map-below-at, members-once}
 use Rattle.scheme.proofs.Sums.{el-same, zero-small, sum-same, sum-el, sum-small, row-value-el, row-value-small}
 use Rattle.scheme.proofs.Sets.{users-in-in, user-in, users-in-size}
 use Rattle.scheme.proofs.Laws.{system-of}
@@ -41,13 +41,13 @@ use Rattle.scheme.proofs.Keys.{each-at, key-mask, key-reply, elements-a
 pub all-of-in : (t : ℕ → Bool) (l : List ℕ) → all-of t l ≡ true → (k : ℕ) → In k l → t k ≡ true
 unfolding all-of
 all-of-in t [] h k m = absurd m
-all-of-in t (i ∷ l) h k (inl e) = ap t e ∙ both (t i) (all-of t l) h .0
-all-of-in t (i ∷ l) h k (inr m) = all-of-in t l (both (t i) (all-of t l) h .1) k m
+all-of-in t (i ∷ l) h k (inl e) = ap t e ∙ and-both (t i) (all-of t l) h .0
+all-of-in t (i ∷ l) h k (inr m) = all-of-in t l (and-both (t i) (all-of t l) h .1) k m
 
 pub at-all-of : (t : ℕ → Bool) (l : List ℕ) → ((a : ℕ) → a < length l → t (getD l a 0) ≡ true) → all-of t l ≡ true
 unfolding all-of
 at-all-of t [] h = refl
-at-all-of t (k ∷ l) h = joined (h 0 (omega arith)) (at-all-of t l (λ a i. h (suc a) (omega arith)))
+at-all-of t (k ∷ l) h = and-joined (h 0 (omega arith)) (at-all-of t l (λ a i. h (suc a) (omega arith)))
 
 pub all-of-same : (s t : ℕ → Bool) (l : List ℕ) → ((k : ℕ) → In k l → s k ≡ t k) → all-of s l ≡ all-of t l
 unfolding all-of
@@ -55,13 +55,13 @@ all-of-same s t [] h = refl
 all-of-same s t (k ∷ l) h = ap₂ (λ (a b : Bool). a && b) (h k (inl refl)) (all-of-same s t l (λ i m. h i (inr m)))
 
 module _ (t : ℕ → Bool) (n i : ℕ) where
-  pub all-of-pass : i < n → t i ≡ true → all-of t (span (n - (i + 1)) (i + 1)) ≡ all-of t (span (n - i) i)
+  pub all-of-more : i < n → t i ≡ true → all-of t (span (n - (i + 1)) (i + 1)) ≡ all-of t (span (n - i) i)
   unfolding all-of
-  all-of-pass h e = rw (span-next n i h, e)
+  all-of-more h e = rw (span-more n i h, e)
 
   pub all-of-stop : i < n → t i ≡ false → all-of t (span (n - i) i) ≡ false
   unfolding all-of
-  all-of-stop h e = rw (span-next n i h, e)
+  all-of-stop h e = rw (span-more n i h, e)
 
   pub all-of-end : n ≤ i → all-of t (span (n - i) i) ≡ true
   unfolding all-of
@@ -103,9 +103,9 @@ module _ (A : Arithmetic) (p : Plan) where
       → (b : ℕ) → b < p .blocks → Explained A p (users-in p r) (length (users-in p r)) (λ k. y k b) (f b)
   unfolding explains-all explains
   explained r y f h b l =
-      let s = both (eqb (length (f b)) (p .threshold) && elements A (f b)) _
+      let s = and-both (eqb (length (f b)) (p .threshold) && elements A (f b)) _
       (all-of-in _ (span (p .blocks) 0) h b (in-span (p .blocks) 0 b (omega arith) (omega arith))) in
-      let t = both (eqb (length (f b)) (p .threshold)) (elements A (f b)) (s .0) in
+      let t = and-both (eqb (length (f b)) (p .threshold)) (elements A (f b)) (s .0) in
       record { long = eqb-true _ _ (t .0); small = t .1; fits = λ a i. eqb-true _ _ (all-of-in _ (users-in p r) (s .1) _ (in-at (users-in p r) a i)) }
 
   pub explained-back : (r : ℕ) (y : (k block : ℕ) → ℕ) (f : (block : ℕ) → List ℕ)
@@ -113,7 +113,7 @@ module _ (A : Arithmetic) (p : Plan) where
   unfolding explains-all explains
   explained-back r y f h = at-all-of _ (span (p .blocks) 0) (λ a i.
       let e = h (getD (span (p .blocks) 0) a 0) (omega (arith, span-in (p .blocks) 0 _ (in-at (span (p .blocks) 0) a i) .1)) in
-      joined (joined (eq-eqb _ _ (e .long)) (e .small)) (at-all-of _ (users-in p r) (λ a i. eq-eqb _ _ (e .fits a i))))
+      and-joined (and-joined (eq-eqb _ _ (e .long)) (e .small)) (at-all-of _ (users-in p r) (λ a i. eq-eqb _ _ (e .fits a i))))
 
   -- columns 1 to U as a list of unknowns
   explained-columns : (rs : List ℕ) (y f : (k : ℕ) → ℕ) → ((j : ℕ) → f j < A .size)

@@ -16,7 +16,7 @@ use borrow.Author.Tests.{lt-ltb, ltb-true, leb-true}
 use Rattle.scheme.specs.Scheme.{Arithmetic, Plan, plan-good, places, in-set, ones, usable}
 use Rattle.scheme.specs.Service.{Phase, has-plan, is-gathering, is-replying, plan-missing, not-gathering, not-replying, State, nothing, new-state, is-held, element-of, gathered, replied, Record, plan-record, open-record, first-record, close-record, reply-record, finish-record, Answer, refused, element-refusal, refusal, planned-state, opened-state, idle-state, next-state, is-finish, Steps, refuses, accepts, totals-up, disagrees, Runs, done, more, Well}
 use Rattle.scheme.specs.ServicePromise.{Stays-well}
-use Rattle.scheme.proofs.Tests.{holds, both, joined}
+use Rattle.scheme.proofs.Tests.{holds, and-both, and-joined}
 use Rattle.scheme.proofs.Good.{good}
 use Rattle.scheme.proofs.Refusals.{then-zero, unless-zero, test-held}
 use Rattle.scheme.proofs.Pooling.Held.{complete-below, complete-held, with-small, with-held}
@@ -46,7 +46,7 @@ pub fits : (A : Arithmetic) (n l k i x : ℕ) → element-refusal A n l k i x �
 unfolding element-refusal
 fits A n l k i x e =
     let a = test-held _ _ _ e in
-    let u = both _ _ (a .0) in
+    let u = and-both _ _ (a .0) in
     let b = test-held _ _ _ (a .1) in
     record { low = leb-true _ _ (u .0); high = leb-true _ _ (u .1); place = ltb-true _ _ (b .0); small = ltb-true _ _ (unless-zero _ _ (b .1)) }
 
@@ -104,7 +104,7 @@ module _ (A : Arithmetic) where
         firsts-small = w .firsts-small;
         replies-small = λ k b. some-element s w;
         replies-own = λ k b h. absurd (holds h);
-        survive = λ h. joined (lt-ltb _ _ (complete-below (s .plan) (s .firsts) (places (s .plan)))) (unless-zero _ _ (a .1));
+        survive = λ h. and-joined (lt-ltb _ _ (complete-below (s .plan) (s .firsts) (places (s .plan)))) (unless-zero _ _ (a .1));
       }
   next-well (reply-record k b x) s w f e =
       let a = then-zero _ _ (then-zero _ _ e .1) in

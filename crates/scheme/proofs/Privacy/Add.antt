@@ -21,7 +21,7 @@ use Rattle.scheme.specs.Lists.{span, rows, each}
 use Rattle.scheme.specs.Scheme.{Arithmetic, Plan, items, places, usable, usable-with, users-in, sets-with, list-length, mask, noise, noise-start, column, row-value, share, shares, key, key-length}
 use Rattle.scheme.specs.Promise.{Key-add}
 use Rattle.scheme.specs.Laws.{Laws}
-use Rattle.scheme.proofs.Tests.{both}
+use Rattle.scheme.proofs.Tests.{and-both}
 use Rattle.scheme.proofs.Lists.{map-below-same, map-span-length, map-below-at, members-in, rows-same, span-in}
 use Rattle.scheme.proofs.Sums.{el-same, sum-el, row-value-el, row-value-small}
 use Rattle.scheme.proofs.Sets.{users-in-in, place-lt, mask-lt, noise-lt}
@@ -106,7 +106,7 @@ module _ (A : Arithmetic) (p : Plan) (L : Laws A (p .users) (p .threshold)) (xs 
   key-plus k lo hi = ap₂ _++_
       (map-below-same _ _ (places p) (λ i h. mask-add k i lo hi h) ∙ map-each (mask p xs k) (mask p ys k) (places p))
       (rows-same (shares A p plus k) (λ v. each (A .add) (p .blocks) (shares A p xs k v) (shares A p ys k v)) (sets-with p k) (λ v m.
-      let u = both _ _ (members-in (usable-with p k) (2 ^ p .users) 0 v m .2) .0 in
+      let u = and-both _ _ (members-in (usable-with p k) (2 ^ p .users) 0 v m .2) .0 in
       map-below-same _ _ (p .blocks) (λ b h. share-add k v b lo hi u h) ∙ map-each (share A p xs k v) (share A p ys k v) (p .blocks))
       ∙ rows-each (A .add) (p .blocks) (shares A p xs k) (shares A p ys k) (shares-length A p xs k) (shares-length A p ys k) (sets-with p k))
       ∙ sym (each-parts (A .add) (places p) (length (sets-with p k) * p .blocks) (map (mask p xs k) (span (places p) 0))

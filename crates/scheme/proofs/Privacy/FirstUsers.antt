@@ -12,7 +12,7 @@ use native.Mathlib.Omega.{arith}
 use lib.Dec.{eqb}
 use borrow.Author.Tests.{le-leb, lt-ltb}
 use Rattle.scheme.specs.Scheme.{Plan, in-set, ones, usable}
-use Rattle.scheme.proofs.Tests.{holds, joined}
+use Rattle.scheme.proofs.Tests.{holds, and-joined}
 use Rattle.scheme.proofs.Lists.{low, high}
 
 pub first : (m : ℕ) → ℕ
@@ -61,5 +61,5 @@ first-below (suc n) (suc m) h = omega (arith, first-below n m (omega arith), pow
 
 pub first-usable : (p : Plan) (m : ℕ) → m ≤ p .users → p .threshold ≤ m → usable p (first m) ≡ true
 unfolding usable
-first-usable p m hi lo = joined (lt-ltb _ _ (first-below (p .users) m hi))
+first-usable p m hi lo = and-joined (lt-ltb _ _ (first-below (p .users) m hi))
     (le-leb (p .threshold) (ones (p .users) (first m)) (omega (arith, first-size (p .users) m hi)))

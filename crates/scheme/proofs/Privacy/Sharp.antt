@@ -20,7 +20,7 @@ use Rattle.scheme.specs.Promise.{Table, Shown, admissible, list-good, sh
 use Rattle.scheme.specs.Totals.{Follows, Totals-right, Choice, Rules-explain}
 use Rattle.scheme.specs.Laws.{Laws}
 use Rattle.scheme.specs.Sharp.{Totals-needed}
-use Rattle.scheme.proofs.Tests.{joined}
+use Rattle.scheme.proofs.Tests.{and-joined}
 use Rattle.scheme.proofs.Lists.{in-span, map-span-length, map-below-at, in-members}
 use Rattle.scheme.proofs.Sums.{zero-small}
 use Rattle.scheme.proofs.Sets.{usable-size}
@@ -42,7 +42,7 @@ zeros p = map (λ i. 0) (span (list-length p) 0)
 
 pub zeros-good : (A : Arithmetic) (p : Plan) → Laws A (p .users) (p .threshold) → list-good A p (zeros p) ≡ true
 unfolding list-good zeros
-zeros-good A p L = joined (eq-eqb _ _ (map-span-length (λ i. 0) (list-length p) 0))
+zeros-good A p L = and-joined (eq-eqb _ _ (map-span-length (λ i. 0) (list-length p) 0))
     (elements-map A (λ i. 0) (span (list-length p) 0) (λ i h. zero-small A _ _ L))
 
 module _ (A : Arithmetic) (p : Plan) (L : Laws A (p .users) (p .threshold)) (v c : ℕ) (x y : Table) (ax : admissible A p x) (ay : admissible A p y)

@@ -20,7 +20,7 @@ use Rattle.scheme.specs.Scheme.{Arithmetic, Plan, items, places, in-set,
 use Rattle.scheme.specs.Promise.{Table, list-good, shown, Alike, Nothing-told}
 use Rattle.scheme.specs.Laws.{Laws}
 use Rattle.scheme.specs.Delta.{colluders-in, unsolved, shift, difference, table-delta, partner, back}
-use Rattle.scheme.proofs.Tests.{both, joined}
+use Rattle.scheme.proofs.Tests.{and-both, and-joined}
 use Rattle.scheme.proofs.Lists.{map-same, map-below-same, members-in, in-members, rows-same, span-in}
 use Rattle.scheme.proofs.Sums.{el-same, zero-small, add-none, sum-el, row-value-small}
 use Rattle.scheme.proofs.Sets.{users-in-in, place-lt}
@@ -33,7 +33,7 @@ each-good : (A : Arithmetic) (p : Plan) (f : ℕ → ℕ → ℕ) → ((a b : �
     list-good A p (each f (list-length p) xs ys) ≡ true
 unfolding list-good
 each-good A p f h xs ys =
-    joined (eq-eqb _ _ (each-length f (list-length p) xs ys)) (elements-map A (λ i. f (getD xs i 0) (getD ys i 0)) (span (list-length p) 0) (λ i m. h _ _))
+    and-joined (eq-eqb _ _ (each-length f (list-length p) xs ys)) (elements-map A (λ i. f (getD xs i 0) (getD ys i 0)) (span (list-length p) 0) (λ i m. h _ _))
 
 -- what g undoes of f at each element, it undoes of a whole list
 each-undo : (A : Arithmetic) (p : Plan) (f g : ℕ → ℕ → ℕ) → 0 < A .size → ((a b : ℕ) → a < A .size → g (f a b) b ≡ a)
@@ -96,7 +96,7 @@ module _ (A : Arithmetic) (p : Plan) (L : Laws A (p .users) (p .threshold)) wher
     colluder-zero : (k w b : ℕ) → 1 ≤ k → k ≤ p .users → in-set c k ≡ true → usable p w ≡ true → in-set w k ≡ true → b < p .blocks → share A p Δ k w b ≡ 0
     unfolding Δ table-delta d e colluders-in
     colluder-zero k w b lo hi own r i h = delta-share A p L c d e more few k w b lo hi r h
-        (shift-hidden A p L c d e more few w b k (in-members (λ k. in-set c k && in-set w k) (p .users) 1 k lo (omega arith) (joined own i)))
+        (shift-hidden A p L c d e more few w b k (in-members (λ k. in-set c k && in-set w k) (p .users) 1 k lo (omega arith) (and-joined own i)))
 
     module _ (xs : List ℕ) (ok : list-good A p xs ≡ true) where
       ys : List ℕ
@@ -138,7 +138,7 @@ module _ (A : Arithmetic) (p : Plan) (L : Laws A (p .users) (p .threshold)) wher
       unfolding key sets-with usable-with
       key-same k lo hi own = ap₂ _++_ (map-below-same (mask p xs k) (mask p ys k) (places p) (λ i h. mask-same k i lo hi own h))
           (rows-same (shares A p xs k) (shares A p ys k) (sets-with p k) (λ w m.
-          let t = both (usable p w) (in-set w k) (members-in (usable-with p k) (2 ^ p .users) 0 w m .2) in
+          let t = and-both (usable p w) (in-set w k) (members-in (usable-with p k) (2 ^ p .users) 0 w m .2) in
           shares-same k w lo hi (t .0) (λ b h. colluder-zero k w b lo hi own (t .0) (t .1) h)))
 
       pub shown-same : shown A p v c xs x ≡ shown A p v c (partner A p L c x y xs) y

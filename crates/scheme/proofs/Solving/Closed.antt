@@ -29,7 +29,7 @@ use Rattle.scheme.specs.Scheme.{Arithmetic, sum, row-value}
 use Rattle.scheme.specs.Laws.{Laws}
 use Rattle.scheme.specs.Weighed.{weighed}
 use Rattle.scheme.specs.Solve.{Points, Square, Sums-low, Factors, dot-of, cell, block, row-fits, row-points, column-points, right-side, row-weight, column-weight, row-weights, column-weights, unknown-at, solution-of, unknowns-of}
-use Rattle.scheme.proofs.Lists.{span-in, in-span, span-once, span-start, span-next, span-end}
+use Rattle.scheme.proofs.Lists.{span-in, in-span, span-once, span-start, span-more, span-end}
 use Rattle.scheme.proofs.Sums.{sum-same, sum-shift, el-same, zero-small, add-none, sum-el, sum-small, coefficient-el}
 use Rattle.scheme.proofs.Padded.{filled-at, filled-behind}
 use Rattle.scheme.proofs.Solving.Grids.{block-at, grid-at}
@@ -194,7 +194,7 @@ module _ (A : Arithmetic) (L : Laws A most-users most-threshold) where
     weighing-more i w r l h e s = record {
       inside = omega arith;
       small = h;
-      rest = ap (λ u. u ⊗ over (span (n - (i + 1)) (i + 1))) e ∙ regroup _ _ _ _ _ ∙ ap (λ l. el w ⊗ over l) (sym (span-next n i l)) ∙ s .rest;
+      rest = ap (λ u. u ⊗ over (span (n - (i + 1)) (i + 1))) e ∙ regroup _ _ _ _ _ ∙ ap (λ l. el w ⊗ over l) (sym (span-more n i l)) ∙ s .rest;
     }
       where
         regroup : (x s g u v : F) → x ⊗ (s ⊗ g) ⊗ (u ⊗ v) ≡ x ⊗ (s ⊗ u ⊗ (g ⊗ v))

@@ -1,7 +1,7 @@
 -- Grids: rows of numbers, one number for each block.
 --   block-at                                  the numbers of a block
 --   grid-at, grid-small                       a grid by its rule; numbers below a bound
---   Rows, rows-start, rows-more, rows-end     a loop that writes row after row
+--   Rows, rows-long, rows-start, rows-more, rows-end     a loop that writes row after row
 -- Assumes nothing.
 use mathlib.Core.Path.{_≡_, refl, sym, ap, ap₂, _∙_}
 use mathlib.Core.List.{List, map}

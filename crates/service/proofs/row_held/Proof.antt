@@ -13,7 +13,7 @@ use borrow.Author.Needs.{needs}
 use borrow.Author.Tests.{eq-eqb, ne-eqb}
 use Rattle.scheme.specs.Lists.{span, all-of}
 use Rattle.scheme.proofs.Tests.{and-true, and-false}
-use Rattle.scheme.proofs.Pooling.Totals.{all-of-pass, all-of-stop, all-of-end}
+use Rattle.scheme.proofs.Pooling.Totals.{all-of-more, all-of-stop, all-of-end}
 use Rattle.service.specs.View.{row-held}
 use Rattle.service.proofs.row_held.Statement.{statement}
 use Rattle.service.proofs.row_held.Tie as tie
@@ -52,7 +52,7 @@ loop-again c =
     let g : Bool → Bool = λ b. l .good && b in (
       omega arith,
       ⊎-elim (λ w. rw (w .1) (sym (and-false (l .good)) ∙ ap g (sym (all-of-stop _ _ (l .i) h (ap not (eq-eqb _ _ (w .0 .taken))))) ∙ l .inv .1))
-          (λ w. rw (w .1) (ap g (all-of-pass _ _ (l .i) h (ap not (ne-eqb _ _ (w .0 .left)))) ∙ l .inv .1)) (c .if1 .came),
+          (λ w. rw (w .1) (ap g (all-of-more _ _ (l .i) h (ap not (ne-eqb _ _ (w .0 .left)))) ∙ l .inv .1)) (c .if1 .came),
     )
 
 returns : tie.Need-returns Inv-loop μ-loop

@@ -9,7 +9,7 @@ use Rattle.scheme.specs.Limits.{most-blocks}
 use Rattle.scheme.specs.Lists.{span, all-of}
 use Rattle.scheme.specs.Scheme.{sixteen}
 use Rattle.scheme.specs.Solve.{row-fits}
-use Rattle.scheme.proofs.Pooling.Totals.{all-of-pass, all-of-stop, all-of-end}
+use Rattle.scheme.proofs.Pooling.Totals.{all-of-more, all-of-stop, all-of-end}
 use Rattle.scheme.proofs.Solving.Closed.{sums-low, filled-factors, row-same}
 use Rattle.solve.proofs.fits.Statement.{statement}
 use Rattle.solve.proofs.fits.Tie as tie
@@ -73,7 +73,7 @@ loop-again c =
       omega arith,
       omega arith,
       omega (arith, l .inv .2),
-      all-of-pass _ _ (l .a) (t .loop-test .taken) (sym e ∙ sym (c .before .same-row .ensures) ∙ not-false _ (c .if1 .left)) ∙ l .inv .3,
+      all-of-more _ _ (l .a) (t .loop-test .taken) (sym e ∙ sym (c .before .same-row .ensures) ∙ not-false _ (c .if1 .left)) ∙ l .inv .3,
     )
 
 returns-2 : tie.Need-returns-2 Inv-loop μ-loop

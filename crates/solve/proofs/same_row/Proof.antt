@@ -16,7 +16,7 @@ use Rattle.scheme.specs.Weighed.{weighed}
 use Rattle.scheme.specs.Solve.{cell}
 use Rattle.scheme.proofs.Tests.{and-true, and-false}
 use Rattle.scheme.proofs.Lists.{span-start}
-use Rattle.scheme.proofs.Pooling.Totals.{all-of-pass, all-of-stop, all-of-end}
+use Rattle.scheme.proofs.Pooling.Totals.{all-of-more, all-of-stop, all-of-end}
 use Rattle.solve.proofs.same_row.Statement.{statement}
 use Rattle.solve.proofs.same_row.Tie as tie
 
@@ -64,7 +64,7 @@ loop-again c =
       search needs,
       ⊎-elim
           (λ w. rw (w .1) (sym (and-false (l .good)) ∙ ap g (sym (all-of-stop _ _ (l .b) h (ne-eqb _ _ (λ d. w .0 .taken (e ∙ d))))) ∙ l .inv .1))
-          (λ w. rw (w .1) (ap g (all-of-pass _ _ (l .b) h (eq-eqb _ _ (sym e ∙ w .0 .left))) ∙ l .inv .1)) (c .if1 .came),
+          (λ w. rw (w .1) (ap g (all-of-more _ _ (l .b) h (eq-eqb _ _ (sym e ∙ w .0 .left))) ∙ l .inv .1)) (c .if1 .came),
     )
 
 returns : tie.Need-returns Inv-loop μ-loop

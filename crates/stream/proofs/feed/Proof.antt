@@ -1,4 +1,4 @@
--- `stream::feed` meets its contract: Feeding.fed-far, and else feed_near.
+-- `stream::feed` meets its contract: Feeding.fed-far, and else feed_records.
 -- Assumes nothing.
 use mathlib.Core.Path.{refl}
 use native.Mathlib.Omega.{arith}
@@ -15,8 +15,8 @@ returns : tie.Need-returns
 unfolding items items-from lines answers text
 returns c = (fed-far _ _ _ _ (omega arith), refl)
 
-feed-near-requires : tie.Need-feed-near-requires
-feed-near-requires c κs = search needs
+feed-records-requires : tie.Need-feed-records-requires
+feed-records-requires c κs = search needs
 
 same-length : tie.Need-same-length
 same-length c = search needs
@@ -30,6 +30,6 @@ feed-spec =
     (tie.spec
     sub-if1
     returns
-    feed-near-requires
+    feed-records-requires
     same-length
     returns-2)

@@ -1,4 +1,4 @@
--- `stream::feed_near` meets its contract: at each turn what fed answers from here on is its answer, and the lines of the bytes used are written.
+-- `stream::feed_records` meets its contract: at each turn what fed answers from here on is its answer, and the lines of the bytes used are written.
 -- Assumes nothing.
 use mathlib.Core.Path.{sym, ap, _∙_}
 use mathlib.Core.Logic.{inl, inr}
@@ -12,8 +12,8 @@ use Rattle.lines.specs.Put.{room}
 use Rattle.stream.specs.Stream.{record-length, Other}
 use Rattle.stream.proofs.Early.{turn-early}
 use Rattle.stream.proofs.Feeding.{Ready, stop-used, Going, going-start, going-more, going-end}
-use Rattle.stream.proofs.feed_near.Statement.{statement}
-use Rattle.stream.proofs.feed_near.Tie as tie
+use Rattle.stream.proofs.feed_records.Statement.{statement}
+use Rattle.stream.proofs.feed_records.Tie as tie
 
 abbrev Inv-loop : tie.InvT-loop
 Inv-loop b offset out₀ state₀ reply₀ at₀ wrote₀ out state reply at wrote =
@@ -140,7 +140,7 @@ add-at-2 : tie.Need-add-at-2 Inv-loop μ-loop
 add-at-2 c = search needs
 
 loop-less-2 : tie.Need-loop-less-2 Inv-loop μ-loop
-loop-less-2 c = omega (arith, taken (from-reply (c .before .before .before) .before .before) .whole .inside)
+loop-less-2 c = let test = from-reply (c .before .before .before) in omega (arith, taken (test .before .before) .whole .inside)
 
 loop-again-2 : tie.Need-loop-again-2 Inv-loop μ-loop
 unfolding record-length
@@ -210,8 +210,8 @@ returns-2 c =
     let stop = stop-used _ _ (end .loop-test .left) in
     (rw (c .halt2 .ensures, stop) (going-end g (λ r. omega (arith, r .whole .inside))), rw (c .halt2 .ensures) (g .put .bytes))
 
-pub feed-near-spec : {M : Type 1} → statement M
-feed-near-spec =
+pub feed-records-spec : {M : Type 1} → statement M
+feed-records-spec =
     tie.close
     (tie.spec
     Inv-loop
