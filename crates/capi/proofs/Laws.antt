@@ -12,12 +12,11 @@ use lib.Seq.{getD-set-same, getD-set-other}
 use Rattle.scheme.specs.Scheme as scheme
 use Rattle.scheme.specs.Scheme.{reply-start, after}
 use Rattle.scheme.proofs.Refusals.{after-taken, after-refused}
-use Rattle.plan.specs.Plan.{plan-of}
+use Rattle.plan.specs.Plan.{plan-of, code-plan}
 use Rattle.client.specs.declared.Stage.{Stage}
 use Rattle.client.specs.declared.Stage.the-variants.{Fresh, Sent, Answered}
 use Rattle.client.specs.declared.Client.{Client}
 use Rattle.client.specs.Client.{stage-of, stage-of-number, stage-number, moved}
-use Rattle.capi.specs.Plans.{code-plan}
 use Rattle.capi.specs.Ends.{end-length, code-stage, end-at, kept, part-by}
 
 pub stage-back : (g : Stage) → code-stage (stage-of g) ≡ g

@@ -17,11 +17,11 @@ use Rattle.scheme.specs.Scheme as scheme
 use Rattle.scheme.specs.Scheme.{sixteen, places, is-user, key-length, reply-start, reply, is-fresh, open-to, after}
 use Rattle.scheme.proofs.Tests.{and-both}
 use Rattle.scheme.proofs.Good.{good}
-use Rattle.scheme.proofs.Refusals.{after-taken, after-refused}
+use Rattle.scheme.proofs.Refusals.{after-taken, after-refused, start-passes}
 use Rattle.plan.specs.declared.Plan as code
 use Rattle.plan.specs.Plan.{plan-of}
 use Rattle.plan.proofs.Counts.{with-same}
-use Rattle.plan.proofs.Lengths.{key-len-good}
+use Rattle.plan.specs.Lengths.{key-len}
 use Rattle.client.specs.declared.Stage.{Stage}
 use Rattle.client.specs.declared.Stage.the-variants.{Sent, Answered}
 use Rattle.client.specs.declared.Client.{Client}
@@ -32,12 +32,12 @@ use Rattle.capi.specs.Promise.{Same-length, End-stands, Ends-stand, Part
 use Rattle.capi.proofs.Laws.{stage-moved, kept-taken, part-taken, part-refused}
 
 pub same-length : Same-length
-unfolding Same-length is-user key-length
+unfolding Same-length is-user key-length key-len
 same-length p k g u =
     let f = good p g in
     let r = and-both _ _ u in
     let e = sym (with-same p k (leb-true _ _ (r .0)) (leb-true _ _ (r .1))) ∙ with-same p 1 (omega arith) (omega (arith, f .users-low)) in
-    ap (λ (n : ℕ). places p + n * p .blocks) e ∙ sym (key-len-good p 1 (f, omega arith, omega (arith, f .users-low)))
+    ap (λ (n : ℕ). places p + n * p .blocks) e ∙ sym (after-taken (start-passes p 1 (f, omega arith, omega (arith, f .users-low))) _ _)
 
 -- ---- the airfield end on its array
 module _ (e : List ℕ) (l : length e ≡ end-length) where

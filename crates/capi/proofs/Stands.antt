@@ -15,8 +15,8 @@ use Rattle.capi.specs.Lent.{Arrays, arrays-of, phase-at, phase-number, h
 use Rattle.capi.specs.Promise.{New-stands, Calls-stand}
 
 pub new-stands : New-stands
-unfolding New-stands head-at phase-at new-service nothing-first nothing-reply
-new-stands = refl
+unfolding New-stands head-at phase-at numbers phase-number new-service nothing-first nothing-reply
+new-stands = (refl, refl)
 
 phase-back : (g : Phase) → phase-at (phase-number g) ≡ g
 unfolding phase-at phase-number

@@ -11,13 +11,12 @@ use lib.ListN.{getD, set}
 use Rattle.scheme.specs.Scheme as scheme
 use Rattle.scheme.specs.Scheme.{sixteen, reply-start, after}
 use Rattle.plan.specs.declared.Plan.{Plan}
-use Rattle.plan.specs.Plan.{plan-of}
+use Rattle.plan.specs.Plan.{plan-of, code-plan}
 use Rattle.client.specs.declared.Stage.{Stage}
 use Rattle.client.specs.declared.Stage.the-variants.{Fresh, Sent, Answered}
 use Rattle.client.specs.declared.Client.{Client}
 use Rattle.client.specs.declared.Moved.{Moved}
 use Rattle.client.specs.Client.{stage-of, stage-of-number, stage-number, begun, answer-refusal}
-use Rattle.capi.specs.Plans.{code-plan}
 use Rattle.capi.specs.declared.ends.CutawhenoPart.{CutawhenoPart}
 
 abbrev pub end-length : ℕ

@@ -20,7 +20,7 @@ use Rattle.service.specs.declared.Service.{Service}
 use Rattle.service.specs.declared.Closed.{Closed}
 use Rattle.service.specs.Calls.{plan-step, open-step, close-step}
 use Rattle.finish.specs.Finish.{finish-step}
-use Rattle.capi.specs.Plans.{code-plan}
+use Rattle.plan.specs.Plan.{code-plan}
 use Rattle.capi.specs.declared.pooling.CutawhenoClosed.{CutawhenoClosed}
 
 abbrev pub head-length : ℕ

@@ -1,7 +1,6 @@
--- Plans: the plan where it comes as four numbers. Ends: the airfield end where it stands in a lent array.
+-- Ends: the airfield end where it stands in a lent array.
 -- Lent: the service where its state stands in lent arrays.
 -- Promise: what callers in C and Rust lean on.
-pub mod Plans
 pub mod Ends
 pub mod Lent
 pub mod Promise

@@ -4,7 +4,7 @@
 --                     what client/specs/Promise.antt says of those holds of the array
 --   Part-given, Part-is-reply the part that a reply names is the one that the client's own reply hands back
 --   Same-part         "the same set asked again gets the same part", and the array stays
---   New-stands        arrays of zeros stand for a new service
+--   New-stands        arrays of zeros are those of a new service, and stand for it
 --   Calls-stand       what the calls leave in lent arrays stands for the state that the service's own calls hand back, so that what
 --                     service/specs/Promise.antt and finish/specs/Promise.antt say of those holds of the arrays
 -- Assumes nothing: these are definitions.
@@ -23,7 +23,7 @@ use Rattle.client.specs.Client.{begun, first-answer, reply-answer, part-of}
 use Rattle.service.specs.Calls.{new-service, plan-step, open-step, first-left, first-step, close-step, reply-left, reply-step}
 use Rattle.finish.specs.Finish.{finish-step}
 use Rattle.capi.specs.Ends.{end-length, end-at, start-left, kept, part-answer}
-use Rattle.capi.specs.Lent.{Arrays, arrays, zeros, head-at, state, plan-left, open-left, close-left, finish-left}
+use Rattle.capi.specs.Lent.{Arrays, arrays, zeros, arrays-of, head-at, state, plan-left, open-left, close-left, finish-left}
 
 unfoldable pub Same-length : Type 0
 Same-length = (p : Plan) (k : ℕ) → plan-good p ≡ true → is-user p k ≡ true → key-length p k ≡ key-len p 1
@@ -51,7 +51,7 @@ Same-part =
     (part-answer (end-at asked) ks v ≡ part-answer (end-at e) ks v) × (kept (reply-answer sixteen (end-at asked) ks v) asked ≡ asked)
 
 unfoldable pub New-stands : Type 0
-New-stands = state zeros ≡ new-service
+New-stands = (zeros ≡ arrays-of new-service) × (state zeros ≡ new-service)
 
 pub record Calls-stand (a : Arrays) : Type 0 where
   pub plan-stands : (p : code.Plan) → state (plan-left a p) ≡ plan-step (state a) p .service

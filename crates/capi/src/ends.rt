@@ -12,7 +12,7 @@ ghost use Prim.Native.Nat.{_+_, _≤_};
 ghost use lib.ListN.{length};
 ghost use Rattle.scheme.specs.Scheme.{sixteen};
 ghost use Rattle.client.specs.Client.{begun, first-answer, message-left, reply-answer};
-ghost use Rattle.capi.specs.Plans.{code-plan};
+ghost use Rattle.plan.specs.Plan.{code-plan};
 ghost use Rattle.capi.specs.Ends.{end-at, start-left, kept, part-answer};
 use client::Client;
 use plan::Plan;

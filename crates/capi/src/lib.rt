@@ -8,9 +8,8 @@
 ghost use mathlib.Core.Path.{_≡_};
 ghost use lib.ListN.{length};
 ghost use Rattle.scheme.specs.Scheme.{sixteen, key-refusal, key-left};
-ghost use Rattle.plan.specs.Plan.{plan-of};
+ghost use Rattle.plan.specs.Plan.{plan-of, code-plan};
 ghost use Rattle.plan.specs.Lengths.{row-len, list-len, key-len};
-ghost use Rattle.capi.specs.Plans.{code-plan};
 
 pub mod ends;
 pub mod pooling;

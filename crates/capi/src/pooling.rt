@@ -11,7 +11,7 @@ ghost use Rattle.scheme.specs.Scheme.{sixteen};
 ghost use Rattle.solve.specs.Solve.{laws16};
 ghost use Rattle.service.specs.Calls.{plan-step, open-step, first-refusal, first-left, close-step, reply-refusal, reply-left};
 ghost use Rattle.finish.specs.Finish.{finish-step};
-ghost use Rattle.capi.specs.Plans.{code-plan};
+ghost use Rattle.plan.specs.Plan.{code-plan};
 ghost use Rattle.capi.specs.Lent.{arrays, state, phase-at, phase-number, head-at, numbers, plan-left, open-left, closed-answer, close-left, finish-left, finish-totals};
 use plan::CELLS;
 use plan::FIRSTS;

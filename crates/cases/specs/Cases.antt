@@ -14,13 +14,13 @@ use lib.Dec.{lit<}
 use lib.ListN.{getD, take, replicate}
 use Rattle.algebra.specs.Residue.{inverse}
 use Rattle.scheme.specs.Lists.{span}
-use Rattle.scheme.specs.Scheme.{q, sixteen, plan-good, list-length, key, key-length, start-refusal, key-refusal, after}
+use Rattle.scheme.specs.Scheme.{q, sixteen, plan-good, list-length, key, key-length, start-refusal, key-refusal, key-left}
 use Rattle.scheme.specs.Promise.{Table, shown}
 use Rattle.scheme.specs.Delta as Delta
 use Rattle.scheme.specs.Modular.{sixteen-field}
 use Rattle.solve.specs.Solve.{laws16}
 use Rattle.plan.specs.declared.Plan.{Plan}
-use Rattle.plan.specs.Plan.{plan-of}
+use Rattle.plan.specs.Plan.{plan-of, code-plan}
 use Rattle.client.specs.declared.Stage.{Stage}
 use Rattle.client.specs.declared.Stage.the-variants.{Fresh, Sent, Answered}
 use Rattle.client.specs.declared.Client.{Client}
@@ -32,11 +32,8 @@ use Rattle.finish.specs.declared.Finished.{Finished}
 use Rattle.finish.specs.Finish.{finish-step}
 
 -- ---- PLANS, LISTS AND FIGURES
-abbrev pub plan-with : (users threshold collusion blocks : ℕ) → Plan
-plan-with k u t m = record { users = k; threshold = u; collusion = t; blocks = m }
-
 abbrev pub plan : Plan
-plan = plan-with 3 2 1 1
+plan = code-plan 3 2 1 1
 
 abbrev pub random : List ℕ
 random = 100 ∷ 200 ∷ 300 ∷ 12 ∷ 60 ∷ 40 ∷ 120 ∷ []
@@ -54,7 +51,7 @@ figures a b c k = getD (0 ∷ a ∷ b ∷ c ∷ []) k 0 ∷ []
 -- ---- AIRFIELD ENDS
 -- what the key maker leaves in a buffer of four zeros
 unfoldable pub key-from : (list : List ℕ) → (k : ℕ) → List ℕ
-key-from xs k = after (key-refusal sixteen (plan-of plan) k xs 4) (key sixteen (plan-of plan) xs k) (replicate 4 0)
+key-from xs k = key-left sixteen (plan-of plan) k xs (replicate 4 0)
 
 unfoldable pub key-of : (k : ℕ) → List ℕ
 key-of = key-from random
@@ -141,12 +138,12 @@ pub record Cases : Type 0 where
   pub figure-3 : first-answer sixteen (end-of 1 Fresh) (key-of 1) (65521 ∷ []) 1 ≡ handed 3 (end-of 1 Fresh)
   pub first-3 : first-step sixteen (opened 7) 1 0 65521 .number ≡ 3
   -- plans
-  pub sixteen-blocks : tried (plan-with 3 2 1 16) ≡ 0 ∷ 0 ∷ []
-  pub seventeen-blocks : tried (plan-with 3 2 1 17) ≡ 1 ∷ 1 ∷ []
-  pub threshold-is-users : tried (plan-with 3 3 1 1) ≡ 1 ∷ 1 ∷ []
-  pub threshold-is-collusion : tried (plan-with 3 2 2 1) ≡ 1 ∷ 1 ∷ []
-  pub list-4080 : list-length (plan-of (plan-with 8 2 1 16)) ≡ 4080
-  pub keys-2048 : map (key-length (plan-of (plan-with 8 2 1 16))) (span 8 1) ≡ replicate 8 2048
+  pub sixteen-blocks : tried (code-plan 3 2 1 16) ≡ 0 ∷ 0 ∷ []
+  pub seventeen-blocks : tried (code-plan 3 2 1 17) ≡ 1 ∷ 1 ∷ []
+  pub threshold-is-users : tried (code-plan 3 3 1 1) ≡ 1 ∷ 1 ∷ []
+  pub threshold-is-collusion : tried (code-plan 3 2 2 1) ≡ 1 ∷ 1 ∷ []
+  pub list-4080 : list-length (plan-of (code-plan 8 2 1 16)) ≡ 4080
+  pub keys-2048 : map (key-length (plan-of (code-plan 8 2 1 16))) (span 8 1) ≡ replicate 8 2048
   -- rounds: 0 never opens; after the last 32-bit number no 32-bit number opens
   pub round-0 : open-step planned 0 .number ≡ 17
   pub last-round : open-step planned 4294967295 .number ≡ 0

@@ -10,17 +10,18 @@ use mathlib.Core.Option.{Option, some}
 use Prim.Native.Nat.{ℕ, _≤_}
 use native.Mathlib.Omega.{arith}
 use lib.ListN.{length}
-use borrow.Author.Tests.{le-leb, eq-eqb}
+use borrow.Author.Tests.{eq-eqb}
+use Rattle.scheme.proofs.Good.{good}
 use Rattle.algebra.specs.Sums.{In}
 use Rattle.scheme.specs.Scheme as scheme
 use Rattle.scheme.specs.Lists.{span}
-use Rattle.scheme.specs.Scheme.{Arithmetic, sixteen, elements, plan-good, places, is-user, in-set, usable, users-in, list-length, key, key-length, first-message, reply, is-fresh, open-to, start-refusal, key-refusal, message-refusal, unless, _then_}
+use Rattle.scheme.specs.Scheme.{Arithmetic, sixteen, elements, plan-good, places, in-set, usable, users-in, list-length, key, key-length, first-message, reply, is-fresh, open-to, start-refusal, key-refusal, message-refusal, unless, _then_}
 use Rattle.scheme.specs.Promise.{shown, admissible, list-good}
 use Rattle.scheme.proofs.Lists.{map-same, span-in, members-in}
 use Rattle.scheme.proofs.Keys.{key-is-long, key-elements, list-long, list-elements}
 use Rattle.scheme.specs.Laws.{Laws}
 use Rattle.scheme.proofs.Modular.{sixteen-sums}
-use Rattle.scheme.proofs.Refusals.{after-taken}
+use Rattle.scheme.proofs.Refusals.{after-taken, start-passes}
 use Rattle.plan.specs.declared.Plan.{Plan}
 use Rattle.plan.specs.Plan.{plan-of}
 use Rattle.client.specs.declared.Stage.the-variants.{Fresh}
@@ -31,8 +32,7 @@ use Rattle.client.proofs.Laws.{Answers, reply-taken}
 
 -- ---- the calls are taken
 start-begun : (p : scheme.Plan) (k : ℕ) → plan-good p ≡ true → 1 ≤ k → k ≤ p .users → start-refusal p k ≡ 0
-unfolding start-refusal is-user unless _then_
-start-begun p k g lo hi = simp (g, le-leb _ _ lo, le-leb _ _ hi)
+start-begun p k g lo hi = start-passes p k (good p g, lo, hi)
 
 key-taken : (A : Arithmetic) (p : scheme.Plan) (k : ℕ) (xs : List ℕ) (out : ℕ) → start-refusal p k ≡ 0
     → length xs ≡ list-length p → elements A xs ≡ true → out ≡ key-length p k → key-refusal A p k xs out ≡ 0

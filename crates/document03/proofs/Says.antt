@@ -9,7 +9,7 @@ use Prim.Native.Nat.{ℕ, zero, suc, _+_}
 use native.Mathlib.Omega.{arith}
 use borrow.Author.Tests.{eqb-true}
 use lib.ListN.{length}
-use Rattle.scheme.specs.Scheme.{Plan, Stage, sixteen, key, key-length, first-message, reply-start, key-refusal, message-refusal, reply-refusal, after}
+use Rattle.scheme.specs.Scheme.{Plan, Stage, sixteen, key-length, first-message, reply-start, key-refusal, message-refusal, reply-refusal, after, key-left}
 use Rattle.scheme.proofs.Tests.{and-both}
 use Rattle.scheme.proofs.Refusals.{then-zero, start-taken, unless-zero, after-taken, after-refused}
 use Rattle.plan.specs.declared.Plan as code
@@ -39,7 +39,7 @@ put-says zero ws {us} r o z e h f d = (f ∙ sym e, d ∙ after-taken (sym e) us
 put-says (suc n) ws {us} r o z e h f d = (f ∙ sym e, d ∙ after-refused (λ t. omega arith) us o)
 
 pub key-says : (k u t m a : ℕ) (xs : List ℕ) (r : ℕ) (o z : List ℕ) → r ≡ key-refusal sixteen (plan-of-numbers k u t m) a xs (length o)
-    → z ≡ after (key-refusal sixteen (plan-of-numbers k u t m) a xs (length o)) (key sixteen (plan-of-numbers k u t m) xs a) o
+    → z ≡ key-left sixteen (plan-of-numbers k u t m) a xs o
     → E.Key-says k u t m a xs r o z
 unfolding E.Key-says D.plan key-refusal
 key-says k u t m a xs r o z f d =

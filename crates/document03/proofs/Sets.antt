@@ -103,7 +103,9 @@ module _ (p : D.Plan) (v : ℕ) (h : usable (our-plan p) v ≡ true) where
 
   pub holding-index : (k : ℕ) → in-set v k ≡ true → D.index-of v (D.holding k (D.usable-sets p)) ≡ rank (usable-with (our-plan p) k) v
   unfolding sets-with usable-with
-  holding-index k i = ap (D.index-of v) (holding-same p k) ∙ index-rank (usable-with (our-plan p) k) (2 ^ p .k) v (usable-below (our-plan p) v h) (and-joined h i)
+  holding-index k i =
+      ap (D.index-of v) (holding-same p k)
+      ∙ index-rank (usable-with (our-plan p) k) (2 ^ p .k) v (usable-below (our-plan p) v h) (and-joined h i)
 
   pub reply-start-same : (k : ℕ) → in-set v k ≡ true → D.reply-start p k v ≡ reply-start (our-plan p) k v
   unfolding D.reply-start reply-start

@@ -11,7 +11,7 @@ use native.Mathlib.Omega.{arith}
 use borrow.Author.Tests.{eqb-true}
 use lib.Dec.{ltb, eqb}
 use lib.ListN.{length}
-use Rattle.scheme.specs.Lists.{span, keep, members}
+use Rattle.scheme.specs.Lists.{span, keep, members, all-of}
 use Rattle.scheme.specs.Scheme.{q, sixteen, elements, plan-good, in-set, usable, users-in, list-length, key, first-message, reply}
 use Rattle.scheme.specs.Promise.{Table, admissible, list-good, Shown, shown, Alike, Matching, Nothing-told, Demand-3}
 use Rattle.scheme.specs.Good.{Good}
@@ -27,7 +27,7 @@ use Rattle.document03.proofs.Shares.{total-at-same}
 use Rattle.document03.proofs.Keys.{key-same, places-in-key, first-message-same, reply-same}
 
 pub elements-same : (xs : List ℕ) → elements-good xs ≡ elements sixteen xs
-unfolding elements-good elements
+unfolding elements-good elements all-of
 elements-same [] = refl
 elements-same (x ∷ xs) = ap (λ (b : Bool). ltb x q && b) (elements-same xs)
 

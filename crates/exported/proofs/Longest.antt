@@ -4,16 +4,17 @@
 --   longest    the statement of specs/Longest.antt
 -- Assumes nothing.
 use mathlib.Core.Path.{_≡_, refl, sym, ap, ap₂, _∙_, subst}
-use mathlib.Core.Bool.{Bool, true, false, _&&_, cond}
-use Prim.Native.Nat.{ℕ, suc, _+_, _*_, _-_, _/_, _≤_}
+use mathlib.Core.Bool.{Bool, true, _&&_}
+use Prim.Native.Nat.{ℕ, suc, _+_, _*_, _-_, _/_, _≤_, zero}
 use native.Mathlib.Nat.{mul-comm, mul-assoc, add-mul, mul-le-mul}
 use native.Mathlib.Omega.{arith}
 use lib.Dec.{leb}
 use lib.ListN.{length}
 use borrow.Author.Tests.{leb-true}
+use Rattle.scheme.proofs.Refusals.{unless-zero, start-taken}
 use Rattle.scheme.specs.Limits.{most-users, most-blocks, most-places}
 use Rattle.scheme.specs.Lists.{span, all-of}
-use Rattle.scheme.specs.Scheme.{Plan, plan-good, items, places, is-user, in-set, ones, usable, usable-with, usable-sets, sets-with, list-length, key-length}
+use Rattle.scheme.specs.Scheme.{Plan, plan-good, items, places, is-user, in-set, ones, usable, usable-with, usable-sets, sets-with, list-length, key-length, after, unless, _then_, start-refusal}
 use Rattle.scheme.specs.Good.{Good}
 use Rattle.scheme.proofs.Tests.{and-both}
 use Rattle.scheme.proofs.Good.{good}
@@ -70,19 +71,24 @@ key-le p k g lo hi =
     rw (ap (λ (x : ℕ). x + length (sets-with p k) * p .blocks) (mul-comm (p .blocks) d) ∙ sym (add-mul d (length (sets-with p k)) (p .blocks)))
     (mul-le-mul h (g .blocks-high))
 
-when : (b : Bool) (n m : ℕ) → (b ≡ true → n ≤ m) → cond b n 0 ≤ m
-when true n m h = h refl
-when false n m h = omega arith
+when : (n x m : ℕ) → (n ≡ 0 → x ≤ m) → after n x 0 ≤ m
+unfolding after
+when zero x m h = h refl
+when (suc n) x m h = omega arith
+
+row-le : (p : Plan) → row-len p ≤ most-places
+unfolding row-len
+row-le p = when (unless (plan-good p) 1) _ _ (λ e. places-le p (good p (unless-zero _ 0 e)))
+
+any-list-le : (p : Plan) → list-len p ≤ longest-list
+unfolding list-len
+any-list-le p = when (unless (plan-good p) 1) _ _ (λ e. list-le p (good p (unless-zero _ 0 e)))
+
+any-key-le : (p : Plan) (k : ℕ) → key-len p k ≤ longest-key
+unfolding key-len
+any-key-le p k = when (start-refusal p k) _ _ (λ e. let s = start-taken p k e in key-le p k (s .0) (s .1) (s .2))
 
 pub longest : Longest
-unfolding row-len list-len key-len is-user plan-good places items list-length key-length sets-of usable-sets sets-with usable-with usable in-set ones
-longest =
-    record {
-      row = λ p. when _ _ most-places (λ e. places-le p (good p e));
-      list = λ p. when _ _ longest-list (λ e. list-le p (good p e));
-      key = λ p k. when _ _ longest-key (λ e. let s = and-both (plan-good p) (is-user p k) e in let u = and-both (leb 1 k) (leb k (p .users)) (s .1) in
-          key-le p k (good p (s .0)) (leb-true 1 k (u .0)) (leb-true k (p .users) (u .1)));
-      row-met = refl;
-      list-met = refl;
-      key-met = refl;
-    }
+unfolding row-len list-len key-len unless _then_ after start-refusal is-user plan-good places items list-length key-length
+    sets-of usable-sets sets-with usable-with usable in-set ones
+longest = record { row = row-le; list = any-list-le; key = any-key-le; row-met = refl; list-met = refl; key-met = refl }

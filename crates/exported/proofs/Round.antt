@@ -1,6 +1,5 @@
 -- Demand 2 from end to end on lent memory.
 --   Finishes, finishes   what holds where finish is not refused by 11, 12 or 15
---   totals-padded        the buffer behind a taken finish
 --   round-right          the statement of specs/Round.antt
 -- Assumes nothing.
 use mathlib.Core.Path.{_≡_, refl, sym, ap, _∙_, subst}
@@ -10,12 +9,11 @@ use mathlib.Core.List.{List, [], _∷_}
 use Prim.Native.Nat.{ℕ, zero, suc, _≤_}
 use native.Mathlib.Omega.{arith}
 use lib.Dec.{leb}
-use lib.ListN.{getD, take}
+use lib.ListN.{getD}
 use Rattle.scheme.specs.Limits.{most-places}
-use Rattle.scheme.specs.Lists.{padded}
+use Rattle.scheme.specs.Lists.{padded, filled}
 use Rattle.scheme.specs.Scheme.{sixteen, plan-good, places, in-set, ones, unless, _then_, after}
-use Rattle.scheme.specs.Totals.{total-of, totals}
-use Rattle.scheme.specs.Service.{has-plan, is-replying, plan-missing, not-replying, State, gathered, replied, values, totals-by, Record, open-record, finish-record, Answer, refusal, opened-state, next-state, Steps}
+use Rattle.scheme.specs.Service.{has-plan, is-replying, plan-missing, not-replying, State, gathered, replied, Record, open-record, finish-record, Answer, refusal, opened-state, next-state, Steps}
 use Rattle.scheme.proofs.Tests.{holds}
 use Rattle.scheme.proofs.Refusals.{then-assoc, after-taken}
 use Rattle.scheme.proofs.Pooling.Held.{complete-held}
@@ -27,7 +25,8 @@ use Rattle.service.specs.declared.Service.{Service}
 use Rattle.service.specs.View.{phase-of, view, Formed}
 use Rattle.service.specs.Calls.{opened, open-step}
 use Rattle.service.proofs.Same.{opened-view}
-use Rattle.finish.specs.Finish.{choice, finish-refusal, finish-answer, finish-step}
+use Rattle.finish.specs.Finish.{finish-refusal, finish-answer, finish-step}
+use Rattle.finish.proofs.Steps.{totals-padded}
 use Rattle.capi.specs.Lent.{Arrays, zeros, state, finish-totals}
 use Rattle.capi.proofs.Stands.{calls-stand}
 use Rattle.round.specs.Round as round
@@ -60,15 +59,6 @@ finishes s n11 n12 n15 =
     let enough = leb (s .head .plan .threshold) (ones (s .head .plan .users) (replied (view s))) in
     let d = passes enough 15 _ (omega arith) (λ z. n15 (e ∙ a .1 ∙ b .1 ∙ c .1 ∙ z)) in
     record { replying = b .0; untested = simp (a .0, b .0, d .0) }
-
--- the totals that a taken finish gives are its first L places, and 0 behind them
-totals-padded : (s : Service) (n : ℕ) → finish-answer sixteen laws16 n s .number ≡ 0 → let ts = finish-answer sixteen laws16 n s .totals in
-    ts ≡ padded most-places (take (places (plan-of (s .head .plan))) ts)
-unfolding finish-answer totals-by totals view after
-totals-padded s zero z =
-    let t = total-of sixteen (plan-of (s .head .plan)) (s .head .survivors) (values (view s .firsts)) (choice sixteen laws16 s) in
-    sym (ap (padded most-places) (round-proved.first-places most-places (places (plan-of (s .head .plan))) t))
-totals-padded s (suc n) z = absurd (omega arith)
 
 -- ---- the arrays behind an accepted open, and behind the calls of the round
 every : (cs : List Call) (a : Arrays) → Each-taken (λ r. Unit {0}) cs a
@@ -103,10 +93,10 @@ module _ (a : Arrays) (w : Formed sixteen (state a)) (r : ℕ) (e : number-of (o
   survived = keeps Survived (λ r. Unit {0}) (λ r s t b h u. steps-survived sixteen r s t b h) (every cs (leaves (open-call r) a)) (λ h. absurd (holds h))
 
 pub round-right : Round-right
-unfolding Round-right run number-of finish-step finish-totals Survived Same-given gathered replied view round.Round-right
+unfolding Round-right run number-of finish-step finish-answer finish-totals Survived Same-given gathered replied view filled round.Round-right
 round-right before cs r xs x lent o e n11 n12 n15 ok rows room sent =
-    let done = round-proved.round-right s xs x (λ k. lent k .key-buffer) (λ k. lent k .buffer) formed (f .untested) ok rows room held in
-    (done .0, after-taken (done .0) _ o ∙ totals-padded s _ (done .0) ∙ ap (padded most-places) (done .1))
+    let done = round-proved.round-right-sixteen s xs x (λ k. lent k .key-buffer) (λ k. lent k .buffer) formed (f .untested) ok rows room held in
+    (done .0, after-taken (done .0) _ o ∙ totals-padded sixteen laws16 s _ (done .0) ∙ ap (padded most-places) (done .1))
   where
     start : Arrays
     start = run before zeros
@@ -135,7 +125,7 @@ round-right before cs r xs x lent o e n11 n12 n15 ok rows room sent =
     survivor : (k : ℕ) → in-set v k ≡ true → in-set (gathered (view s)) k ≡ true
     survivor k m = ap (λ (u : ℕ). in-set u k) (sym (survived start begun r e cs (f .replying))) ∙ m
 
-    held : round.Sent-in s xs x (λ k. lent k .key-buffer) (λ k. lent k .buffer)
+    held : round.Sent-in sixteen s xs x (λ k. lent k .key-buffer) (λ k. lent k .buffer)
     held =
         record {
           first = λ k i lo hi m h.

@@ -64,14 +64,14 @@ run-steps (c ∷ cs) a w = let h = step-right a w c in more _ _ _ _ _ _ _ (h .st
 -- ---- from zeros
 pub zeros-formed : Formed sixteen (state zeros)
 unfolding New-formed New-stands
-zeros-formed = subst (Formed sixteen) (sym new-stands) (new-formed sixteen (lit< tt) .1)
+zeros-formed = subst (Formed sixteen) (sym (new-stands .1)) (new-formed sixteen (lit< tt) .1)
 
 pub runs-right : Runs-right
 unfolding Runs-right New-formed New-stands
 runs-right cs =
     record {
       runs = subst (λ (s : State). Runs sixteen (map record-of cs) s (answers cs zeros) (view (state (run cs zeros))))
-          (ap view new-stands ∙ new-formed sixteen (lit< tt) .0)
+          (ap view (new-stands .1) ∙ new-formed sixteen (lit< tt) .0)
           (run-steps cs zeros zeros-formed);
       formed = run-formed cs zeros zeros-formed;
     }
@@ -79,7 +79,7 @@ runs-right cs =
 -- zeros take every good plan
 plan-taken : (p : Plan) → plan-good (plan-of p) ≡ true → state (plan-left zeros p) ≡ planned p
 unfolding New-stands plan-step plan-refusal second-plan new-service phase-of has-plan after unless _then_
-plan-taken p g = calls-stand zeros .plan-stands p ∙ ap (λ (s : Service). plan-step s p .service) new-stands ∙ rw g
+plan-taken p g = calls-stand zeros .plan-stands p ∙ ap (λ (s : Service). plan-step s p .service) (new-stands .1) ∙ rw g
 
 pub opens-as-new : Opens-as-new
 unfolding Opens-as-new run leaves number-of open-left calls.Opens-as-new open-step open-refusal view phase-of

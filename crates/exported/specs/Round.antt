@@ -9,11 +9,11 @@
 use mathlib.Core.Path.{_≡_}
 use mathlib.Core.Logic.{_≢_}
 use mathlib.Core.Bool.{true}
-use mathlib.Core.List.{List, [], _∷_, map}
+use mathlib.Core.List.{List, [], _∷_}
 use Prim.Native.Nat.{ℕ, _≤_}
 use lib.ListN.{getD}
 use Rattle.scheme.specs.Limits.{most-places}
-use Rattle.scheme.specs.Lists.{span, padded}
+use Rattle.scheme.specs.Lists.{filled}
 use Rattle.scheme.specs.Scheme.{sixteen, places, in-set, total-at}
 use Rattle.scheme.specs.Promise.{Table, admissible, list-good}
 use Rattle.scheme.specs.Service.{Record, plan-record, open-record, first-record, close-record, reply-record, finish-record, replied}
@@ -64,4 +64,4 @@ Round-right =
     let n = number-of (finish-call o) a in
     n ≢ 11 → n ≢ 12 → n ≢ 15 → list-good sixteen (plan-of p) xs ≡ true → admissible sixteen (plan-of p) x →
     ((k : ℕ) → 1 ≤ k → k ≤ p .users → Room p k (lent k)) → Sent-in round opened (λ k. calls p xs (x k) v k (lent k)) →
-    (n ≡ 0) × (finish-totals a o ≡ padded most-places (map (total-at sixteen (plan-of p) x v) (span (places (plan-of p)) 0)))
+    (n ≡ 0) × (finish-totals a o ≡ filled most-places (places (plan-of p)) (total-at sixteen (plan-of p) x v))

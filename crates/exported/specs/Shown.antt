@@ -11,7 +11,7 @@ use mathlib.Core.List.{List, [], map}
 use Prim.Native.Nat.{ℕ, _≤_}
 use lib.ListN.{length, take, drop}
 use Rattle.scheme.specs.Lists.{span}
-use Rattle.scheme.specs.Scheme.{sixteen, plan-good, places, usable, users-in, key, key-length, key-refusal, after}
+use Rattle.scheme.specs.Scheme.{sixteen, plan-good, places, usable, users-in, key-length, after, key-left}
 use Rattle.scheme.specs.Promise.{Table, shown, admissible, list-good}
 use Rattle.plan.specs.declared.Plan.{Plan}
 use Rattle.plan.specs.Plan.{plan-of}
@@ -42,7 +42,7 @@ end-calls n e ks fs v o =
 unfoldable pub calls : Plan → (list : List ℕ) → (figures : List ℕ) → (set user : ℕ) → Lent → Handed
 calls p xs fs v k l =
     end-calls (begun p k .number) (start-left p k (l .end))
-    (after (key-refusal sixteen (plan-of p) k xs (length (l .key-buffer))) (key sixteen (plan-of p) xs k) (l .key-buffer)) fs v (l .buffer)
+    (key-left sixteen (plan-of p) k xs (l .key-buffer)) fs v (l .buffer)
 
 unfoldable pub Same-given : Type 0
 Same-given = (p : Plan) (xs fs : List ℕ) (v k : ℕ) (l : Lent) → calls p xs fs v k l ≡ client.calls sixteen p xs fs v k (l .key-buffer) (l .buffer)

@@ -1,4 +1,6 @@
 -- Finish is the step of document 01's service, and keeps states well-formed, over an arithmetic with its laws.
+--   totals-first      a taken finish's first L totals are those of the closed solution
+--   totals-padded     behind them its totals are 0
 --   finish-same       on a well-formed state the guard never acts
 --   choice-explains   where anything explains the replies, the closed solution does
 --   finish-steps, finish-right, refused-unchanged     the statements of specs/Promise.antt
@@ -10,15 +12,14 @@ use Prim.Native.Nat.{ℕ, zero, suc}
 use native.Mathlib.Omega.{arith}
 use lib.ListN.{length, take}
 use Rattle.scheme.specs.Limits.{most-users, most-threshold, most-blocks, most-places, firsts, cells}
-use Rattle.scheme.specs.Lists.{padded}
+use Rattle.scheme.specs.Lists.{padded, filled}
 use Rattle.scheme.specs.Scheme.{Arithmetic, Plan, places, users-in, _then_, unless, after}
 use Rattle.scheme.specs.Laws.{Laws}
 use Rattle.scheme.specs.Totals.{totals}
 use Rattle.scheme.specs.ServicePromise as promise
 use Rattle.scheme.specs.Service.{replied, values, explained-by, totals-by, finish-record, totalled, refusal, idle-state, next-state, totals-up, disagrees}
 use Rattle.scheme.proofs.Tests.{holds}
-use Rattle.scheme.proofs.Lists.{map-span-length}
-use Rattle.scheme.proofs.Padded.{padded-take}
+use Rattle.scheme.proofs.Padded.{filled-take}
 use Rattle.scheme.proofs.Good.{good}
 use Rattle.scheme.proofs.Refusals.{then-taken, then-zero, then-same, then-assoc, unless-held, after-taken}
 use Rattle.scheme.proofs.Laws.{laws-of}
@@ -49,24 +50,23 @@ told-totalled zero r l m e = (refl, cc)
 told-totalled (suc n) r l m e = let z : _≡_ {A = ℕ} 0 1 = cc in absurd (omega arith)
 
 module _ (A : Arithmetic) (L : Laws A most-users most-threshold) where
+  -- whatever the state holds
+  module _ (s : Service) (n : ℕ) (e : n ≡ 0) where
+    pub totals-first : take (places (plan-of (s .head .plan))) (finish-answer A L n s .totals) ≡ totals-by A (view s) (choice A L s)
+    unfolding finish-answer totals-by totals view filled
+    totals-first = ap (take (places (plan-of (s .head .plan)))) (after-taken e _ _) ∙ filled-take most-places _ (places (plan-of (s .head .plan)))
+
+    pub totals-padded : let ts = finish-answer A L n s .totals in ts ≡ padded most-places (take (places (plan-of (s .head .plan))) ts)
+    unfolding finish-answer
+    totals-padded = after-taken e _ _ ∙ ap (padded most-places) (sym totals-first)
+
   module _ (s : Service) (w : Formed A s) where
     abbrev p : Plan
     p = plan-of (s .head .plan)
 
-    abbrev sums : List ℕ
-    sums = totals-by A (view s) (choice A L s)
-
     finish-same : finish-refusal A L s ≡ (refusal A finish-record (view s) then unless (explained-by A (view s) (choice A L s)) 16)
     unfolding finish-refusal refusal view
     finish-same = then-same refl (λ g. then-taken (unless-held (w .well .good (replies _ g .0)) 15) _) ∙ sym (then-assoc _ _ _)
-
-    whole : take (places p) (padded most-places sums) ≡ sums
-    unfolding totals-by totals view
-    whole = subst (λ (n : ℕ). take n (padded most-places sums) ≡ sums) (map-span-length _ (places p) 0) (padded-take most-places sums)
-
-    whole-answer : (n : ℕ) → n ≡ 0 → finish-answer A L n s .totals ≡ padded most-places (take (places p) (finish-answer A L n s .totals))
-    unfolding finish-answer
-    whole-answer n e = let t = after-taken e (padded most-places sums) _ in t ∙ ap (padded most-places) (sym whole ∙ ap (take (places p)) (sym t))
 
     module _ (e : refusal A finish-record (view s) ≡ 0) where
       passed : Passed s
@@ -86,15 +86,15 @@ module _ (A : Arithmetic) (L : Laws A most-users most-threshold) where
           (settled A p laws r y (passed .many) b i (choice A L s b) first f h) (explained A p r y f h b i))
 
       taken : explained-by A (view s) (choice A L s) ≡ true
-          → Is-step A finish-record s (totalled (s .head .round) (take (places p) (padded most-places sums))) (finished (s .head))
+          → Is-step A finish-record s (totalled (s .head .round) (totals-by A (view s) (choice A L s))) (finished (s .head))
       unfolding finished view phase-of next-state nothing-first nothing-reply
       taken h =
-          rw whole (take-step A finish-record s w (finished (s .head)) _ (record {
+          take-step A finish-record s w (finished (s .head)) _ (record {
             next = finished-view s;
             ready = λ a. w .ready (replies _ (passed .replying) .0);
             first-length = first-long;
             reply-length = reply-long;
-          }) (totals-up (view s) (choice A L s) e h))
+          }) (totals-up (view s) (choice A L s) e h)
 
     -- the answer goes by the number
     abbrev Answers : (number : ℕ) → Type 0
@@ -104,7 +104,7 @@ module _ (A : Arithmetic) (L : Laws A most-users most-threshold) where
 
     answers : (n : ℕ) (b : Bool) → refusal A finish-record (view s) ≡ n → explained-by A (view s) (choice A L s) ≡ b → Answers (n then unless b 16)
     unfolding unless _then_ finish-answer after told
-    answers zero true e h = taken e h
+    answers zero true e h = rw (totals-first s 0 refl) (taken e h)
     answers zero false e h = record { step = disagrees (view s) e (λ f g. holds (sym h ∙ choice-explains e f g)); formed = w }
     answers (suc n) b e h = refuse A finish-record s w (λ z. omega arith) e
 
@@ -113,11 +113,11 @@ module _ (A : Arithmetic) (L : Laws A most-users most-threshold) where
   finish-steps s w = subst (Answers s w) (sym (finish-same s w)) (answers s w _ _ refl refl)
 
   pub finish-right : Finish-right A L
-  unfolding Finish-right Finish-steps finish-step finish-answer promise.Finish-right view
+  unfolding Finish-right Finish-steps finish-step finish-answer promise.Finish-right view filled
   finish-right s xs x w e ok ax rules =
       let h = finish-steps s w in
       let t = told-totalled _ _ _ _ (service.finish-right A (laws-of L) (view s) _ _ xs x (w .well) e ok ax rules (h .step)) in
-      (t .0, whole-answer s w (finish-refusal A L s) (t .0) ∙ ap (padded most-places) (t .1))
+      (t .0, totals-padded s _ (t .0) ∙ ap (padded most-places) (t .1))
 
   pub refused-unchanged : Refused-unchanged A L
   unfolding Refused-unchanged finish-step finish-answer

@@ -1,11 +1,9 @@
 -- All blocks, as the code solves them, over an arithmetic with its laws.
---   elements-every                                              a list whose numbers are all elements
---   same-test, all-swap                                         two tests of which each gives the other; a test of every pair
 --   reply-cell, grid-elements                                   the grid of the replies: one of them; where they are elements
 --   system-few, system-many, system-points, system-ready        the system of the complete replies
 --   unknowns-right, fits-right, nothing-fits                    its unknowns, and whether they explain the replies
 -- Assumes nothing.
-use mathlib.Core.Path.{_≡_, refl, sym, ap, ap₂, _∙_, subst}
+use mathlib.Core.Path.{_≡_, sym, ap, ap₂, _∙_, subst}
 use mathlib.Core.Bool.{Bool, true, false}
 use mathlib.Core.List.{List}
 use Prim.Native.Nat.{ℕ, _+_, _*_, _-_, _≤_, _<_}
@@ -19,16 +17,17 @@ use Rattle.scheme.specs.Limits.{most-users, most-threshold, most-blocks}
 use Rattle.scheme.specs.Lists.{span, all-of}
 use Rattle.scheme.specs.Scheme.{Arithmetic, elements, Plan, users-in}
 use Rattle.scheme.specs.Laws.{Laws}
-use Rattle.scheme.specs.Solve.{Points, Weighted, unknown-at, solution-of, dot-of, fits-of, cell, block, unknowns-of, row-fits}
+use Rattle.scheme.specs.Solve.{Points, Weighted, unknown-at, solution-of, value-of, fits-of, cell, block, unknowns-of, row-fits}
 use Rattle.scheme.specs.Totals.{explains-all}
 use Rattle.scheme.proofs.Lists.{map-span-at, span-in, in-span}
 use Rattle.scheme.proofs.Sums.{zero-small}
-use Rattle.scheme.proofs.Keys.{whole-list, elements-at, elements-map}
-use Rattle.scheme.proofs.Tests.{is-false, holds}
-use Rattle.scheme.proofs.Pooling.Totals.{all-of-in, at-all-of, all-of-same, in-at, explained, explained-back}
+use Rattle.scheme.proofs.Keys.{elements-at, elements-every}
+use Rattle.scheme.proofs.Tests.{is-false, holds, same-test}
+use Rattle.scheme.proofs.Pooling.Totals.{all-of-in, at-all-of, all-of-same, all-of-swap, in-at, explained, explained-back}
 use Rattle.scheme.proofs.Padded.{filled-at}
 use Rattle.scheme.proofs.Solving.Grids.{block-at, grid-at, grid-small}
-use Rattle.scheme.proofs.Solving.Closed.{dot-same, unknown-same, unknowns-at}
+use Rattle.scheme.proofs.Weighed.{weighed-same}
+use Rattle.scheme.proofs.Solving.Closed.{unknown-same, unknowns-at}
 use Rattle.plan.specs.declared.Plan as code
 use Rattle.plan.specs.Plan.{plan-of}
 use Rattle.service.specs.View.{held-in}
@@ -37,21 +36,6 @@ use Rattle.finish.specs.Parts.{row-reply, reply-grid, Prepared}
 use Rattle.finish.specs.declared.System.{System}
 use Rattle.finish.proofs.Turns.{row-reply-inside, row-reply-behind}
 use Rattle.finish.proofs.Blocks.{users-few, enough-rows, rows-square, listed-few, listed-points, listed-at, value-at, explains-further, fits-further, explained-small}
-
--- ---- tests of a list
-elements-every : (A : Arithmetic) (l : List ℕ) → ((k : ℕ) → getD l k 0 < A .size) → elements A l ≡ true
-elements-every A l h = ap (elements A) (sym (whole-list l)) ∙ elements-map A (λ k. getD l k 0) (span (length l) 0) (λ k m. h k)
-
-same-test : (a b : Bool) → (a ≡ true → b ≡ true) → (b ≡ true → a ≡ true) → a ≡ b
-same-test true b f g = sym (f refl)
-same-test false b f g = sym (is-false b (λ e. holds (g e)))
-
--- a test of every pair of two lists, by either first
-all-swap : (s : (a b : ℕ) → Bool) (ks bs : List ℕ) → all-of (λ a. all-of (s a) bs) ks ≡ all-of (λ b. all-of (λ a. s a b) ks) bs
-all-swap s ks bs = same-test _ _ (turn s ks bs) (turn (λ b a. s a b) bs ks)
-  where
-    turn : (s : (a b : ℕ) → Bool) (ks bs : List ℕ) → all-of (λ a. all-of (s a) bs) ks ≡ true → all-of (λ b. all-of (λ a. s a b) ks) bs ≡ true
-    turn s ks bs h = at-all-of _ bs (λ j l. at-all-of _ ks (λ i k. all-of-in (s (getD ks i 0)) bs (all-of-in _ ks h _ (in-at ks i k)) _ (in-at bs j l)))
 
 -- ---- the grid of the replies
 module _ (ys rs : List ℕ) (n m : ℕ) where
@@ -125,13 +109,13 @@ module _ (A : Arithmetic) (L : Laws A most-users most-threshold) (plan : code.Pl
 
     abbrev passes : (a b : ℕ) → Bool
     passes a b =
-        eqb (dot-of A (getD (rows-of p r) a 0) columns (solution-of A L (rows-of p r) columns (values-of p r y b) n) n) (getD (values-of p r y b) a 0)
+        eqb (value-of A (getD (rows-of p r) a 0) columns (solution-of A L (rows-of p r) columns (values-of p r y b) n) n) (getD (values-of p r y b) a 0)
 
-    tested : (a b : ℕ) → a < m → b < plan .blocks → eqb (dot-of A (getD (s .users .list) a 0) cs (block ws b) n) (cell g a b) ≡ passes a b
+    tested : (a b : ℕ) → a < m → b < plan .blocks → eqb (value-of A (getD (s .users .list) a 0) cs (block ws b) n) (cell g a b) ≡ passes a b
     unfolding solution-of
     tested a b l k =
-        ap₂ eqb (ap₂ (λ (rs cs : List ℕ). dot-of A (getD rs a 0) cs (block ws b) n) (h .listed .list-right) c
-        ∙ dot-same A (getD (rows-of p r) a 0) columns _ _ n (λ i few.
+        ap₂ eqb (ap₂ (λ (rs cs : List ℕ). value-of A (getD rs a 0) cs (block ws b) n) (h .listed .list-right) c
+        ∙ weighed-same A _ n (λ i few.
         block-at ws b i (omega (arith, rows-square p r (h .good) (h .enough) .few)) ∙ unknown-cell i b few k ∙ sym (filled-at most-users _ n i few)))
         (cell-at a b l k)
 
@@ -144,7 +128,7 @@ module _ (A : Arithmetic) (L : Laws A most-users most-threshold) (plan : code.Pl
         let bs : List ℕ = span (plan .blocks) 0 in
         ap (λ (k : ℕ). all-of (row-fits A (s .users .list) cs g ws n (plan .blocks)) (span (k - n) n)) (h .listed .count-right)
         ∙ all-of-same _ _ ks (λ a i. all-of-same _ _ bs (λ b j. tested a b (omega (arith, span-in (m - n) n a i)) (block-in b j)))
-        ∙ all-swap passes ks bs ∙ same-test _ _ (λ e. explained-back A p r y (choice-of A L p r y) (λ b k.
+        ∙ all-of-swap passes ks bs ∙ same-test _ _ (λ e. explained-back A p r y (choice-of A L p r y) (λ b k.
         explains-further A L p r (h .good) (h .enough) y b (small b k) (all-of-in _ bs e b (in-span (plan .blocks) 0 b (omega arith) (omega arith)))))
         (λ e. at-all-of _ bs (λ j l.
         let k = block-in (getD bs j 0) (in-at bs j l) in

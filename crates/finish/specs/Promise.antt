@@ -6,11 +6,11 @@
 use mathlib.Core.Path.{_≡_}
 use mathlib.Core.Logic.{_≢_}
 use mathlib.Core.Bool.{true}
-use mathlib.Core.List.{List, map}
+use mathlib.Core.List.{List}
 use Prim.Native.Nat.{ℕ}
 use lib.ListN.{take}
 use Rattle.scheme.specs.Limits.{most-users, most-threshold, most-places}
-use Rattle.scheme.specs.Lists.{span, padded}
+use Rattle.scheme.specs.Lists.{filled}
 use Rattle.scheme.specs.Scheme.{Arithmetic, places, total-at}
 use Rattle.scheme.specs.Laws.{Laws}
 use Rattle.scheme.specs.Promise.{Table, admissible, list-good}
@@ -37,7 +37,7 @@ module _ (A : Arithmetic) (L : Laws A most-users most-threshold) where
       let t = finish-step A L s in
       Formed A s → refusal A finish-record (view s) ≡ 0 → list-good A p xs ≡ true → admissible A p x →
       Follows A p xs x (s .head .survivors) (replied (view s)) (values (view s .firsts)) (values (view s .replies)) →
-      (t .number ≡ 0) × (t .totals ≡ padded most-places (map (total-at A p x (s .head .survivors)) (span (places p) 0)))
+      (t .number ≡ 0) × (t .totals ≡ filled most-places (places p) (total-at A p x (s .head .survivors)))
 
   unfoldable pub Refused-unchanged : Type 0
   Refused-unchanged = (s : Service) → finish-step A L s .number ≢ 0 → finish-step A L s ≡ finish-refused (finish-step A L s .number) s

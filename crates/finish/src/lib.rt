@@ -17,7 +17,7 @@ ghost use mathlib.Core.List.{map};
 ghost use Prim.Native.Nat.{ℕ, _+_, _*_, _-_, _≤_, _<_};
 ghost use lib.ListN.{length, getD, replicate};
 ghost use lib.Seq.{sets};
-ghost use Rattle.scheme.specs.Limits.{most-users, most-blocks, most-threshold, most-places, firsts, cells};
+ghost use Rattle.scheme.specs.Limits.{most-users, most-blocks, most-items, most-places, firsts, cells};
 ghost use Rattle.scheme.specs.Lists.{span, filled};
 ghost use Rattle.scheme.specs.Scheme.{q, sixteen, ones};
 ghost use Rattle.scheme.specs.Good.{Good};
@@ -209,7 +209,7 @@ fn put_block_totals(
     items: usize,
     out: &mut [u16; MOST_PLACES],
 )
-    requires { ⌜ (block < most-blocks) × (items ≤ most-threshold) × (at + items ≤ most-places) × At-most most-sum (at + items) (now sums) ⌝ }
+    requires { ⌜ (block < most-blocks) × (items ≤ most-items) × (at + items ≤ most-places) × At-most most-sum (at + items) (now sums) ⌝ }
     ensures { λ r. ⌜ now (out .exit)
         ≡ sets (now (out .entry)) at (map (block-total sixteen (now (sums .entry)) (now (unknowns .entry)) block at) (span items 0)) ⌝ }
 {
@@ -228,7 +228,7 @@ fn put_all_totals(
     blocks: usize,
     out: &mut [u16; MOST_PLACES],
 )
-    requires { ⌜ (items ≤ most-threshold) × (blocks ≤ most-blocks) × (blocks * items ≤ most-places) × At-most most-sum (blocks * items) (now sums) ⌝ }
+    requires { ⌜ (items ≤ most-items) × (blocks ≤ most-blocks) × (blocks * items ≤ most-places) × At-most most-sum (blocks * items) (now sums) ⌝ }
     requires { ⌜ now out ≡ replicate most-places 0 ⌝ }
     ensures { λ r. ⌜ now (out .exit)
         ≡ filled most-places (blocks * items) (place-total sixteen (now (sums .entry)) (now (unknowns .entry)) items) ⌝ }

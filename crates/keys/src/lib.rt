@@ -17,7 +17,7 @@ ghost use mathlib.Core.List.{map};
 ghost use Prim.Native.Nat.{ℕ, _+_, _*_, _≤_, _<_};
 ghost use lib.ListN.{length, getD, replicate};
 ghost use lib.Seq.{sets};
-ghost use Rattle.scheme.specs.Limits.{most-users, most-blocks, most-threshold, most-items, most-places, cells, points};
+ghost use Rattle.scheme.specs.Limits.{most-users, most-blocks, most-threshold, most-collusion, most-items, most-places, cells, points};
 ghost use Rattle.scheme.specs.Lists.{span, rows};
 ghost use Rattle.scheme.specs.Scheme.{q, sixteen, places, sets-with, mask, shares, key-length, key-refusal, key-left};
 ghost use Rattle.scheme.specs.Weighed.{Unreduced};
@@ -29,6 +29,7 @@ use element::all_elements;
 use element::coefficient;
 use plan::BLOCKS;
 use plan::CELLS;
+use plan::MOST_ITEMS;
 use plan::Plan;
 use plan::USERS;
 use plan::count_sets;
@@ -130,7 +131,7 @@ fn write_shares(
     out: &mut [u16],
     at: usize,
 )
-    requires { ⌜ (plan .users ≤ most-users) × (plan .collusion ≤ most-items) × (plan .blocks ≤ most-blocks) ⌝ }
+    requires { ⌜ (plan .users ≤ most-users) × (plan .collusion ≤ most-collusion) × (plan .blocks ≤ most-blocks) ⌝ }
     requires { ⌜ (noise + plan .blocks * plan .collusion ≤ length (now list)) × (at + plan .blocks ≤ length (now out)) ⌝ }
     ensures { λ r. ⌜ now (out .exit)
         ≡ sets (now (out .entry)) at (shares-from sixteen (plan-of plan) (now (products .entry)) (now (high .entry)) (now (list .entry)) set noise) ⌝ }
@@ -186,7 +187,7 @@ fn write_blocks(
         3 => write_blocks_of(sums, row, 3, list, start, out, at, blocks),
         4 => write_blocks_of(sums, row, 4, list, start, out, at, blocks),
         5 => write_blocks_of(sums, row, 5, list, start, out, at, blocks),
-        _ => write_blocks_of(sums, row, 6, list, start, out, at, blocks),
+        _ => write_blocks_of(sums, row, MOST_ITEMS, list, start, out, at, blocks),
     }
 }
 

@@ -1,4 +1,3 @@
--- Laws: the count of ones, and loops that count. Counts: how many sets are usable. Lengths: how long a key is.
+-- Laws: the count of ones, and loops that count. Counts: how many sets are usable.
 pub mod Laws
 pub mod Counts
-pub mod Lengths

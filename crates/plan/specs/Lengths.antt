@@ -3,15 +3,14 @@
 --   list-len   of the random list
 --   key-len    of a user's key
 -- Assumes nothing: these are definitions.
-use mathlib.Core.Bool.{_&&_, cond}
 use Prim.Native.Nat.{ℕ}
-use Rattle.scheme.specs.Scheme.{Plan, plan-good, is-user, places, list-length, key-length}
+use Rattle.scheme.specs.Scheme.{Plan, plan-good, places, list-length, key-length, unless, start-refusal, after}
 
 unfoldable pub row-len : Plan → ℕ
-row-len p = cond (plan-good p) (places p) 0
+row-len p = after (unless (plan-good p) 1) (places p) 0
 
 unfoldable pub list-len : Plan → ℕ
-list-len p = cond (plan-good p) (list-length p) 0
+list-len p = after (unless (plan-good p) 1) (list-length p) 0
 
 unfoldable pub key-len : Plan → (k : ℕ) → ℕ
-key-len p k = cond (plan-good p && is-user p k) (key-length p k) 0
+key-len p k = after (start-refusal p k) (key-length p k) 0

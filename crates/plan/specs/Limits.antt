@@ -14,7 +14,10 @@ document-limits =
       «most_blocks» = limits.most-blocks;
       users = limits.most-users;
       blocks = limits.most-blocks;
+      «most_threshold» = limits.most-threshold;
+      «most_items» = limits.most-items;
       «most_places» = limits.most-places;
+      «most_sets» = limits.most-sets;
       firsts = limits.firsts;
       cells = limits.cells;
     }

@@ -36,8 +36,15 @@ pub const USERS: usize = MOST_USERS as usize;
 
 pub const BLOCKS: usize = MOST_BLOCKS as usize;
 
-// "L is at most 96": U - T is at most K - 2.
-pub const MOST_PLACES: usize = BLOCKS * (USERS - 2);
+// "T < U ≤ K − 1": of U, and of U - T.
+pub const MOST_THRESHOLD: u32 = MOST_USERS - 1;
+
+pub const MOST_ITEMS: usize = MOST_THRESHOLD as usize - 1;
+
+// "L is at most 96".
+pub const MOST_PLACES: usize = BLOCKS * MOST_ITEMS;
+
+pub const MOST_SETS: usize = 1 << USERS;
 
 // "At most 768 first elements are held": a number for each user and place.
 pub const FIRSTS: usize = USERS * MOST_PLACES;
@@ -53,7 +60,10 @@ pub struct Limits {
     pub most_blocks: u32,
     pub users: usize,
     pub blocks: usize,
+    pub most_threshold: u32,
+    pub most_items: usize,
     pub most_places: usize,
+    pub most_sets: usize,
     pub firsts: usize,
     pub cells: usize,
 }
@@ -70,7 +80,10 @@ pub fn document_limits() -> Limits
         most_blocks: MOST_BLOCKS,
         users: USERS,
         blocks: BLOCKS,
+        most_threshold: MOST_THRESHOLD,
+        most_items: MOST_ITEMS,
         most_places: MOST_PLACES,
+        most_sets: MOST_SETS,
         firsts: FIRSTS,
         cells: CELLS,
     }

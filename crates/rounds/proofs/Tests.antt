@@ -1,14 +1,12 @@
 -- Tests of lists.
 --   agrees, differs   an answer and its claim
---   below-next        what holds of every number below i and of i holds below i + 1
 --   throughout        an entry of a list with one number throughout
 --   not-just, just    a list, and one number throughout behind it
 -- Assumes nothing.
 use mathlib.Core.Path.{_≡_, refl, sym, ap, _∙_}
 use mathlib.Core.Bool.{Bool, true, false}
 use mathlib.Core.List.{List, _++_}
-use Prim.Native.Nat.{ℕ, zero, suc, _+_, _-_, _<_}
-use native.Mathlib.Decide.{ℕ-discrete}
+use Prim.Native.Nat.{ℕ, zero, suc, _-_, _<_}
 use native.Mathlib.Omega.{arith}
 use lib.ListN.{length, getD, take, drop, replicate, length-drop, take-append-drop}
 use lib.Seq.{take-append-seam, drop-append-seam}
@@ -20,13 +18,6 @@ agrees p = record { sound = λ e. p; whole = λ q. refl }
 
 pub differs : {P : Type 0} → (P → ⊥) → Exactly false P
 differs h = record { sound = λ e. absurd (holds e); whole = λ p. absurd (h p) }
-
-pub below-next : (P : ℕ → Type 0) (i : ℕ) → ((j : ℕ) → j < i → P j) → P i → (j : ℕ) → j < i + 1 → P j
-below-next P i f p j h = pick (ℕ-discrete j i)
-  where
-    pick : Dec (j ≡ i) → P j
-    pick (yes e) = rw e p
-    pick (no e) = f j (omega (arith, e))
 
 pub throughout : (n x i : ℕ) → i < n → getD (replicate n x) i 0 ≡ x
 throughout zero x i h = absurd (omega arith)

@@ -1,5 +1,5 @@
 -- The lists that the program lends, and what its tests of lists answer.
---   lent-length, key-start, room, mark   the lent list, where the key starts in it; a buffer, and the number that it has throughout
+--   lent-length, key-start, key-room, mark   the lent list, where the key starts in it; a buffer, and the number that it has throughout
 --   Exactly   the answer is true exactly if the claim holds
 -- Assumes nothing: these are definitions.
 use mathlib.Core.Path.{_≡_}
@@ -12,11 +12,11 @@ abbrev pub key-start : ℕ
 key-start = most-list
 
 -- past every key
-abbrev pub room : ℕ
-room = most-key
+abbrev pub key-room : ℕ
+key-room = most-key
 
 abbrev pub lent-length : ℕ
-lent-length = key-start + room
+lent-length = key-start + key-room
 
 abbrev pub mark : ℕ
 mark = 7

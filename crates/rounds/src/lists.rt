@@ -13,18 +13,16 @@ ghost use Prim.Native.Nat.{_+_, _-_, _≤_};
 ghost use lib.Dec.{leb};
 ghost use lib.ListN.{length, getD, take, drop, replicate};
 ghost use lib.Seq.{sets};
-ghost use Rattle.rounds.specs.Lists.{lent-length, key-start, room, mark, Exactly};
+ghost use Rattle.rounds.specs.Lists.{lent-length, key-start, key-room, mark, Exactly};
 use plan::BLOCKS;
 use plan::FIRSTS;
 use plan::MOST_PLACES;
-use plan::USERS;
+use plan::MOST_SETS;
 
 // Room for what is lent: a random list, and behind it a key. No line has more numbers.
 pub const SPACE: usize = KEY_AT + ROOM;
 
-// No plan has more sets, a longer random list, or a longer key.
-const MOST_SETS: usize = 1 << USERS;
-
+// Past every random list.
 pub const KEY_AT: usize = FIRSTS + MOST_SETS * MOST_PLACES;
 
 pub fn space() -> [u16; SPACE]
@@ -39,7 +37,7 @@ pub const ROOM: usize = MOST_PLACES + MOST_SETS * BLOCKS;
 pub const MARK: u16 = 7;
 
 pub fn marked() -> [u16; ROOM]
-    ensures { λ r. ⌜ r ≡ replicate room mark ⌝ }
+    ensures { λ r. ⌜ r ≡ replicate key-room mark ⌝ }
 {
     [MARK; ROOM]
 }
@@ -144,7 +142,7 @@ pub fn holds_just(s: &[u16], wanted: &[u16], x: u16) -> bool
 
 // Whether a buffer is the wanted list, then the mark throughout.
 pub fn marked_behind(s: &[u16; ROOM], wanted: &[u16]) -> bool
-    ensures { λ r. ⌜ Exactly r (now (s .entry) ≡ now (wanted .entry) ++ replicate (room - length (now (wanted .entry))) mark) ⌝ }
+    ensures { λ r. ⌜ Exactly r (now (s .entry) ≡ now (wanted .entry) ++ replicate (key-room - length (now (wanted .entry))) mark) ⌝ }
 {
     holds_just(s, wanted, MARK)
 }

@@ -13,16 +13,17 @@ use lib.Dec.{ltb, eqb}
 use lib.ListN.{length, getD, drop, drop-of-length-le}
 use lib.Seq.{drop-cons}
 use borrow.Author.Tests.{ltb-true, ltb-false, ne-eqb}
+use Rattle.scheme.specs.Lists.{all-of}
 use Rattle.scheme.specs.Scheme.{Arithmetic, elements}
 use Rattle.scheme.proofs.Tests.{and-false}
 
 module _ (A : Arithmetic) (xs : List ℕ) (i : ℕ) where
   left : i < length xs → elements A (drop i xs) ≡ (ltb (getD xs i 0) (A .size) && elements A (drop (i + 1) xs))
-  unfolding elements
+  unfolding elements all-of
   left h = rw (add-one, drop-cons xs i 0 h)
 
   pub elements-end : length xs ≤ i → elements A (drop i xs) ≡ true
-  unfolding elements
+  unfolding elements all-of
   elements-end h = rw (drop-of-length-le xs h)
 
   module _ (some : 0 < A .size) (past : ℕ) (h : i < length xs) where

@@ -3,7 +3,7 @@
 --   whole-list                       a list by its places
 --   shares-length, key-is-long       lengths
 --   key-mask, key-reply              the masks and the shares in a key
---   elements-at, elements-map, elements-append, elements-rows       lists of elements
+--   elements-at, elements-map, elements-every, elements-append, elements-rows       lists of elements
 --   key-elements                     a key is made of elements
 --   list-long, list-elements         a good random list
 -- Assumes nothing.
@@ -19,7 +19,7 @@ use lib.ListN.{length, getD, take, drop, length-append, List·getD-append}
 use lib.Seq.{drop-append-add}
 use borrow.Author.Tests.{lt-ltb, ltb-true, eqb-true}
 use Rattle.algebra.specs.Sums.{In}
-use Rattle.scheme.specs.Lists.{span, rank, rows, each}
+use Rattle.scheme.specs.Lists.{span, rank, rows, each, all-of}
 use Rattle.scheme.specs.Scheme.{Arithmetic, elements, Plan, places, in-set, usable, usable-with, sets-with, list-length, mask, share, shares, key, key-length, reply-start, reply}
 use Rattle.scheme.specs.Promise.{list-good}
 use Rattle.scheme.specs.Laws.{Laws}
@@ -84,23 +84,26 @@ module _ (A : Arithmetic) (p : Plan) (xs : List ℕ) (k : ℕ) where
 -- ---- lists of elements
 module _ (A : Arithmetic) where
   pub elements-at : 0 < A .size → (xs : List ℕ) (i : ℕ) → elements A xs ≡ true → getD xs i 0 < A .size
-  unfolding elements
+  unfolding elements all-of
   elements-at z [] i h = z
   elements-at z (x ∷ xs) zero h = ltb-true x (A .size) (and-both (ltb x (A .size)) (elements A xs) h .0)
   elements-at z (x ∷ xs) (suc i) h = elements-at z xs i (and-both (ltb x (A .size)) (elements A xs) h .1)
 
   pub elements-map : (f : ℕ → ℕ) (l : List ℕ) → ((k : ℕ) → In k l → f k < A .size) → elements A (map f l) ≡ true
-  unfolding elements
+  unfolding elements all-of
   elements-map f [] h = refl
   elements-map f (k ∷ l) h = and-joined (lt-ltb (f k) (A .size) (h k (inl refl))) (elements-map f l (λ i m. h i (inr m)))
 
+  pub elements-every : (l : List ℕ) → ((k : ℕ) → getD l k 0 < A .size) → elements A l ≡ true
+  elements-every l h = ap (elements A) (sym (whole-list l)) ∙ elements-map (λ k. getD l k 0) (span (length l) 0) (λ k m. h k)
+
   pub elements-append : (xs ys : List ℕ) → elements A xs ≡ true → elements A ys ≡ true → elements A (xs ++ ys) ≡ true
-  unfolding elements
+  unfolding elements all-of
   elements-append [] ys h l = l
   elements-append (x ∷ xs) ys h l = let s = and-both (ltb x (A .size)) (elements A xs) h in and-joined (s .0) (elements-append xs ys (s .1) l)
 
   pub elements-rows : (f : ℕ → List ℕ) (l : List ℕ) → ((k : ℕ) → In k l → elements A (f k) ≡ true) → elements A (rows f l) ≡ true
-  unfolding elements
+  unfolding elements all-of
   elements-rows f [] h = refl
   elements-rows f (k ∷ l) h = elements-append (f k) (rows f l) (h k (inl refl)) (elements-rows f l (λ i m. h i (inr m)))
 

@@ -1,7 +1,7 @@
 -- A list in the first of `size` places and 0 behind it, and lists taken place by place.
 --   padded-at, padded-take, padded-length, padded-behind    an entry; the list again; the length; behind the list
 --   padded-more                                             one entry more
---   filled-at, filled-behind, filled-length                 n entries by a rule: one of them; behind them; all
+--   filled-at, filled-take, filled-behind, filled-length    n entries by a rule: one of them; all of them; behind them; the length
 --   filled-more, filled-sets, filled-zeros                  one more; several from another rule; several that are 0
 --   Filling, filling-start, filling-more, filling-end       a loop that writes n entries in order
 --   Setting, setting-start, setting-more, setting-end       a loop that writes n numbers into a list, from a place on
@@ -59,6 +59,10 @@ module _ (size : ℕ) (f : ℕ → ℕ) where
   pub filled-at : (n i : ℕ) → i < n → getD (filled size n f) i 0 ≡ f i
   unfolding filled
   filled-at n i h = padded-at size (map f (span n 0)) i (omega (arith, map-span-length f n 0)) ∙ map-below-at f n i h
+
+  pub filled-take : (n : ℕ) → take n (filled size n f) ≡ map f (span n 0)
+  unfolding filled
+  filled-take n = ap (λ (m : ℕ). take m (filled size n f)) (sym (map-span-length f n 0)) ∙ padded-take size (map f (span n 0))
 
   pub filled-behind : (n i : ℕ) → n ≤ i → getD (filled size n f) i 0 ≡ 0
   unfolding filled

@@ -9,7 +9,7 @@ use Prim.Native.Nat.{ℕ, _+_, _*_, _^_, _≤_}
 use native.Mathlib.Nat.{suc-mul, mul-le-mul, mul-le-mul-right}
 use native.Mathlib.Omega.{arith}
 use lib.Pow.{pow-mono}
-use Rattle.scheme.specs.Limits.{most-users, most-blocks, most-items, most-places, most-sets, firsts}
+use Rattle.scheme.specs.Limits.{most-users, most-blocks, most-collusion, most-items, most-places, most-sets, firsts}
 use Rattle.scheme.specs.Lists.{rank}
 use Rattle.scheme.specs.Scheme.{Plan, items, places, usable, usable-with, sets-with, key-length, reply-start}
 use Rattle.scheme.specs.Good.{Good}
@@ -31,8 +31,8 @@ module _ {p : Plan} (g : Good p) where
   pub shares-le : {n : ℕ} → n ≤ most-sets → n * p .blocks ≤ most-sets * most-blocks
   shares-le h = mul-le-mul {n₂ = most-sets} {m₂ = most-blocks} h (g .blocks-high)
 
-  pub noise-le : {n : ℕ} → n ≤ most-sets → n * p .blocks * p .collusion ≤ most-sets * most-blocks * most-items
-  noise-le {n} h = mul-le-mul {n₂ = most-sets * most-blocks} {m₂ = most-items} (shares-le h) (omega arith)
+  pub noise-le : {n : ℕ} → n ≤ most-sets → n * p .blocks * p .collusion ≤ most-sets * most-blocks * most-collusion
+  noise-le {n} h = mul-le-mul {n₂ = most-sets * most-blocks} {m₂ = most-collusion} (shares-le h) (omega arith)
 
 -- ---- usable sets
 pub usable-le : (p : Plan) (v : ℕ) → Good p → usable p v ≡ true → v ≤ most-sets

@@ -7,19 +7,20 @@
 --   unless-held, unless-failed       one test
 --   unless-zero                      the number is not 0, so the test held
 --   test-held                        the same of a test that others follow
+--   both-passed, test-passed, test-refused     what follows: of two that are 0, of a test that held, of one that failed
 --   after-taken, after-refused       what a call leaves
 --   after-in                         and what it leaves of a part leaves the whole
---   start-taken                      a call that start's tests let pass has a good plan and one of its users
+--   start-passes, start-taken        start's tests let a good plan with one of its users pass, and nothing else
 -- Assumes nothing.
 use mathlib.Core.Path.{_≡_, refl, sym, ap, ap₂, _∙_}
 use mathlib.Core.Bool.{Bool, true, false}
 use Prim.Native.Nat.{ℕ, zero, suc, _≤_}
 use native.Mathlib.Omega.{arith}
-use borrow.Author.Tests.{leb-true}
+use borrow.Author.Tests.{leb-true, le-leb}
 use Rattle.scheme.specs.Scheme.{Plan, is-user, _then_, unless, start-refusal, after}
 use Rattle.scheme.specs.Good.{Good}
 use Rattle.scheme.proofs.Tests.{and-both}
-use Rattle.scheme.proofs.Good.{good}
+use Rattle.scheme.proofs.Good.{good, good-back}
 
 pub then-taken : {a : ℕ} → a ≡ 0 → (b : ℕ) → (a then b) ≡ b
 unfolding _then_
@@ -64,6 +65,15 @@ unless-zero false n e = absurd (omega arith)
 pub test-held : (b : Bool) (n m : ℕ) → (unless b (suc n) then m) ≡ 0 → (b ≡ true) × (m ≡ 0)
 test-held b n m e = let s = then-zero (unless b (suc n)) m e in (unless-zero b n (s .0), s .1)
 
+pub both-passed : {a b : ℕ} → a ≡ 0 → b ≡ 0 → (c : ℕ) → c ≡ (a then b then c)
+both-passed e f c = sym (then-taken e _ ∙ then-taken f c)
+
+pub test-passed : {b : Bool} → b ≡ true → (n m : ℕ) → m ≡ (unless b n then m)
+test-passed e n m = sym (then-taken (unless-held e n) m)
+
+pub test-refused : {b : Bool} → b ≡ false → (n m : ℕ) → suc n ≡ (unless b (suc n) then m)
+test-refused e n m = then-stops (sym (unless-failed e (suc n))) (λ z. omega arith) m
+
 pub after-taken : {A : Type 0} {n : ℕ} → n ≡ 0 → (new old : A) → after n new old ≡ new
 unfolding after
 after-taken e new old = ap (λ (n : ℕ). after n new old) e
@@ -77,6 +87,10 @@ pub after-in : {A B : Type 0} (f : A → B) (n : ℕ) (new old : A) → f (after
 unfolding after
 after-in f zero new old = refl
 after-in f (suc n) new old = refl
+
+pub start-passes : (p : Plan) (k : ℕ) → Good p × (1 ≤ k) × (k ≤ p .users) → start-refusal p k ≡ 0
+unfolding start-refusal is-user unless _then_
+start-passes p k h = simp (good-back p (h .0), le-leb _ _ (h .1), le-leb _ _ (h .2))
 
 pub start-taken : (p : Plan) (k : ℕ) → start-refusal p k ≡ 0 → Good p × (1 ≤ k) × (k ≤ p .users)
 unfolding start-refusal is-user

@@ -1,6 +1,7 @@
 -- Tests and the facts that they stand for.
 --   holds                     a test that is true, as a fact
 --   is-false                  a test by what it would say
+--   same-test                 two tests of which each gives the other
 --   and-both, and-joined      the two halves of a true `&&`
 --   and-true, and-false       `&&` with a test that is settled
 --   not-not                   `not` twice
@@ -20,6 +21,10 @@ holds e = subst T (sym e) tt
 pub is-false : (b : Bool) → (b ≡ true → ⊥) → b ≡ false
 is-false true h = absurd (h refl)
 is-false false h = refl
+
+pub same-test : (a b : Bool) → (a ≡ true → b ≡ true) → (b ≡ true → a ≡ true) → a ≡ b
+same-test true b f g = sym (f refl)
+same-test false b f g = sym (is-false b (λ e. holds (g e)))
 
 pub and-both : (a b : Bool) → (a && b) ≡ true → (a ≡ true) × (b ≡ true)
 and-both true b e = (refl, e)

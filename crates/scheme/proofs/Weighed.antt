@@ -1,39 +1,32 @@
 -- Numbers times a list of factors, and sums that are reduced at their end.
---   sum-more                                    a sum over one index more
---   weighed-same, weighed-small                 the same values; it is an element
+--   weighed-as, weighed-same, weighed-small     the same factors and values; the same values; it is an element
 --   unreduced-start, unreduced-one, unreduced-both, unreduced-more    sums that are reduced at their end: of no number, of one, of more, of one more
 -- Assumes nothing.
-use mathlib.Core.Path.{_≡_, sym, ap, ap₂, _∙_}
-use mathlib.Core.List.{List, [], _∷_, _++_}
+use mathlib.Core.Path.{_≡_, refl, sym, ap, ap₂, _∙_}
+use mathlib.Core.List.{List}
 use Prim.Native.Nat.{ℕ, _+_, _%_, _≤_, _<_}
 use native.Mathlib.Nat.{zero-add, add-zero, one-mul, add-mul, add-mod, zero-mod}
 use native.Mathlib.Omega.{arith}
-use lib.ListN.{getD}
-use Rattle.algebra.specs.Field.{Field}
 use Rattle.algebra.proofs.Sums.{sum-append as field-sum-append}
 use Rattle.scheme.specs.Lists.{span}
 use Rattle.scheme.specs.Scheme.{Arithmetic, modular, sum}
 use Rattle.scheme.specs.Laws.{Laws}
-use Rattle.scheme.specs.Weighed.{weighed, Unreduced}
+use Rattle.scheme.specs.Weighed.{weighed-by, Unreduced}
 use Rattle.scheme.proofs.Lists.{span-append, span-in}
-use Rattle.scheme.proofs.Sums.{el-same, sum-el, sum-small, sum-same, sum-append}
+use Rattle.scheme.proofs.Sums.{sum-small, sum-same, sum-append}
 
-pub weighed-same : (A : Arithmetic) (cs : List ℕ) (n : ℕ) (f g : ℕ → ℕ) → ((i : ℕ) → i < n → f i ≡ g i) → weighed A cs n f ≡ weighed A cs n g
-unfolding weighed
-weighed-same A cs n f g h = sum-same A (span n 0) _ _ (λ i m. ap (A .multiply (getD cs i 0)) (h i (omega (arith, span-in n 0 i m .1))))
+pub weighed-as : (A : Arithmetic) (n : ℕ) {c d f g : ℕ → ℕ} → ((i : ℕ) → i < n → c i ≡ d i) → ((i : ℕ) → i < n → f i ≡ g i)
+    → weighed-by A c n f ≡ weighed-by A d n g
+unfolding weighed-by
+weighed-as A n e h = sum-same A (span n 0) _ _ (λ i m. let l : i < n = omega (arith, span-in n 0 i m .1) in ap₂ (A .multiply) (e i l) (h i l))
+
+pub weighed-same : (A : Arithmetic) (c : ℕ → ℕ) (n : ℕ) {f g : ℕ → ℕ} → ((i : ℕ) → i < n → f i ≡ g i) → weighed-by A c n f ≡ weighed-by A c n g
+weighed-same A c n h = weighed-as A n (λ i l. refl) h
 
 module _ {A : Arithmetic} {n m : ℕ} (L : Laws A n m) where
-  open Laws L using (K, el)
-  open Field K using (add as _⊕_)
-
-  pub sum-more : (l : List ℕ) (k : ℕ) (f : ℕ → ℕ) → sum A (l ++ (k ∷ [])) f ≡ A .add (sum A l f) (f k)
-  sum-more l k f = el-same A n m L (sum-small A n m L (l ++ (k ∷ [])) f) (L .add-small (sum A l f) (f k))
-      (sum-el A n m L (l ++ (k ∷ [])) f ∙ field-sum-append K l (k ∷ []) (λ i. el (f i))
-      ∙ ap₂ _⊕_ (sym (sum-el A n m L l f)) (K .add-zero (el (f k))) ∙ sym (L .el-add (sum A l f) (f k)))
-
-  pub weighed-small : (cs : List ℕ) (i : ℕ) (f : ℕ → ℕ) → weighed A cs i f < A .size
-  unfolding weighed
-  weighed-small cs i f = sum-small A n m L (span i 0) (λ j. A .multiply (getD cs j 0) (f j))
+  pub weighed-small : (c : ℕ → ℕ) (i : ℕ) (f : ℕ → ℕ) → weighed-by A c i f < A .size
+  unfolding weighed-by
+  weighed-small c i f = sum-small A n m L (span i 0) (λ j. A .multiply (c j) (f j))
 
 -- ---- sums that are reduced at their end
 pub unreduced-start : (q most : ℕ) (f : ℕ → ℕ) (k : ℕ) → Unreduced q most f k 0 0

@@ -16,7 +16,7 @@ use Rattle.scheme.specs.Limits.{most-blocks, cells}
 use Rattle.scheme.specs.Lists.{span, members}
 use Rattle.scheme.specs.Scheme.{Arithmetic, modular, sum, Plan, items, places, in-set, list-length}
 use Rattle.scheme.specs.Good.{Good}
-use Rattle.scheme.specs.Weighed.{weighed}
+use Rattle.scheme.specs.Weighed.{weighed-by, weighed}
 
 pub record Key-input (p : Plan) (k : ℕ) (xs : List ℕ) : Type 0 where
   pub good : Good p
@@ -25,8 +25,8 @@ pub record Key-input (p : Plan) (k : ℕ) (xs : List ℕ) : Type 0 where
   pub long : length xs ≡ list-length p
 
 -- n columns from `first` on, column first + i with value i, times the coefficients of user k
-unfoldable pub columns-value : Arithmetic → (k first n : ℕ) → (values : ℕ → ℕ) → ℕ
-columns-value A k s n f = sum A (span n 0) (λ i. A .multiply (A .coefficient k (s + i)) (f i))
+abbrev pub columns-value : Arithmetic → (k first n : ℕ) → (value : ℕ → ℕ) → ℕ
+columns-value A k s n f = weighed-by A (λ i. A .coefficient k (s + i)) n f
 
 pub record Coefficients (A : Arithmetic) (k first n : ℕ) (cs : List ℕ) : Type 0 where
   pub each : (i : ℕ) → i < n → getD cs i 0 ≡ A .coefficient k (first + i)

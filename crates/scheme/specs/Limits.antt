@@ -1,6 +1,6 @@
 -- The limits of document 01, each named once. A bound on a list, an array or a line follows from these.
 --   least-users, most-users, least-collusion, least-blocks, most-blocks     the ranges of K, T and M
---   most-threshold, most-items                   of U, which is below K; of U - T, and of T, which is below U
+--   most-threshold, most-collusion, most-items   of U, which is below K; of T, which is below U; of U - T
 --   most-places                                  of a row of figures: L
 --   most-sets                                    sets of users
 --   firsts, cells                                a number for each user and place; for each user and block
@@ -31,8 +31,11 @@ most-blocks = 16
 abbrev pub most-threshold : ℕ
 most-threshold = most-users - 1
 
+abbrev pub most-collusion : ℕ
+most-collusion = most-threshold - 1
+
 abbrev pub most-items : ℕ
-most-items = most-threshold - 1
+most-items = most-threshold - least-collusion
 
 -- "L is at most 96"
 abbrev pub most-places : ℕ
@@ -53,7 +56,7 @@ abbrev pub points : ℕ
 points = most-users + most-threshold + 1
 
 abbrev pub most-list : ℕ
-most-list = most-users * most-places + most-sets * most-blocks * most-items
+most-list = firsts + most-sets * most-blocks * most-collusion
 
 abbrev pub most-key : ℕ
 most-key = most-places + most-sets * most-blocks

@@ -14,7 +14,7 @@ use lib.Dec.{ltb, leb, eqb}
 use lib.ListN.{length, getD, take, drop}
 use Rattle.algebra.specs.Residue.{inverse}
 use Rattle.scheme.specs.Limits.{least-users, most-users, least-collusion, least-blocks, most-blocks}
-use Rattle.scheme.specs.Lists.{span, members, rank, rows, each}
+use Rattle.scheme.specs.Lists.{span, members, rank, rows, each, all-of}
 
 -- ---- ARITHMETIC
 -- elements are the numbers below size; sums and differences are elements, a product may be unreduced;
@@ -45,8 +45,7 @@ abbrev pub sixteen : Arithmetic
 sixteen = modular q
 
 unfoldable pub elements : Arithmetic → List ℕ → Bool
-elements A [] = true
-elements A (x ∷ xs) = ltb x (A .size) && elements A xs
+elements A xs = all-of (λ x. ltb x (A .size)) xs
 
 unfoldable pub sum : Arithmetic → (indices : List ℕ) → (ℕ → ℕ) → ℕ
 sum A [] f = 0

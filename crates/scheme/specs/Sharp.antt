@@ -1,10 +1,11 @@
 -- The premises of demands 2 and 3 are sharp.
 --   Totals-needed      tables with another total over the set have no matching, whoever colludes
 --   Own-needed         nor have tables that differ for a colluder
---   Collusion-needed   with one colluder more than T, some tables that are alike have no matching: at every good plan, modulo 65521
---   smallest           the plan with K, U, T and M 3, 2, 1 and 1
+--   Collusion-needed   with one colluder more than T, some tables that are alike have no matching
+--   smallest           the plan with the least K, U, T and M
 --   Threshold-needed   with one reply fewer than U, some replies are explained by unknowns with other sums
---   Sums-open          and all such replies, at every plan, by unknowns with every element as a sum
+--   Explanation        unknowns that explain replies, with a given sum of the block's first item
+--   Sums-open          all such replies have one for every element
 -- Assumes nothing: these are definitions.
 use mathlib.Core.Path.{_≡_}
 use mathlib.Core.Logic.{_≢_}
@@ -12,20 +13,20 @@ use mathlib.Core.Bool.{true}
 use mathlib.Core.List.{List}
 use Prim.Native.Nat.{ℕ, _+_, _^_, _≤_, _<_}
 use lib.ListN.{getD}
-use Rattle.scheme.specs.Scheme.{Arithmetic, sixteen, Plan, plan-good, places, in-set, ones, usable, total-at}
+use Rattle.scheme.specs.Limits.{least-users, least-collusion, least-blocks}
+use Rattle.scheme.specs.Scheme.{Arithmetic, Plan, places, in-set, ones, usable, total-at}
 use Rattle.scheme.specs.Promise.{Table, admissible, Alike, Matching}
 use Rattle.scheme.specs.Totals.{explains}
 
--- for every plan, modulo 65521
-unfoldable pub Totals-needed : Type 0
-Totals-needed =
-    (p : Plan) (v c : ℕ) (x y : Table) (i : ℕ) → plan-good p ≡ true → usable p v ≡ true → admissible sixteen p x → admissible sixteen p y →
-    i < places p → total-at sixteen p x v i ≢ total-at sixteen p y v i → Matching sixteen p v c x y → ⊥
+unfoldable pub Totals-needed : Arithmetic → Plan → Type 0
+Totals-needed A p =
+    (v c : ℕ) (x y : Table) (i : ℕ) → usable p v ≡ true → admissible A p x → admissible A p y →
+    i < places p → total-at A p x v i ≢ total-at A p y v i → Matching A p v c x y → ⊥
 
-unfoldable pub Own-needed : Type 0
-Own-needed =
-    (p : Plan) (v c k : ℕ) (x y : Table) → plan-good p ≡ true → admissible sixteen p x → admissible sixteen p y →
-    1 ≤ k → k ≤ p .users → in-set c k ≡ true → x k ≢ y k → Matching sixteen p v c x y → ⊥
+unfoldable pub Own-needed : Arithmetic → Plan → Type 0
+Own-needed A p =
+    (v c k : ℕ) (x y : Table) → admissible A p x → admissible A p y →
+    1 ≤ k → k ≤ p .users → in-set c k ≡ true → x k ≢ y k → Matching A p v c x y → ⊥
 
 -- a set, colluders and tables that meet every premise of demand 3 but the number of colluders
 pub record Collusion-needed (A : Arithmetic) (p : Plan) : Type 0 where
@@ -42,7 +43,7 @@ pub record Collusion-needed (A : Arithmetic) (p : Plan) : Type 0 where
   pub no-matching : Matching A p v c x y → ⊥
 
 abbrev pub smallest : Plan
-smallest = record { users = 3; threshold = 2; collusion = 1; blocks = 1 }
+smallest = record { users = least-users; threshold = least-collusion + 1; collusion = least-collusion; blocks = least-blocks }
 
 -- replies of a block by a set r, and two lists of unknowns that explain them and differ in the sum of the block's first item
 pub record Threshold-needed (A : Arithmetic) (p : Plan) : Type 0 where

@@ -1,7 +1,7 @@
 -- Square Cauchy systems on lists of numbers, over an arithmetic with its laws, everything by position: row a has the point of the
 -- number rows[a], column i that of columns[i], and the coefficient is 1 / (row + column).
 --   Points, Square             the first n numbers are in range and different; such rows and columns
---   dot-of, fits-of            the value of a row; the rows from n to m - 1 have the values that follow from the unknowns
+--   value-of, fits-of          the value of a row; the rows from n to m - 1 have the values that follow from the unknowns
 --   cell, grid, block          a grid: the number of a row and a block; n rows by a rule; the numbers of a block
 --   row-fits                   whether a row of several blocks has the values that follow
 --   row-points, column-points, right-side       the points of rows and columns, and values, as elements of the field
@@ -25,9 +25,10 @@ use lib.ListN.{getD}
 use Rattle.algebra.specs.Residue.{inverse}
 use Rattle.algebra.specs.Cauchy.{weight, solution}
 use Rattle.scheme.specs.Limits.{most-users, most-threshold, most-blocks, cells, points}
-use Rattle.scheme.specs.Lists.{span, all-of, padded, filled}
-use Rattle.scheme.specs.Scheme.{Arithmetic, modular, sum}
+use Rattle.scheme.specs.Lists.{span, all-of, filled}
+use Rattle.scheme.specs.Scheme.{Arithmetic, modular}
 use Rattle.scheme.specs.Laws.{Laws}
+use Rattle.scheme.specs.Weighed.{weighed-by}
 
 -- ---- WHAT IS ASKED OF THE POINTS
 pub record Points (most n : ℕ) (xs : List ℕ) : Type 0 where
@@ -40,11 +41,11 @@ pub record Square (rows columns : List ℕ) (n : ℕ) : Type 0 where
   pub columns-good : Points most-threshold n columns
 
 -- ---- THE VALUE OF A ROW
-unfoldable pub dot-of : Arithmetic → (x : ℕ) → (points values : List ℕ) → (n : ℕ) → ℕ
-dot-of A x ps vs n = sum A (span n 0) (λ i. A .multiply (A .coefficient x (getD ps i 0)) (getD vs i 0))
+abbrev pub value-of : Arithmetic → (x : ℕ) → (points values : List ℕ) → (n : ℕ) → ℕ
+value-of A x ps vs n = weighed-by A (λ i. A .coefficient x (getD ps i 0)) n (λ i. getD vs i 0)
 
 unfoldable pub fits-of : Arithmetic → (rows columns values unknowns : List ℕ) → (n m : ℕ) → Bool
-fits-of A rs cs vs ws n m = all-of (λ a. eqb (dot-of A (getD rs a 0) cs ws n) (getD vs a 0)) (span (m - n) n)
+fits-of A rs cs vs ws n m = all-of (λ a. eqb (value-of A (getD rs a 0) cs ws n) (getD vs a 0)) (span (m - n) n)
 
 -- ---- GRIDS: a row for each user, in it a number for each block
 abbrev pub cell : (grid : List ℕ) → (a b : ℕ) → ℕ
@@ -52,13 +53,13 @@ cell g a b = getD g (a * most-blocks + b) 0
 
 -- n rows by a rule, and 0 behind them
 unfoldable pub grid : (n : ℕ) → (rule : (a b : ℕ) → ℕ) → List ℕ
-grid n f = padded cells (map (λ k. f (k / most-blocks) (k % most-blocks)) (span (n * most-blocks) 0))
+grid n f = filled cells (n * most-blocks) (λ k. f (k / most-blocks) (k % most-blocks))
 
 unfoldable pub block : (grid : List ℕ) → (b : ℕ) → List ℕ
 block g b = map (λ a. cell g a b) (span most-users 0)
 
 unfoldable pub row-fits : Arithmetic → (rows columns values unknowns : List ℕ) → (n blocks a : ℕ) → Bool
-row-fits A rs cs vs ws n m a = all-of (λ b. eqb (dot-of A (getD rs a 0) cs (block ws b) n) (cell vs a b)) (span m 0)
+row-fits A rs cs vs ws n m a = all-of (λ b. eqb (value-of A (getD rs a 0) cs (block ws b) n) (cell vs a b)) (span m 0)
 
 -- ---- THE CLOSED SOLUTION
 module _ (A : Arithmetic) (L : Laws A most-users most-threshold) where

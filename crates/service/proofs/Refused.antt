@@ -1,33 +1,23 @@
 -- What the calls hand back, refused and taken.
---   passed, test-passed, test-refused     refusals before others: two that are 0, a test that held, one that failed
 --   beyond, within, not-free, is-free     tests of a place in an array, where the code has found it
 --   array-refused, array-taken      the number and the array, of an element
 --   step-refused, step-taken        the number and the state, of a plan or an open
 --   close-refused, close-taken      what close hands back
 -- Assumes nothing.
 use mathlib.Core.Path.{_≡_, sym, ap, _∙_}
-use mathlib.Core.Bool.{Bool, true, false}
+use mathlib.Core.Bool.{true, false}
 use mathlib.Core.List.{List}
-use Prim.Native.Nat.{ℕ, suc, _≤_, _<_}
+use Prim.Native.Nat.{ℕ, _≤_, _<_}
 use native.Mathlib.Omega.{arith}
 use lib.Dec.{ltb, eqb}
 use lib.ListN.{getD}
 use borrow.Author.Tests.{lt-ltb, le-ltb, eq-eqb, ne-eqb}
-use Rattle.scheme.specs.Scheme.{_then_, unless, after}
+use Rattle.scheme.specs.Scheme.{_then_, after}
 use Rattle.scheme.specs.Service.{gathered}
-use Rattle.scheme.proofs.Refusals.{then-taken, then-stops, unless-held, unless-failed, after-taken, after-refused}
+use Rattle.scheme.proofs.Refusals.{after-taken, after-refused}
 use Rattle.service.specs.declared.Service.{Service}
 use Rattle.service.specs.View.{view}
 use Rattle.service.specs.Calls.{by-refusal, close-refusal, closed, close-step}
-
-pub passed : {a b : ℕ} → a ≡ 0 → b ≡ 0 → (c : ℕ) → c ≡ (a then b then c)
-passed e f c = sym (then-taken e _ ∙ then-taken f c)
-
-pub test-passed : {b : Bool} → b ≡ true → (n m : ℕ) → m ≡ (unless b n then m)
-test-passed e n m = sym (then-taken (unless-held e n) m)
-
-pub test-refused : {b : Bool} → b ≡ false → (n m : ℕ) → suc n ≡ (unless b (suc n) then m)
-test-refused e n m = then-stops (sym (unless-failed e (suc n))) (λ z. omega arith) m
 
 module _ {at place : ℕ} (e : at ≡ place) where
   pub beyond : {n : ℕ} → n ≤ at → ltb place n ≡ false

@@ -22,9 +22,8 @@ ghost use Rattle.element.specs.Fold.{most-folded};
 ghost use Rattle.solve.specs.Solve.{laws16};
 use plan::BLOCKS;
 use plan::CELLS;
+use plan::MOST_THRESHOLD;
 use plan::USERS;
-
-const MOST_THRESHOLD: u32 = plan::MOST_USERS - 1;
 
 fn gap_between(x: u32, y: u32) -> u16
     requires { ⌜ (1 ≤ x) × (x ≤ most-users) × (1 ≤ y) × (y ≤ most-users) ⌝ }

@@ -14,6 +14,7 @@ use Rattle.scheme.specs.Scheme.{sixteen}
 use Rattle.scheme.specs.Service.{plan-record, open-record, first-record, close-record, reply-record, finish-record, refused, done, more}
 use Rattle.scheme.proofs.Tests.{holds, is-false}
 use Rattle.solve.specs.Solve.{laws16}
+use Rattle.plan.specs.Plan.{plan-from}
 use Rattle.service.specs.declared.Service.{Service}
 use Rattle.service.specs.View.{view, Formed}
 use Rattle.service.specs.Promise.{Plan-steps, Open-steps, First-steps, Reply-steps, Close-steps}
@@ -26,7 +27,7 @@ use Rattle.lines.specs.Text.{line}
 use Rattle.lines.specs.Put.{room}
 use Rattle.stream.specs.declared.Stop.{Stop}
 use Rattle.stream.specs.declared.Stop.the-variants.{Far}
-use Rattle.stream.specs.Stream.{record-length, length-at, record-at, Item, taken, broken, items, plan-from, step, answers, text, lines, ready-at, stop-at, halt, fed-from, fed}
+use Rattle.stream.specs.Stream.{record-length, length-at, record-at, Item, taken, broken, items, step, answers, text, lines, ready-at, stop-at, halt, fed-from, fed}
 use Rattle.stream.specs.Promise.{Step-right, records-of, answers-of, all-taken, last-state, Answers-run, whole-of, ending, Lines-right, Cut-free, Stops, Fed-says, Fed-right, Opens-as-new, breaks-off, Seven-ends}
 use Rattle.stream.proofs.Records.{items-append, text-append, lines-broken}
 use Rattle.stream.proofs.Turns.{line-short}

@@ -6,7 +6,7 @@
 --   finish-good                               an accepted finish has a good plan
 --   line-short                                every line fits into the room for one
 -- Assumes nothing.
-use mathlib.Core.Path.{_≡_, refl, sym, ap, subst}
+use mathlib.Core.Path.{_≡_, refl, sym, ap}
 use mathlib.Core.Logic.{_≢_}
 use mathlib.Core.List.{List, [], _∷_, map}
 use Prim.Native.Nat.{ℕ, zero, suc, _+_, _*_, _^_, _≤_, _<_}
@@ -16,13 +16,13 @@ use lib.Dec.{lit<}
 use lib.ListN.{length, getD, take, length-append}
 use borrow.Author.Tests.{ne-eqb}
 use Rattle.scheme.specs.Limits.{most-places}
-use Rattle.scheme.specs.Lists.{span, padded}
-use Rattle.scheme.specs.Scheme.{sixteen, Plan, places, after}
+use Rattle.scheme.specs.Lists.{span}
+use Rattle.scheme.specs.Scheme.{sixteen, places, after}
 use Rattle.scheme.specs.Good.{Good}
 use Rattle.scheme.specs.Totals.{total-of, totals}
 use Rattle.scheme.specs.Service.{Record, plan-record, open-record, first-record, close-record, reply-record, finish-record, Answer, planned, opened, closed, totalled, refused, totals-by}
 use Rattle.scheme.proofs.Good.{good}
-use Rattle.scheme.proofs.Lists.{map-span-length, span-length}
+use Rattle.scheme.proofs.Lists.{span-length}
 use Rattle.scheme.proofs.Refusals.{then-zero, unless-zero, after-taken, after-refused}
 use Rattle.solve.specs.Solve.{laws16}
 use Rattle.plan.specs.Plan.{plan-of}
@@ -35,8 +35,8 @@ use Rattle.finish.specs.declared.Finished.{Finished}
 use Rattle.service.specs.Calls.{plan-step, open-step, close-step}
 use Rattle.service.specs.View.{view}
 use Rattle.service.specs.Promise.{told}
-use Rattle.finish.specs.Finish.{choice, finish-refusal, finish-answer, finish-step}
-use Rattle.scheme.proofs.Padded.{padded-take}
+use Rattle.finish.specs.Finish.{finish-refusal, finish-answer, finish-step}
+use Rattle.finish.proofs.Steps.{totals-first}
 use Rattle.lines.specs.Text.{decimal, numbers, line}
 use Rattle.lines.specs.Put.{number-room, room, Put}
 use Rattle.lines.proofs.Decimals.{decimal-twenty, decimal-most}
@@ -109,15 +109,6 @@ module _ (d : ℕ) (some : 1 ≤ d) (f : ℕ → ℕ) (small : (i : ℕ) → f i
   numbers-most (i ∷ l) =
       omega (arith, length-append (decimal (f i)) (numbers (map f l)), decimal-most d (f i) some (small i), numbers-most l, mul-suc (d + 1) (length l))
 
--- the totals of an accepted finish
-given : (s : Service) (n : ℕ) → finish-answer sixteen laws16 n s .number ≡ 0
-    → take (places (plan-of (s .head .plan))) (finish-answer sixteen laws16 n s .totals) ≡ totals-by sixteen (view s) (choice sixteen laws16 s)
-unfolding finish-answer totals-by totals view after
-given s zero e =
-    let ts = totals-by sixteen (view s) (choice sixteen laws16 s) in
-    subst (λ (n : ℕ). take n (padded most-places ts) ≡ ts) (map-span-length _ (places (plan-of (s .head .plan))) 0) (padded-take most-places ts)
-given s (suc n) e = absurd (omega arith)
-
 module _ (o : ℕ) where
   told-short : (n : ℕ) (a : Answer) → (n ≡ 0 → length (line o a) ≤ room) → length (line o (told n a)) ≤ room
   unfolding told after line
@@ -131,10 +122,10 @@ module _ (o : ℕ) where
 
   finish-short : (s : Service) → finish-step sixteen laws16 s .number ≡ 0
       → length (line o (totalled (s .head .round) (take (places (plan-of (s .head .plan))) (finish-step sixteen laws16 s .totals)))) ≤ room
-  unfolding finish-step totals-by totals total-of view
+  unfolding finish-step finish-answer totals-by totals total-of view
   finish-short s e =
       let p = plan-of (s .head .plan) in
-      rw (given s (finish-refusal sixteen laws16 s) e)
+      rw (totals-first sixteen laws16 s _ e)
       (total-short (s .head .round) _ (places p) (λ i. lt-trans (mod-lt _ (lit< tt)) (lit< tt)) (places-le p (finish-good s e)))
 
   pub line-short : (s : Service) (r : Record) → length (line o (step s r .answer)) ≤ room

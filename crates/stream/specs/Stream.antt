@@ -26,7 +26,7 @@ use Rattle.scheme.specs.Scheme.{sixteen, places}
 use Rattle.scheme.specs.Service.{second-plan, not-gathering, not-replying, Record, plan-record, open-record, first-record, close-record, reply-record, finish-record, Answer, silent, planned, opened, closed, totalled, refused}
 use Rattle.solve.specs.Solve.{laws16}
 use Rattle.plan.specs.declared.Plan.{Plan}
-use Rattle.plan.specs.Plan.{plan-of}
+use Rattle.plan.specs.Plan.{plan-of, plan-from}
 use Rattle.service.specs.declared.Head.{Head}
 use Rattle.service.specs.declared.Service.{Service}
 use Rattle.service.specs.View.{phase-of}
@@ -102,9 +102,6 @@ pub record Outcome : Type 0 where
 -- the answer where a call's number is 0, and the state that it leaves
 abbrev pub outcome : (number : ℕ) → Answer → Service → Outcome
 outcome n a s = record { answer = told n a; service = s }
-
-abbrev pub plan-from : scheme.Plan → Plan
-plan-from p = record { users = p .users; threshold = p .threshold; collusion = p .collusion; blocks = p .blocks }
 
 unfoldable pub step : Service → Record → Outcome
 step s (plan-record p) = outcome (plan-step s (plan-from p) .number) (planned p) (plan-step s (plan-from p) .service)

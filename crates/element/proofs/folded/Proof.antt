@@ -1,16 +1,15 @@
 -- `element::folded` meets its contract: a product of two 16-bit numbers fits 32 bits. Assumes nothing.
 use mathlib.Core.Path.{refl}
 use Prim.Native.Nat.{_*_, _≤_}
-use native.Mathlib.Nat.{mul-le-mul}
 use native.Mathlib.Omega.{arith}
 use Rattle.scheme.specs.Scheme.{q}
-use Rattle.element.specs.Fold.{word, most-word, most-product}
-use Rattle.element.proofs.Fold.{fold-same}
+use Rattle.element.specs.Fold.{word, most-product}
+use Rattle.element.proofs.Fold.{fold-same, product-low}
 use Rattle.element.proofs.folded.Statement.{statement}
 use Rattle.element.proofs.folded.Tie as tie
 
 small : (c : tie.Start) → c .args .a * c .args .b ≤ most-product
-small c = mul-le-mul {n₂ = most-word} {m₂ = most-word} (omega (arith, c .fits .a)) (omega (arith, c .fits .b))
+small c = product-low (omega (arith, c .fits .a)) (omega (arith, c .fits .b))
 
 mul-n : tie.Need-mul-n
 mul-n c = omega (arith, small c)

@@ -1,14 +1,13 @@
 -- `element::multiply` meets its contract: a product of two 16-bit numbers fits 32 bits.
 -- Assumes nothing.
-use native.Mathlib.Nat.{mul-le-mul}
 use native.Mathlib.Omega.{arith}
 use borrow.Author.Needs.{needs}
-use Rattle.element.specs.Fold.{most-word}
+use Rattle.element.proofs.Fold.{product-low}
 use Rattle.element.proofs.multiply.Statement.{statement}
 use Rattle.element.proofs.multiply.Tie as tie
 
 mul-result : tie.Need-mul-result
-mul-result c = omega (arith, mul-le-mul {n₁ = c .args .a} {m₁ = c .args .b} {n₂ = most-word} {m₂ = most-word} (omega arith) (omega arith))
+mul-result c = omega (arith, product-low {a = c .args .a} {b = c .args .b} (omega arith) (omega arith))
 
 cast-result : tie.Need-cast-result
 cast-result c = search needs

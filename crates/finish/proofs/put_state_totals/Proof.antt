@@ -13,14 +13,13 @@ use Rattle.scheme.specs.Scheme.{sixteen, plan-good, ones}
 use Rattle.scheme.specs.Service.{not-replying, replied}
 use Rattle.scheme.proofs.Good.{good}
 use Rattle.scheme.proofs.Pooling.Held.{complete-below}
-use Rattle.scheme.proofs.Refusals.{then-taken, then-stops, unless-held}
+use Rattle.scheme.proofs.Refusals.{then-taken, then-stops, unless-held, both-passed, test-refused}
 use Rattle.plan.specs.Plan.{plan-of}
 use Rattle.plan.proofs.Laws.{ones-same}
 use Rattle.solve.specs.Solve.{laws16}
 use Rattle.service.specs.declared.Service.{Service}
 use Rattle.service.specs.Calls.{lent}
 use Rattle.service.specs.View.{phase-of, view}
-use Rattle.service.proofs.Refused.{passed as two-passed, test-refused}
 use Rattle.finish.specs.Finish.{finish-refusal}
 use Rattle.finish.proofs.Answers.{refused-right, Passed, totalled-right}
 use Rattle.finish.proofs.put_state_totals.Statement.{statement}
@@ -93,7 +92,7 @@ returns-3 c =
     let d = c .before .before in let t = past-plan-test d in let e = past-phase-test t in
     let h : ones (state d .head .plan .users) (replied (view (state d))) < state d .head .plan .threshold = omega (arith, c .if3 .taken, counted d) in
     refused-right sixteen laws16 _ (λ z. omega arith)
-    (test-refused (lt-leb _ _ h) _ _ ∙ two-passed (phase-right e) (unless-held (a-plan t) 15) _) (start e .pre)
+    (test-refused (lt-leb _ _ h) _ _ ∙ both-passed (phase-right e) (unless-held (a-plan t) 15) _) (start e .pre)
 
 put-explained-totals-requires : tie.Need-put-explained-totals-requires
 put-explained-totals-requires c κs =

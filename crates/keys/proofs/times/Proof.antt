@@ -1,14 +1,14 @@
 -- `keys::times` meets its contract: the product fits.
 use mathlib.Core.Path.{refl}
 use Prim.Native.Nat.{_*_, _≤_}
-use native.Mathlib.Nat.{mul-le-mul}
 use native.Mathlib.Omega.{arith}
-use Rattle.element.specs.Fold.{most-word, most-product}
+use Rattle.element.specs.Fold.{most-product}
+use Rattle.element.proofs.Fold.{product-low}
 use Rattle.keys.proofs.times.Statement.{statement}
 use Rattle.keys.proofs.times.Tie as tie
 
 small : (c : tie.Start) → c .args .a * c .args .b ≤ most-product
-small c = mul-le-mul {n₂ = most-word} {m₂ = most-word} (omega (arith, c .fits .a)) (omega (arith, c .fits .b))
+small c = product-low (omega (arith, c .fits .a)) (omega (arith, c .fits .b))
 
 mul-result : tie.Need-mul-result
 mul-result c = omega (arith, small c)

@@ -4,7 +4,7 @@ use mathlib.Core.Bool.{true}
 use native.Mathlib.Omega.{arith}
 use borrow.Author.Needs.{needs}
 use borrow.Author.Tests.{not-true, not-false}
-use Rattle.scheme.specs.Scheme.{plan-good}
+use Rattle.scheme.specs.Scheme.{plan-good, unless, after}
 use Rattle.scheme.proofs.Good.{good}
 use Rattle.plan.specs.Plan.{plan-of}
 use Rattle.plan.specs.Lengths.{list-len}
@@ -18,14 +18,14 @@ is-good-requires : tie.Need-is-good-requires
 is-good-requires c κs = search needs
 
 returns : tie.Need-returns
-unfolding list-len
+unfolding list-len unless after
 returns c = (rw (sym (c .before .is-good .ensures) ∙ not-true _ (c .if1 .taken)), omega arith)
 
 list-of-requires : tie.Need-list-of-requires
 list-of-requires c κs = good _ (passed c)
 
 returns-2 : tie.Need-returns-2
-unfolding list-len
+unfolding list-len unless after
 returns-2 c = (rw (passed (c .before)) (c .list-of .ensures .0), c .list-of .ensures .1)
 
 pub list-length-spec : {M : Type 1} → statement M

@@ -19,7 +19,7 @@ use Rattle.scheme.specs.Scheme.{Arithmetic, sum}
 use Rattle.scheme.specs.Laws.{Laws}
 use Rattle.scheme.proofs.Tests.{none-below}
 use Rattle.scheme.proofs.Lists.{map-span-length, map-below-at, members-append, rows-append, sets-more}
-use Rattle.scheme.proofs.Weighed.{sum-more}
+use Rattle.scheme.proofs.Sums.{sum-more}
 
 pub below-more : (P : ℕ → Type 0) {i : ℕ} → ((j : ℕ) → j < i → P j) → P i → (j : ℕ) → j < i + 1 → P j
 below-more P {i} h x j l = ⊎-elim (λ (d : j ≡ i). subst P (sym d) x) (λ (d : j < i). h j d) (eq-or-lt-of-le (omega arith))
@@ -44,7 +44,7 @@ module _ (t : ℕ → Bool) (f : ℕ → List ℕ) (v : ℕ) where
 
 module _ {A : Arithmetic} {n m : ℕ} (L : Laws A n m) (t : ℕ → Bool) (k : ℕ) (f : ℕ → ℕ) where
   pub sum-take : t (k + 1) ≡ true → sum A (members t (k + 1) 1) f ≡ A .add (sum A (members t k 1) f) (f (k + 1))
-  sum-take e = ap (λ (l : List ℕ). sum A l f) (members-take t k 1 (k + 1) (add-comm 1 k) e) ∙ sum-more L (members t k 1) (k + 1) f
+  sum-take e = ap (λ (l : List ℕ). sum A l f) (members-take t k 1 (k + 1) (add-comm 1 k) e) ∙ sum-more _ _ _ L (members t k 1) (k + 1) f
 
   pub sum-skip : t (k + 1) ≡ false → sum A (members t (k + 1) 1) f ≡ sum A (members t k 1) f
   sum-skip e = ap (λ (l : List ℕ). sum A l f) (members-skip t k 1 (k + 1) (add-comm 1 k) e)

@@ -1,5 +1,4 @@
 -- Shares from the sums of products and from the noise.
---   weighed-columns, columns-same    numbers times coefficients are columns; the same columns
 --   columns-sum, columns-join        columns whose numbers are sums; the first columns and the others
 --   shares-right                     what shares-from gives are the shares of the definition
 -- Assumes nothing.
@@ -17,20 +16,12 @@ use Rattle.scheme.specs.Limits.{most-blocks}
 use Rattle.scheme.specs.Lists.{span, members}
 use Rattle.scheme.specs.Scheme.{Arithmetic, sum, Plan, items, places, in-set, users-in, mask, noise, noise-start, column, row-value, share, shares}
 use Rattle.scheme.specs.Laws.{Laws}
-use Rattle.scheme.specs.Weighed.{weighed}
+use Rattle.scheme.specs.Weighed.{weighed-by, weighed}
 use Rattle.scheme.specs.KeyParts.{columns-value, Coefficients, block-item, Products, set-sum, share-from, shares-from}
-use Rattle.scheme.proofs.Lists.{span-in, span-append, map-below-same, members-in}
+use Rattle.scheme.proofs.Lists.{span-append, map-below-same, members-in}
 use Rattle.scheme.proofs.Sums.{el-same, sum-el, sum-small, sum-same, sum-append, sum-shift}
+use Rattle.scheme.proofs.Weighed.{weighed-as, weighed-same}
 use Rattle.scheme.proofs.Making.Places.{noise-block}
-
-pub weighed-columns : {A : Arithmetic} {k s n : ℕ} {cs : List ℕ} → Coefficients A k s n cs → (f : ℕ → ℕ) → weighed A cs n f ≡ columns-value A k s n f
-unfolding weighed columns-value
-weighed-columns {A} {k} {s} {n} {cs} c f =
-    sum-same A (span n 0) _ _ (λ i m. ap (λ (x : ℕ). A .multiply x (f i)) (c .each i (omega (arith, span-in n 0 i m .1))))
-
-pub columns-same : (A : Arithmetic) (k s n : ℕ) (f g : ℕ → ℕ) → ((i : ℕ) → i < n → f i ≡ g i) → columns-value A k s n f ≡ columns-value A k s n g
-unfolding columns-value
-columns-same A k s n f g h = sum-same A (span n 0) _ _ (λ i m. ap (A .multiply (A .coefficient k (s + i))) (h i (omega (arith, span-in n 0 i m .1))))
 
 module _ {A : Arithmetic} {n m : ℕ} (L : Laws A n m) where
   open Laws L using (K, el)
@@ -38,12 +29,12 @@ module _ {A : Arithmetic} {n m : ℕ} (L : Laws A n m) where
 
   infixl 70 _⊗_
   columns-el : (k s c : ℕ) (f : ℕ → ℕ) → el (columns-value A k s c f) ≡ field-sum K (span c 0) (λ i. el (A .coefficient k (s + i)) ⊗ el (f i))
-  unfolding columns-value
+  unfolding weighed-by
   columns-el k s c f = sum-el A n m L (span c 0) _ ∙ field-sum-same K (span c 0) _ _ (λ i h. L .el-multiply (A .coefficient k (s + i)) (f i))
 
   pub columns-sum : (k s c : ℕ) (l : List ℕ) (g : ℕ → ℕ → ℕ)
       → columns-value A k s c (λ i. sum A l (λ j. g j i)) ≡ sum A l (λ j. columns-value A k s c (g j))
-  unfolding columns-value
+  unfolding weighed-by
   columns-sum k s c l g = el-same A n m L (sum-small A n m L (span c 0) _) (sum-small A n m L l _)
       (columns-el k s c _ ∙ field-sum-same K (span c 0) _ _ (λ i h.
       ap (λ x. el (A .coefficient k (s + i)) ⊗ x) (sum-el A n m L l (λ j. g j i))
@@ -53,7 +44,7 @@ module _ {A : Arithmetic} {n m : ℕ} (L : Laws A n m) where
 
   pub columns-join : (k c d : ℕ) (f : ℕ → ℕ)
       → row-value A (c + d) k f ≡ A .add (columns-value A k 1 c (λ i. f (1 + i))) (columns-value A k (1 + c) d (λ i. f (1 + c + i)))
-  unfolding columns-value row-value
+  unfolding weighed-by row-value
   columns-join k c d f =
       let g : ℕ → ℕ = λ j. A .multiply (A .coefficient k j) (f j) in
       ap (λ (l : List ℕ). sum A l g) (span-append c d 1) ∙ sum-append A n m L (span c 1) (span d (1 + c)) g
@@ -76,8 +67,7 @@ module _ (A : Arithmetic) (p : Plan) (xs : List ℕ) (v b : ℕ) where
   unfolding noise
   last-columns k cs c =
       let t : ℕ = p .collusion in
-      weighed-columns c (block-item xs (noise-start p v 0) t b)
-      ∙ columns-same A k (1 + items p) t (block-item xs (noise-start p v 0) t b) (λ i. column A p xs v b (1 + items p + i)) (λ i l.
+      weighed-as A t (c .each) (λ i l.
       let e : noise-start p v 0 + (b * t + i) ≡ noise-start p v b + i = omega (arith, noise-block p v b) in
       ap (λ (n : ℕ). getD xs n 0) e ∙ sym (column-noise i))
 
@@ -91,7 +81,7 @@ module _ {A : Arithmetic} {n m : ℕ} (L : Laws A n m) (p : Plan) (xs : List ℕ
       let l : List ℕ = members (in-set v) (p .users) 1 in
       sum-same A l (λ j. getD zs ((j - 1) * most-blocks + b) 0) (λ j. columns-value A k 1 w (f j)) (λ j i.
       let s = members-in (in-set v) (p .users) 1 j i in z .each (j - 1) (omega arith) b h) ∙ sym (columns-sum L k 1 w l f)
-      ∙ columns-same A k 1 w (λ i. sum A l (λ j. f j i)) (λ i. column A p xs v b (1 + i)) (λ i s. sym (column-sum A p xs v b i s))
+      ∙ weighed-same A _ w (λ i s. sym (column-sum A p xs v b i s))
 
   module _ (more : p .collusion ≤ p .threshold) (c : Coefficients A k (1 + items p) (p .collusion) cs) where
     share-right : (v b : ℕ) → b < p .blocks → share-from A p zs cs xs v (noise-start p v 0) b ≡ share A p xs k v b

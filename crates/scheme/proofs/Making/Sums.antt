@@ -16,7 +16,7 @@ use lib.Seq.{length-sets}
 use Rattle.scheme.specs.Limits.{most-blocks}
 use Rattle.scheme.specs.Scheme.{modular, sum, Plan, in-set}
 use Rattle.scheme.specs.Laws.{Laws}
-use Rattle.scheme.specs.Weighed.{weighed, Unreduced}
+use Rattle.scheme.specs.Weighed.{weighed-by, weighed, Unreduced}
 use Rattle.scheme.specs.KeyParts.{block-item, block-value, block-values, set-sum, share-from, shares-from, Row-added, Unreduced-sums}
 use Rattle.scheme.proofs.Tests.{none-below}
 use Rattle.scheme.proofs.Lists.{map-below-same, zeros-at}
@@ -27,9 +27,9 @@ use Rattle.scheme.proofs.Making.Places.{row-next}
 -- ---- numbers times factors
 pub weight-end : {q most : ℕ} (sums cs : List ℕ) (n : ℕ) (xs : List ℕ) (start from b total : ℕ) → from ≡ start + b * n
     → Unreduced q most (λ i. getD cs i 0 * getD xs (from + i) 0) 0 n total → (getD sums b 0 + total) % q ≡ block-value (modular q) sums cs n xs start b
-unfolding block-value weighed
+unfolding block-value weighed-by
 weight-end {q} sums cs n xs start from b total e d = sym (add-mod-mod (getD sums b 0) total q)
-    ∙ ap (λ (x : ℕ). (getD sums b 0 + x) % q) (d .right ∙ weighed-same (modular q) cs n _ (block-item xs start n b) (λ i h.
+    ∙ ap (λ (x : ℕ). (getD sums b 0 + x) % q) (d .right ∙ weighed-same (modular q) _ n (λ i h.
     let same : from + i ≡ start + (b * n + i) = omega arith in ap (λ (j : ℕ). getD xs j 0) same))
 
 -- ---- a row added to sums

@@ -28,10 +28,9 @@ use Rattle.scheme.proofs.Lists.{map-span-length, rows-length, sets-appe
 use Rattle.scheme.proofs.Refusals.{then-zero, unless-zero, start-taken}
 use Rattle.scheme.proofs.Sums.{el-same}
 use Rattle.scheme.proofs.Keys.{shares-length, key-is-long}
-use Rattle.scheme.proofs.Weighed.{weighed-small}
+use Rattle.scheme.proofs.Weighed.{weighed-as, weighed-small}
 use Rattle.scheme.proofs.Making.Rows.{below-more, rows-take, rows-skip, row-other, row-at}
 use Rattle.scheme.proofs.Making.Places.{noise-next, reply-next}
-use Rattle.scheme.proofs.Making.Shares.{weighed-columns}
 
 pub key-accepted : (A : Arithmetic) (p : Plan) (k : ℕ) (xs : List ℕ) (out : ℕ) → key-refusal A p k xs out ≡ 0 → Key-input p k xs × (out ≡ key-length p k)
 unfolding key-refusal
@@ -59,7 +58,8 @@ module _ {A : Arithmetic} {n m : ℕ} (L : Laws A n m) where
   unfolding block-value
   alone {w = w} {cs} c xs from b =
       let f : ℕ → ℕ = block-item xs from w b in
-      ap (λ (x : ℕ). A .add x (weighed A cs w f)) (zeros-at most-blocks b) ∙ zero-more _ (weighed-small L cs w f) ∙ weighed-columns c f
+      ap (λ (x : ℕ). A .add x (weighed A cs w f)) (zeros-at most-blocks b) ∙ zero-more _ (weighed-small L _ w f)
+      ∙ weighed-as A w {f = f} {g = f} (c .each) (λ i l. refl)
 
   pub products-more : {p : Plan} {u : ℕ} {xs : List ℕ} {k : ℕ} {old cs : List ℕ} → Products A p u xs k old → Coefficients A u 1 (items p) cs →
       p .blocks ≤ most-blocks → k < most-users → (from at : ℕ) → from ≡ k * places p → at ≡ k * most-blocks →

@@ -1,7 +1,7 @@
 -- Demand 2 of one round: U replies settle the sums and the noise, and with them the total.
 --   all-of-in, at-all-of, all-of-same  a test of each number of a list
 --   all-of-more, all-of-stop, all-of-end     of the numbers from i on: i passes, i does not, none is left
---   in-at, at-apart                    the number at a place
+--   in-at, at-apart, all-of-swap       the number at a place; a test of every pair, by either first
 --   Enough, enough                     rows of at least U users
 --   Explained, explained, explained-back     what `explains` says, for the first rows of a list
 --   columns-known, one-explained       U rows settle U columns
@@ -31,7 +31,7 @@ use Rattle.scheme.specs.Scheme.{Arithmetic, elements, sum, Plan, items, 
 use Rattle.scheme.specs.Promise.{Table, list-good}
 use Rattle.scheme.specs.Totals.{explains, explains-all, total-of, totals, Follows, One-choice, Totals-right, Some-choice, Rules-explain}
 use Rattle.scheme.specs.Laws.{Laws}
-use Rattle.scheme.proofs.Tests.{and-both, and-joined}
+use Rattle.scheme.proofs.Tests.{and-both, and-joined, same-test}
 use Rattle.scheme.proofs.Lists.{span-in, in-span, span-once, span-length, span-more, span-end, map-below-same, map-span-length, map-span-at, map-below-at, members-once}
 use Rattle.scheme.proofs.Sums.{el-same, zero-small, sum-same, sum-el, sum-small, row-value-el, row-value-small}
 use Rattle.scheme.proofs.Sets.{users-in-in, user-in, users-in-size}
@@ -71,6 +71,13 @@ pub in-at : (l : List ℕ) (a : ℕ) → a < length l → In (getD l a 0) l
 in-at [] a i = absurd (omega arith)
 in-at (k ∷ l) zero i = inl refl
 in-at (k ∷ l) (suc a) i = inr (in-at l a (omega arith))
+
+-- a test of every pair of two lists, by either first
+pub all-of-swap : (s : (a b : ℕ) → Bool) (ks bs : List ℕ) → all-of (λ a. all-of (s a) bs) ks ≡ all-of (λ b. all-of (λ a. s a b) ks) bs
+all-of-swap s ks bs = same-test _ _ (turn s ks bs) (turn (λ b a. s a b) bs ks)
+  where
+    turn : (s : (a b : ℕ) → Bool) (ks bs : List ℕ) → all-of (λ a. all-of (s a) bs) ks ≡ true → all-of (λ b. all-of (λ a. s a b) ks) bs ≡ true
+    turn s ks bs h = at-all-of _ bs (λ j l. at-all-of _ ks (λ i k. all-of-in (s (getD ks i 0)) bs (all-of-in _ ks h _ (in-at ks i k)) _ (in-at bs j l)))
 
 pub at-apart : (l : List ℕ) → Distinct l → (a b : ℕ) → a < length l → b < length l → a ≢ b → getD l a 0 ≢ getD l b 0
 at-apart [] d a b i j ne = absurd (omega arith)

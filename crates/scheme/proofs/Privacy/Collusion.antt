@@ -1,13 +1,15 @@
--- The premises of demand 3 on the colluders are sharp at every good plan.
+-- The premises of demand 3 on the colluders are sharp at every good plan, in every arithmetic with the laws.
 --   own-needed          tables that differ for a colluder: no matching
 --   collusion-needed    T + 1 colluders: no matching. Users 1 to T + 1 collude, all users but the last one are the set, and the last one
 --                       has the figure 0 or 1 as the last item of block 0
+--   own-needed-sixteen, collusion-needed-sixteen   modulo 65521
 -- Assumes nothing.
 use mathlib.Core.Path.{_≡_, refl, sym, ap, _∙_}
 use mathlib.Core.Logic.{_≢_}
 use mathlib.Core.Bool.{Bool, true, false, cond}
 use mathlib.Core.List.{map}
 use Prim.Native.Nat.{ℕ, _+_, _*_, _-_, _<_}
+use native.Mathlib.Decide.{decLt}
 use native.Mathlib.Omega.{arith}
 use lib.Dec.{eqb}
 use lib.ListN.{getD}
@@ -15,7 +17,7 @@ use borrow.Author.Tests.{eq-eqb, ne-eqb}
 use Rattle.algebra.specs.Sums.{In}
 use Rattle.algebra.proofs.Sums.{sum-same as field-sum-same, sum-pick}
 use Rattle.scheme.specs.Lists.{span}
-use Rattle.scheme.specs.Scheme.{sixteen, Plan, plan-good, items, places, in-set, users-in, total-at}
+use Rattle.scheme.specs.Scheme.{Arithmetic, sixteen, Plan, plan-good, items, places, in-set, users-in, total-at}
 use Rattle.scheme.specs.Promise.{Table, admissible}
 use Rattle.scheme.specs.Good.{Good}
 use Rattle.scheme.specs.Laws.{Laws}
@@ -30,13 +32,25 @@ use Rattle.scheme.proofs.Privacy.Sharp.{in-users, zeros, zeros-good}
 use Rattle.scheme.proofs.Privacy.FirstUsers.{first, first-in, first-out, first-size, first-below, first-usable}
 use Rattle.scheme.proofs.Privacy.Settled.{own-same, last-total}
 
-pub own-needed : Own-needed
+pub own-needed : (A : Arithmetic) (p : Plan) → Laws A (p .users) (p .threshold) → Own-needed A p
 unfolding Own-needed
-own-needed p v c k x y ok ax ay lo hi e ne m =
-    let L = sixteen-laws p ok in
-    ne (own-same sixteen p L v c x y (zeros p) (m .partner (zeros p)) (m .same (zeros p) (zeros-good sixteen p L)) ax ay k (in-users p c k lo hi e))
+own-needed A p L v c k x y ax ay lo hi e ne m =
+    ne (own-same A p L v c x y (zeros p) (m .partner (zeros p)) (m .same (zeros p) (zeros-good A p L)) ax ay k (in-users p c k lo hi e))
 
-module _ (p : Plan) (L : Laws sixteen (p .users) (p .threshold)) (g : Good p) where
+pub own-needed-sixteen : (p : Plan) → plan-good p ≡ true → Own-needed sixteen p
+own-needed-sixteen p h = own-needed sixteen p (sixteen-laws p h)
+
+module _ (A : Arithmetic) (p : Plan) (L : Laws A (p .users) (p .threshold)) (g : Good p) where
+  -- users 1 and 2 have different rows, so 0 is not the only element
+  two : 1 < A .size
+  two = elim (decLt 1 (A .size)) [
+    | yes h ↦ h
+    | no h ↦
+        let e : L .val (L .row 1) ≡ L .val (L .row 2) = omega (arith, L .val-small (L .row 1), L .val-small (L .row 2)) in
+        absurd (L .rows-apart 1 2 (omega arith, omega arith) (omega arith, omega arith) (λ d. omega arith)
+        (sym (L .el-val (L .row 1)) ∙ ap (L .el) e ∙ L .el-val (L .row 2)))
+  ]
+
   -- the last item of block 0
   last : ℕ
   last = 0 * items p + (items p - 1)
@@ -55,16 +69,16 @@ module _ (p : Plan) (L : Laws sixteen (p .users) (p .threshold)) (g : Good p) wh
   unfolding table
   table-at n k i h = map-below-at (figure n k) (places p) i h
 
-  figure-small : (n k i : ℕ) → n < 65521 → figure n k i < 65521
+  figure-small : (n k i : ℕ) → n < A .size → figure n k i < A .size
   unfolding figure
-  figure-small n k i h = elim (eqb i last) as (λ s. cond s (cond (eqb k (p .users)) n 0) 0 < 65521) [
-    | true ↦ elim (eqb k (p .users)) as (λ t. cond t n 0 < 65521) [ true ↦ h | false ↦ omega arith ]
+  figure-small n k i h = elim (eqb i last) as (λ s. cond s (cond (eqb k (p .users)) n 0) 0 < A .size) [
+    | true ↦ elim (eqb k (p .users)) as (λ t. cond t n 0 < A .size) [ true ↦ h | false ↦ omega arith ]
     | false ↦ omega arith
   ]
 
-  table-good : (n : ℕ) → n < 65521 → admissible sixteen p (table n)
+  table-good : (n : ℕ) → n < A .size → admissible A p (table n)
   unfolding admissible table
-  table-good n h k lo hi = (map-span-length (figure n k) (places p) 0, elements-map sixteen (figure n k) (span (places p) 0) (λ i m. figure-small n k i h))
+  table-good n h k lo hi = (map-span-length (figure n k) (places p) 0, elements-map A (figure n k) (span (places p) 0) (λ i m. figure-small n k i h))
 
   -- only the last user has another figure, and only there
   user-same : (k i : ℕ) → k ≢ p .users → figure 0 k i ≡ figure 1 k i
@@ -76,15 +90,15 @@ module _ (p : Plan) (L : Laws sixteen (p .users) (p .threshold)) (g : Good p) wh
   place-same k i ne = rw (ne-eqb i last ne)
 
   totals-same : (w i : ℕ) → i < places p → ((k : ℕ) → In k (users-in p w) → figure 0 k i ≡ figure 1 k i) →
-      total-at sixteen p (table 0) w i ≡ total-at sixteen p (table 1) w i
+      total-at A p (table 0) w i ≡ total-at A p (table 1) w i
   unfolding total-at
-  totals-same w i h f = sum-same sixteen (users-in p w) _ _ (λ k m. table-at 0 k i h ∙ f k m ∙ sym (table-at 1 k i h))
+  totals-same w i h f = sum-same A (users-in p w) _ _ (λ k m. table-at 0 k i h ∙ f k m ∙ sym (table-at 1 k i h))
 
-  total-all : (n : ℕ) → L .el (total-at sixteen p (table n) (first (p .users)) last) ≡ L .el n
+  total-all : (n : ℕ) → L .el (total-at A p (table n) (first (p .users)) last) ≡ L .el n
   unfolding total-at figure users-in
   total-all n =
       let K = L .K in
-      sum-el sixteen _ _ L (users-in p (first (p .users))) (λ k. getD (table n k) last 0)
+      sum-el A _ _ L (users-in p (first (p .users))) (λ k. getD (table n k) last 0)
       ∙ field-sum-same K (users-in p (first (p .users))) _ (λ k. L .el (cond (eqb k (p .users)) n 0)) (λ k m.
       ap (L .el) (table-at n k last last-lt ∙ ap (λ (t : Bool). cond t (cond (eqb k (p .users)) n 0) 0) (eq-eqb last last refl)))
       ∙ sum-pick K (users-in p (first (p .users))) _ (p .users) (members-once (in-set (first (p .users))) (p .users) 1)
@@ -92,9 +106,9 @@ module _ (p : Plan) (L : Laws sixteen (p .users) (p .threshold)) (g : Good p) wh
       ap (λ (t : Bool). L .el (cond t n 0)) (ne-eqb k (p .users) ne) ∙ L .el-zero)
       ∙ ap (λ (t : Bool). L .el (cond t n 0)) (eq-eqb (p .users) (p .users) refl)
 
-  needed : Collusion-needed sixteen p
+  pub collusion-needed : Collusion-needed A p
   unfolding last items table
-  needed = record {
+  collusion-needed = record {
     v = first (p .users - 1);
     c = first (p .collusion + 1);
     x = table 0;
@@ -102,22 +116,23 @@ module _ (p : Plan) (L : Laws sixteen (p .users) (p .threshold)) (g : Good p) wh
     usable-set = first-usable p (p .users - 1) (omega arith) (omega arith);
     below = first-below (p .users) (p .collusion + 1) (omega arith);
     one-more = first-size (p .users) (p .collusion + 1) (omega arith);
-    x-admissible = table-good 0 (omega arith);
-    y-admissible = table-good 1 (omega arith);
+    x-admissible = table-good 0 (omega (arith, two));
+    y-admissible = table-good 1 two;
     alike = record {
-      own = λ k lo hi e. map-same (figure 0 k) (figure 1 k) (span (places p) 0) (λ i m. user-same k i (λ d. omega (arith, first-out (p .collusion + 1) k e)));
+      own = λ k lo hi e. map-same (figure 0 k) (figure 1 k) (span (places p) 0)
+          (λ i m. user-same k i (λ d. omega (arith, first-out (p .collusion + 1) k e)));
       totals = λ i h. totals-same (first (p .users - 1)) i h
           (λ k m. user-same k i (λ d. omega (arith, first-out (p .users - 1) k (users-in-in p (first (p .users - 1)) k m .2))));
     };
     no-matching = λ m.
-        let settled = last-total sixteen p L (first (p .users - 1)) (first (p .collusion + 1)) (table 0) (table 1) (zeros p) (m .partner (zeros p))
-        (m .same (zeros p) (zeros-good sixteen p L)) (first-size (p .users) (p .collusion + 1) (omega arith)) (g .collusion-high)
+        let settled = last-total A p L (first (p .users - 1)) (first (p .collusion + 1)) (table 0) (table 1) (zeros p) (m .partner (zeros p))
+        (m .same (zeros p) (zeros-good A p L)) (first-size (p .users) (p .collusion + 1) (omega arith)) (g .collusion-high)
         (first (p .users)) 0 (first-usable p (p .users) (omega arith) (omega arith))
         (λ k n. let s = users-in-in p (first (p .collusion + 1)) k n in first-in (p .users) k (s .0) (s .1)) (omega arith)
         (λ j lo hi. totals-same (first (p .users)) _ (place-lt p 0 j (omega arith) lo (omega arith)) (λ k n. place-same k _ (λ d. omega arith))) in
-        let e : _≡_ {A = ℕ} 0 1 = el-same sixteen _ _ L (omega arith) (omega arith) (sym (total-all 0) ∙ ap (L .el) settled ∙ total-all 1) in
+        let e : _≡_ {A = ℕ} 0 1 = el-same A _ _ L (omega (arith, two)) two (sym (total-all 0) ∙ ap (L .el) settled ∙ total-all 1) in
         omega arith;
   }
 
-pub collusion-needed : (p : Plan) → plan-good p ≡ true → Collusion-needed sixteen p
-collusion-needed p ok = needed p (sixteen-laws p ok) (good p ok)
+pub collusion-needed-sixteen : (p : Plan) → plan-good p ≡ true → Collusion-needed sixteen p
+collusion-needed-sixteen p h = collusion-needed sixteen p (sixteen-laws p h) (good p h)

@@ -1,9 +1,10 @@
 -- The premises of demand 3 are sharp: what is shown settles the survivors' total.
---   map-back              equal maps of a list are equal at each of its numbers
---   in-users              a user that a set holds is one of its users
---   zeros, zeros-good     the random list of zeros
---   totals-told           lists that show the same belong to tables with the same survivors' total
---   totals-needed         another total over the survivors: no matching
+--   map-back                equal maps of a list are equal at each of its numbers
+--   in-users                a user that a set holds is one of its users
+--   zeros, zeros-good       the random list of zeros
+--   totals-told             lists that show the same belong to tables with the same survivors' total
+--   totals-needed           another total over the survivors: no matching
+--   totals-needed-sixteen   modulo 65521, for every good plan
 -- Assumes nothing.
 use mathlib.Core.Path.{_≡_, refl, sym, ap, _∙_}
 use mathlib.Core.Logic.{inl, inr}
@@ -15,7 +16,7 @@ use lib.ListN.{getD}
 use borrow.Author.Tests.{eq-eqb}
 use Rattle.algebra.specs.Sums.{In}
 use Rattle.scheme.specs.Lists.{span}
-use Rattle.scheme.specs.Scheme.{Arithmetic, sixteen, Plan, places, in-set, usable, users-in, list-length, key, first-message, reply, total-at}
+use Rattle.scheme.specs.Scheme.{Arithmetic, sixteen, Plan, plan-good, places, in-set, usable, users-in, list-length, key, first-message, reply, total-at}
 use Rattle.scheme.specs.Promise.{Table, Shown, admissible, list-good, shown}
 use Rattle.scheme.specs.Totals.{Follows, Totals-right, Choice, Rules-explain}
 use Rattle.scheme.specs.Laws.{Laws}
@@ -82,9 +83,11 @@ module _ (A : Arithmetic) (p : Plan) (L : Laws A (p .users) (p .threshold)) (v c
       at : (z : Table) → getD (map (total-at A p z v) (span (places p) 0)) i 0 ≡ total-at A p z v i
       at z = map-below-at (total-at A p z v) (places p) i h
 
-pub totals-needed : Totals-needed
+pub totals-needed : (A : Arithmetic) (p : Plan) → Laws A (p .users) (p .threshold) → Totals-needed A p
 unfolding Totals-needed
-totals-needed p v c x y i ok u ax ay h ne m =
-    let L = sixteen-laws p ok in
-    let fine = zeros-good sixteen p L in
-    ne (totals-told sixteen p L v c x y ax ay u (zeros p) (m .partner (zeros p)) fine (m .stays (zeros p) fine .0) (m .same (zeros p) fine) i h)
+totals-needed A p L v c x y i u ax ay h ne m =
+    let fine = zeros-good A p L in
+    ne (totals-told A p L v c x y ax ay u (zeros p) (m .partner (zeros p)) fine (m .stays (zeros p) fine .0) (m .same (zeros p) fine) i h)
+
+pub totals-needed-sixteen : (p : Plan) → plan-good p ≡ true → Totals-needed sixteen p
+totals-needed-sixteen p h = totals-needed sixteen p (sixteen-laws p h)

@@ -1,7 +1,7 @@
 -- The closed solution on lists of numbers, over an arithmetic with its laws.
 --   below, points-some                  the positions of n entries; fewer points, in a wider range
 --   sums-low, filled-factors            points in range have small sums; n entries by a rule are n factors
---   dot-same, dot-row                   the value of a row goes by the first n values; in the words of the scheme, where the columns are 1 to n
+--   value-row                           the value of a row in the words of the scheme, where the columns are 1 to n
 --   row-same                            a row of the system times the unknowns, as code has it, is the value of the row
 --   sum-short                           summands that are 0 do not count
 --   α, β, row-weight-el, column-weight-el       weights in the field
@@ -27,10 +27,11 @@ use Rattle.scheme.specs.Limits.{most-users, most-threshold, most-blocks,
 use Rattle.scheme.specs.Lists.{span, all-of, filled}
 use Rattle.scheme.specs.Scheme.{Arithmetic, sum, row-value}
 use Rattle.scheme.specs.Laws.{Laws}
-use Rattle.scheme.specs.Weighed.{weighed}
-use Rattle.scheme.specs.Solve.{Points, Square, Sums-low, Factors, dot-of, cell, block, row-fits, row-points, column-points, right-side, row-weight, column-weight, row-weights, column-weights, unknown-at, solution-of, unknowns-of}
+use Rattle.scheme.specs.Weighed.{weighed-by, weighed}
+use Rattle.scheme.specs.Solve.{Points, Square, Sums-low, Factors, value-of, cell, block, row-fits, row-points, column-points, right-side, row-weight, column-weight, row-weights, column-weights, unknown-at, solution-of, unknowns-of}
 use Rattle.scheme.proofs.Lists.{span-in, in-span, span-once, span-start, span-more, span-end}
 use Rattle.scheme.proofs.Sums.{sum-same, sum-shift, el-same, zero-small, add-none, sum-el, sum-small, coefficient-el}
+use Rattle.scheme.proofs.Weighed.{weighed-as}
 use Rattle.scheme.proofs.Padded.{filled-at, filled-behind}
 use Rattle.scheme.proofs.Solving.Grids.{block-at, grid-at}
 
@@ -52,32 +53,26 @@ filled-factors f n cs h e = record { few = h; behind = λ i l. ap (λ (c : List 
 
 -- ---- THE VALUE OF A ROW
 module _ (A : Arithmetic) where
-  pub dot-same : (x : ℕ) (ps vs ws : List ℕ) (n : ℕ) → ((a : ℕ) → a < n → getD vs a 0 ≡ getD ws a 0) → dot-of A x ps vs n ≡ dot-of A x ps ws n
-  unfolding dot-of
-  dot-same x ps vs ws n e = sum-same A (span n 0) _ _ (λ i m. ap (λ (v : ℕ). A .multiply (A .coefficient x (getD ps i 0)) v) (e i (below n i m)))
-
-  pub dot-row : (x : ℕ) (cs vs : List ℕ) (n : ℕ) → ((i : ℕ) → i < n → getD cs i 0 ≡ i + 1)
-      → dot-of A x cs vs n ≡ row-value A n x (λ j. getD vs (j - 1) 0)
-  unfolding dot-of row-value
-  dot-row x cs vs n columns = sum-same A (span n 0) _ _ (λ i m.
+  pub value-row : (x : ℕ) (cs vs : List ℕ) (n : ℕ) → ((i : ℕ) → i < n → getD cs i 0 ≡ i + 1)
+      → value-of A x cs vs n ≡ row-value A n x (λ j. getD vs (j - 1) 0)
+  unfolding weighed-by row-value
+  value-row x cs vs n columns = sum-same A (span n 0) _ _ (λ i m.
       let e : getD cs i 0 ≡ 1 + i = omega (arith, columns i (below n i m)) in
       let f : i ≡ 1 + i - 1 = omega arith in
       ap₂ (λ (c k : ℕ). A .multiply (A .coefficient x c) (getD vs k 0)) e f)
       ∙ sym (sum-shift A n 1 0 (λ j. A .multiply (A .coefficient x j) (getD vs (j - 1) 0)))
 
-  weighed-dot : (x : ℕ) (ps cs g : List ℕ) (n b : ℕ) → n ≤ most-users → cs ≡ filled most-users n (λ i. A .coefficient x (getD ps i 0))
-      → weighed A cs n (λ i. cell g i b) ≡ dot-of A x ps (block g b) n
-  unfolding weighed dot-of
-  weighed-dot x ps cs g n b h e = sum-same A (span n 0) _ _ (λ i m.
-      let l = below n i m in
-      ap₂ (A .multiply) (ap (λ (c : List ℕ). getD c i 0) e ∙ filled-at most-users _ n i l) (sym (block-at g b i (omega arith))))
+  weighed-value : (x : ℕ) (ps cs g : List ℕ) (n b : ℕ) → n ≤ most-users → cs ≡ filled most-users n (λ i. A .coefficient x (getD ps i 0))
+      → weighed A cs n (λ i. cell g i b) ≡ value-of A x ps (block g b) n
+  weighed-value x ps cs g n b h e =
+      weighed-as A n (λ i l. ap (λ (c : List ℕ). getD c i 0) e ∙ filled-at most-users _ n i l) (λ i l. sym (block-at g b i (omega arith)))
 
   pub row-same : (rs cs vs ws list : List ℕ) (n m a at : ℕ) → n ≤ most-users
       → list ≡ filled most-users n (λ i. A .coefficient (getD rs a 0) (getD cs i 0)) → at ≡ a * most-blocks
       → all-of (λ b. eqb (weighed A list n (λ i. cell ws i b)) (getD vs (at + b) 0)) (span m 0) ≡ row-fits A rs cs vs ws n m a
   unfolding row-fits
   row-same rs cs vs ws list n m a at h e d = λ t.
-      all-of (λ b. eqb (weighed-dot (getD rs a 0) cs list ws n b h e t) (getD vs (d t + b) 0)) (span m 0)
+      all-of (λ b. eqb (weighed-value (getD rs a 0) cs list ws n b h e t) (getD vs (d t + b) 0)) (span m 0)
 
 -- ---- IN THE FIELD
 module _ (A : Arithmetic) (L : Laws A most-users most-threshold) where
@@ -102,10 +97,10 @@ module _ (A : Arithmetic) (L : Laws A most-users most-threshold) where
   sum-short zero (suc n) k f h z = absurd (omega arith)
   sum-short (suc m) (suc n) k f h z = ap (A .add (f k)) (sum-short m n (suc k) f (omega arith) (λ i l. z i (omega arith)))
 
-  dot-el : (x : ℕ) (ps vs : List ℕ) (n : ℕ) → (1 ≤ x) × (x ≤ most-users) → Points most-threshold n ps
-      → el (dot-of A x ps vs n) ≡ field-sum K (span n 0) (λ i. inv (row x ⊕ column-points A L ps i) ⊗ right-side A L vs i)
-  unfolding dot-of
-  dot-el x ps vs n h p = sum-el A _ _ L (span n 0) _ ∙ field-sum-same K (span n 0) _ _ (λ i m.
+  value-el : (x : ℕ) (ps vs : List ℕ) (n : ℕ) → (1 ≤ x) × (x ≤ most-users) → Points most-threshold n ps
+      → el (value-of A x ps vs n) ≡ field-sum K (span n 0) (λ i. inv (row x ⊕ column-points A L ps i) ⊗ right-side A L vs i)
+  unfolding weighed-by
+  value-el x ps vs n h p = sum-el A _ _ L (span n 0) _ ∙ field-sum-same K (span n 0) _ _ (λ i m.
       L .el-multiply _ _ ∙ ap (λ u. u ⊗ el (getD vs i 0)) (coefficient-el A _ _ L x (getD ps i 0) h (p .inside i (below n i m))))
 
   module _ (rs cs : List ℕ) (n : ℕ) where
@@ -148,10 +143,10 @@ module _ (A : Arithmetic) (L : Laws A most-users most-threshold) where
       solution-el i h = ap el (filled-at most-users (unknown-at A L rs cs vs n) n i h) ∙ L .el-val _
 
       pub solve-right : Square rs cs n → (a : ℕ) → a < n → getD vs a 0 < A .size
-          → dot-of A (getD rs a 0) cs (solution-of A L rs cs vs n) n ≡ getD vs a 0
-      unfolding dot-of
+          → value-of A (getD rs a 0) cs (solution-of A L rs cs vs n) n ≡ getD vs a 0
+      unfolding weighed-by
       solve-right square a h small = el-same A _ _ L (sum-small A _ _ L (span n 0) _) small
-          (dot-el (getD rs a 0) cs (solution-of A L rs cs vs n) n (square .rows-good .inside a h) (square .columns-good)
+          (value-el (getD rs a 0) cs (solution-of A L rs cs vs n) n (square .rows-good .inside a h) (square .columns-good)
           ∙ field-sum-same K (span n 0) _ _ (λ i m. ap (λ u. inv (row-points A L rs a ⊕ column-points A L cs i) ⊗ u) (solution-el i (below n i m)))
           ∙ solves (system square) (right-side A L vs) a (in-span n 0 a (omega arith) (omega arith)))
 
@@ -161,7 +156,7 @@ module _ (A : Arithmetic) (L : Laws A most-users most-threshold) where
       pub unknown-right : (list : List ℕ) (i b : ℕ) → n ≤ most-users
           → ((a : ℕ) → a < n → el (getD list a 0) ≡ β i ⊗ (α a ⊗ inv (row-points A L rs a ⊕ column-points A L cs i)))
           → weighed A list n (λ a. cell vs a b) ≡ unknown-at A L rs cs (block vs b) n i
-      unfolding weighed unknown-at
+      unfolding weighed-by unknown-at
       unknown-right list i b few e = val-of _ _ (sum-small A _ _ L (span n 0) _)
           (sum-el A _ _ L (span n 0) _ ∙ field-sum-same K (span n 0) _ _ (λ a m.
           let l = below n a m in

@@ -16,12 +16,12 @@ use Rattle.scheme.specs.Limits.{most-users, most-threshold}
 use Rattle.scheme.specs.Lists.{span, padded, filled}
 use Rattle.scheme.specs.Scheme.{Arithmetic, Plan, row-value}
 use Rattle.scheme.specs.Laws.{Laws}
-use Rattle.scheme.specs.Solve.{Square, unknown-at, solution-of, dot-of, fits-of}
+use Rattle.scheme.specs.Solve.{Square, unknown-at, solution-of, value-of, fits-of}
 use Rattle.scheme.proofs.Lists.{span-in, in-span, map-span-length}
 use Rattle.scheme.proofs.Sums.{sum-same}
 use Rattle.scheme.proofs.Keys.{elements-map}
 use Rattle.scheme.proofs.Pooling.Totals.{all-of-in, at-all-of, in-at, unknown, Explained}
-use Rattle.scheme.proofs.Solving.Closed.{dot-row, solve-right}
+use Rattle.scheme.proofs.Solving.Closed.{value-row, solve-right}
 
 -- the values of m users, in order; U of them are solved for
 pub record Block (A : Arithmetic) (p : Plan) (users : List ℕ) (m : ℕ) (y : (k : ℕ) → ℕ) (rs cs vs : List ℕ) : Type 0 where
@@ -43,14 +43,14 @@ module _ (A : Arithmetic) (L : Laws A most-users most-threshold) (p : Plan) (use
     unfolding solution-of filled padded
     first = take-at _ _ n (map-span-length _ n 0)
 
-    row-of : (a : ℕ) → a < m → row-value A n (getD users a 0) (unknown (take n W)) ≡ dot-of A (getD rs a 0) cs W n
+    row-of : (a : ℕ) → a < m → row-value A n (getD users a 0) (unknown (take n W)) ≡ value-of A (getD rs a 0) cs W n
     unfolding row-value
     row-of a h = sum-same A (span n 1) _ _ (λ j i.
         let s = span-in n 1 j i in
         ap₂ (λ (k x : ℕ). A .multiply (A .coefficient k j) x) (sym (block .rows a h)) (getD-take n W (j - 1) 0 (omega arith)))
-        ∙ sym (dot-row A (getD rs a 0) cs W n (block .columns))
+        ∙ sym (value-row A (getD rs a 0) cs W n (block .columns))
 
-    explained-by : (k : ℕ) → k ≤ m → ((a : ℕ) → a < k → dot-of A (getD rs a 0) cs W n ≡ getD vs a 0) → Explained A p users k y (take n W)
+    explained-by : (k : ℕ) → k ≤ m → ((a : ℕ) → a < k → value-of A (getD rs a 0) cs W n ≡ getD vs a 0) → Explained A p users k y (take n W)
     unfolding unknown-at
     explained-by k h f = record {
       long = ap length first ∙ map-span-length _ n 0;
@@ -58,7 +58,7 @@ module _ (A : Arithmetic) (L : Laws A most-users most-threshold) (p : Plan) (use
       fits = λ a l. row-of a (omega arith) ∙ f a l ∙ block .values a (omega arith);
     }
 
-    solved : (a : ℕ) → a < n → dot-of A (getD rs a 0) cs W n ≡ getD vs a 0
+    solved : (a : ℕ) → a < n → value-of A (getD rs a 0) cs W n ≡ getD vs a 0
     solved a h = solve-right A L rs cs n vs square a h (block .small a (omega arith))
 
     pub explains-first : Explained A p users (p .threshold) y (take (p .threshold) (solution-of A L rs cs vs (p .threshold)))

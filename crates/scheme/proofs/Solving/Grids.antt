@@ -30,7 +30,7 @@ module _ (f : (a b : ℕ) → ℕ) where
   entry-at a b h = ap₂ f (high a b most-blocks h) (low a b most-blocks h)
 
   is-filled : (n : ℕ) → grid n f ≡ filled cells (n * most-blocks) entry
-  unfolding grid filled
+  unfolding grid
   is-filled n = refl
 
   pub grid-at : (n a b : ℕ) → a < n → b < most-blocks → cell (grid n f) a b ≡ f a b

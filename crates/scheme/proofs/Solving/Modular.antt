@@ -24,7 +24,7 @@ use Rattle.scheme.specs.Lists.{filled}
 use Rattle.scheme.specs.Scheme.{Arithmetic, modular}
 use Rattle.scheme.specs.Laws.{Laws}
 use Rattle.scheme.specs.Modular.{modular-laws}
-use Rattle.scheme.specs.Weighed.{weighed, Unreduced}
+use Rattle.scheme.specs.Weighed.{weighed-by, weighed, Unreduced}
 use Rattle.scheme.specs.Solve.{Points, cell, block, row-points, column-points, row-weight, column-weight, row-weights, column-weights, Weighted, unknown-at, gap-between, gap-entry, inverse-at, Factors}
 use Rattle.scheme.proofs.Sums.{coefficient-el}
 use Rattle.scheme.proofs.Padded.{filled-at}
@@ -134,6 +134,6 @@ module _ {q : ℕ} (prime : Prime q) (large : most-users + most-threshold < q) w
   -- factors that are 0 do not count
   pub unreduced-weighed : (most : ℕ) (cs : List ℕ) (f : ℕ → ℕ) (n m r : ℕ) → Factors n cs → n ≤ m
       → Unreduced q most (λ i. getD cs i 0 * f i) 0 m r → r % q ≡ weighed (modular q) cs n f
-  unfolding weighed
+  unfolding weighed-by
   unreduced-weighed most cs f n m r factors h u =
       u .right ∙ sum-short A L m n 0 _ h (λ i l. ap (λ (c : ℕ). c * f i) (factors .behind i (omega arith)) ∙ zero-mul (f i))

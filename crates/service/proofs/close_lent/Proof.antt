@@ -12,14 +12,14 @@ use Rattle.scheme.specs.Limits.{firsts}
 use Rattle.scheme.specs.Scheme.{plan-good, ones}
 use Rattle.scheme.specs.Service.{not-gathering, complete-set, gathered}
 use Rattle.scheme.proofs.Good.{good}
-use Rattle.scheme.proofs.Refusals.{then-taken, then-stops, unless-held, unless-failed}
+use Rattle.scheme.proofs.Refusals.{then-taken, then-stops, unless-held, unless-failed, both-passed, test-refused}
 use Rattle.scheme.proofs.Pooling.Held.{complete-below}
 use Rattle.plan.specs.Plan.{plan-of}
 use Rattle.plan.proofs.Laws.{ones-same}
 use Rattle.service.specs.declared.Service.{Service}
 use Rattle.service.specs.View.{phase-of, view}
 use Rattle.service.specs.Calls.{lent, close-refusal, closed}
-use Rattle.service.proofs.Refused.{passed, test-refused, close-refused, close-taken}
+use Rattle.service.proofs.Refused.{close-refused, close-taken}
 use Rattle.service.proofs.close_lent.Statement.{statement}
 use Rattle.service.proofs.close_lent.Tie as tie
 
@@ -90,7 +90,7 @@ returns-3 c =
     let d = c .before .before .before in let e = d .before .before .before in let s = at-start e in
     let h : ones (s .head .plan .users) (gathered (view s)) < s .head .plan .threshold = omega (arith, counted d, c .before .if3 .taken) in
     rw (c .close-refused3 .ensures)
-    (close-refused s (λ z. omega arith) (sym (unless-failed (lt-leb _ _ h) 15) ∙ passed (phase-right (e .before)) (unless-held (a-plan e) 15) _))
+    (close-refused s (λ z. omega arith) (sym (unless-failed (lt-leb _ _ h) 15) ∙ both-passed (phase-right (e .before)) (unless-held (a-plan e) 15) _))
 
 nothing-reply-requires : tie.Need-nothing-reply-requires
 nothing-reply-requires c κs = search needs
@@ -101,7 +101,7 @@ returns-4 c =
     let f = c .before in let d = f .before .before in let e = d .before .before .before in let s = at-start e in
     let h : s .head .plan .threshold ≤ ones (s .head .plan .users) (gathered (view s)) = omega (arith, counted d, f .if3 .left) in
     rw (c .nothing-reply .ensures)
-    (close-taken s (sym (unless-held (le-leb _ _ h) 15) ∙ passed (phase-right (e .before)) (unless-held (a-plan e) 15) _) (whole d))
+    (close-taken s (sym (unless-held (le-leb _ _ h) 15) ∙ both-passed (phase-right (e .before)) (unless-held (a-plan e) 15) _) (whole d))
 
 pub close-lent-spec : {M : Type 1} → statement M
 close-lent-spec =

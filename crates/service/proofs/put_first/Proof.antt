@@ -9,11 +9,11 @@ use borrow.Author.Needs.{needs}
 use Rattle.scheme.specs.Limits.{most-places}
 use Rattle.scheme.specs.Scheme.{sixteen}
 use Rattle.scheme.specs.Service.{not-gathering, element-refusal}
-use Rattle.scheme.proofs.Refusals.{then-taken, then-stops, unless-held, unless-failed}
+use Rattle.scheme.proofs.Refusals.{then-taken, then-stops, unless-held, unless-failed, both-passed, test-passed, test-refused}
 use Rattle.scheme.proofs.Pooling.Well.{fits}
 use Rattle.service.specs.View.{phase-of, slot}
 use Rattle.service.specs.Calls.{first-refusal, first-left}
-use Rattle.service.proofs.Refused.{passed, test-passed, test-refused, beyond, within, not-free, is-free, array-refused, array-taken}
+use Rattle.service.proofs.Refused.{beyond, within, not-free, is-free, array-refused, array-taken}
 use Rattle.service.proofs.put_first.Statement.{statement}
 use Rattle.service.proofs.put_first.Tie as tie
 
@@ -60,7 +60,7 @@ unfolding first-refusal first-left
 returns-3 c =
     let d = c .before .before in
     array-refused (λ z. omega arith)
-    (test-refused (beyond (at-slot (c .before)) (c .if3 .taken)) _ _ ∙ passed (phase-right (d .before .before)) (element-right d) _) _ _
+    (test-refused (beyond (at-slot (c .before)) (c .if3 .taken)) _ _ ∙ both-passed (phase-right (d .before .before)) (element-right d) _) _ _
 
 mul-if4 : tie.Need-mul-if4
 mul-if4 c = search needs
@@ -73,7 +73,7 @@ unfolding first-refusal first-left
 returns-4 c =
     let e = c .before .before in let s = at-slot (e .before) in let d = e .before .before in
     array-refused (λ z. omega arith) (sym (unless-failed (not-free s (array d) (c .if4 .taken)) 13) ∙ test-passed (within s (e .if3 .left)) 8 _
-    ∙ passed (phase-right (d .before .before)) (element-right d) _) _ _
+    ∙ both-passed (phase-right (d .before .before)) (element-right d) _) _ _
 
 cast-held-as : tie.Need-cast-held-as
 cast-held-as c = omega (arith, fits sixteen _ _ _ _ _ (element-right (c .before .before .before .before)) .small)
@@ -92,7 +92,7 @@ unfolding first-refusal first-left
 returns-5 c =
     let f = c .before in let e = f .before .before in let s = at-slot (e .before) in let d = e .before .before in
     array-taken (sym (unless-held (is-free s (array d) (f .if4 .left)) 13) ∙ test-passed (within s (e .if3 .left)) 8 _
-    ∙ passed (phase-right (d .before .before)) (element-right d) _) (ap₂ (λ (n x : ℕ). set (array d) n x) s (c .held-as .ensures)) (array d)
+    ∙ both-passed (phase-right (d .before .before)) (element-right d) _) (ap₂ (λ (n x : ℕ). set (array d) n x) s (c .held-as .ensures)) (array d)
 
 pub put-first-spec : {M : Type 1} → statement M
 put-first-spec =

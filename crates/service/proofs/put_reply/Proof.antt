@@ -11,11 +11,11 @@ use borrow.Author.Tests.{not-true, not-false}
 use Rattle.scheme.specs.Limits.{most-blocks}
 use Rattle.scheme.specs.Scheme.{q, sixteen, in-set}
 use Rattle.scheme.specs.Service.{not-replying, element-refusal}
-use Rattle.scheme.proofs.Refusals.{then-taken, then-stops, unless-held, unless-failed}
+use Rattle.scheme.proofs.Refusals.{then-taken, then-stops, unless-held, unless-failed, both-passed, test-passed, test-refused}
 use Rattle.scheme.proofs.Pooling.Well.{fits}
 use Rattle.service.specs.View.{phase-of, slot}
 use Rattle.service.specs.Calls.{reply-refusal, reply-left}
-use Rattle.service.proofs.Refused.{passed, test-passed, test-refused, beyond, within, not-free, is-free, array-refused, array-taken}
+use Rattle.service.proofs.Refused.{beyond, within, not-free, is-free, array-refused, array-taken}
 use Rattle.service.proofs.put_reply.Statement.{statement}
 use Rattle.service.proofs.put_reply.Tie as tie
 
@@ -66,7 +66,7 @@ unfolding reply-refusal reply-left
 returns-3 c =
     let d = c .before .before in
     array-refused (λ z. omega arith)
-    (test-refused (beyond (at-slot (c .before)) (c .if3 .taken)) _ _ ∙ passed (phase-right (d .before .before)) (element-right d) _) _ _
+    (test-refused (beyond (at-slot (c .before)) (c .if3 .taken)) _ _ ∙ both-passed (phase-right (d .before .before)) (element-right d) _) _ _
 
 holds-requires : tie.Need-holds-requires
 holds-requires c κs = let h = fits sixteen _ _ _ _ _ (element-right (c .before .before)) .low in (h, omega arith)
@@ -77,7 +77,7 @@ returns-4 c =
     let e = c .before .before in let d = e .before .before in
     let out = sym (c .before .holds .ensures) ∙ not-true _ (c .if4 .taken) in
     array-refused (λ z. omega arith) (test-refused out _ _ ∙ test-passed (within (at-slot (e .before)) (e .if3 .left)) 8 _
-    ∙ passed (phase-right (d .before .before)) (element-right d) _) _ _
+    ∙ both-passed (phase-right (d .before .before)) (element-right d) _) _ _
 
 mul-if5 : tie.Need-mul-if5
 mul-if5 c = search needs
@@ -91,7 +91,7 @@ returns-5 c =
     let f = c .before .before in let e = f .before .before in let s = at-slot (e .before) in let d = e .before .before in
     array-refused (λ z. omega arith)
     (sym (unless-failed (not-free s (array d) (c .if5 .taken)) 13) ∙ test-passed (survives f) 14 _ ∙ test-passed (within s (e .if3 .left)) 8 _
-    ∙ passed (phase-right (d .before .before)) (element-right d) _) _ _
+    ∙ both-passed (phase-right (d .before .before)) (element-right d) _) _ _
 
 small : (c : tie.Else5) → let d = c .before .before .before .before in let a = d .before .before .before .before in a .before .before .args .element < q
 small c = let d = c .before .before .before .before in fits sixteen _ _ _ _ _ (element-right (d .before .before)) .small
@@ -113,7 +113,7 @@ unfolding reply-refusal reply-left
 returns-6 c =
     let g = c .before in let f = g .before .before in let e = f .before .before in let s = at-slot (e .before) in let d = e .before .before in
     array-taken (sym (unless-held (is-free s (array d) (g .if5 .left)) 13) ∙ test-passed (survives f) 14 _ ∙ test-passed (within s (e .if3 .left)) 8 _
-    ∙ passed (phase-right (d .before .before)) (element-right d) _) (ap₂ (λ (n x : ℕ). set (array d) n x) s (c .held-as .ensures)) (array d)
+    ∙ both-passed (phase-right (d .before .before)) (element-right d) _) (ap₂ (λ (n x : ℕ). set (array d) n x) s (c .held-as .ensures)) (array d)
 
 pub put-reply-spec : {M : Type 1} → statement M
 put-reply-spec =

@@ -6,7 +6,8 @@ use native.Mathlib.Omega.{arith}
 use lib.ListN.{length, getD, length-replicate}
 use lib.Seq.{ext-getD}
 use borrow.Author.Needs.{needs}
-use Rattle.rounds.proofs.Tests.{agrees, differs, below-next, throughout}
+use Rattle.scheme.proofs.Making.Rows.{below-more}
+use Rattle.rounds.proofs.Tests.{agrees, differs, throughout}
 use Rattle.rounds.proofs.lists.all_are.Statement.{statement}
 use Rattle.rounds.proofs.lists.all_are.Tie as tie
 
@@ -40,7 +41,7 @@ loop-less c = search needs
 loop-again : tie.Need-loop-again Inv-loop μ-loop
 loop-again c =
     let l = c .before .before .before .loop in
-    (search needs, below-next _ (l .i) (l .inv .1) (c .if1 .left))
+    (search needs, below-more _ (l .inv .1) (c .if1 .left))
 
 returns-2 : tie.Need-returns-2 Inv-loop μ-loop
 returns-2 c =

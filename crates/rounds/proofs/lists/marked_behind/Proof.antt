@@ -3,7 +3,7 @@
 use mathlib.Core.Path.{_≡_}
 use lib.ListN.{length}
 use borrow.Author.Needs.{needs}
-use Rattle.rounds.specs.Lists.{room}
+use Rattle.rounds.specs.Lists.{key-room}
 use Rattle.rounds.proofs.lists.marked_behind.Statement.{statement}
 use Rattle.rounds.proofs.lists.marked_behind.Tie as tie
 
@@ -12,7 +12,7 @@ holds-just-requires c κs = search needs
 
 returns : tie.Need-returns
 returns c =
-    let n : length (c .before .before .before .args .s .now) ≡ room = search needs in
+    let n : length (c .before .before .before .args .s .now) ≡ key-room = search needs in
     rw n at (c .holds-just .ensures)
 
 pub marked-behind-spec : {M : Type 1} → statement M

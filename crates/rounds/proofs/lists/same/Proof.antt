@@ -6,7 +6,8 @@ use native.Mathlib.Omega.{arith}
 use lib.ListN.{length, getD}
 use lib.Seq.{ext-getD}
 use borrow.Author.Needs.{needs}
-use Rattle.rounds.proofs.Tests.{agrees, differs, below-next}
+use Rattle.scheme.proofs.Making.Rows.{below-more}
+use Rattle.rounds.proofs.Tests.{agrees, differs}
 use Rattle.rounds.proofs.lists.same.Statement.{statement}
 use Rattle.rounds.proofs.lists.same.Tie as tie
 
@@ -46,7 +47,7 @@ loop-less c = search needs
 loop-again : tie.Need-loop-again Inv-loop μ-loop
 loop-again c =
     let l = c .before .before .before .before .loop in
-    (search needs, search needs, below-next _ (l .i) (l .inv .2) (c .if2 .left))
+    (search needs, search needs, below-more _ (l .inv .2) (c .if2 .left))
 
 returns-3 : tie.Need-returns-3 Inv-loop μ-loop
 returns-3 c =

@@ -6,7 +6,7 @@ use native.Mathlib.Omega.{arith}
 use lib.ListN.{length}
 use borrow.Author.Needs.{needs}
 use Rattle.scheme.specs.Limits.{most-blocks}
-use Rattle.rounds.proofs.Copies.{shares-to, shares-start, shares-more, shares-short, shares-whole}
+use Rattle.rounds.proofs.Copies.{shares-to, shares-start, shares-more, shares-short-end, shares-whole-end}
 use Rattle.rounds.proofs.calls.ends.copy_out.Statement.{statement}
 use Rattle.rounds.proofs.calls.ends.copy_out.Tie as tie
 
@@ -24,7 +24,7 @@ returns c =
     let l = c .before .before in
     let a = l .before .args in
     let n : l .loop .i ≡ length (a .part .now) = omega arith in
-    let e = shares-short (a .part .now) (l .loop .shares) (l .loop .i) (omega arith) (omega arith) (omega arith) (l .loop .inv .3) in
+    let e = shares-short-end (a .part .now) (l .loop .shares) (l .loop .i) (l .loop .inv .3) (omega arith) (omega arith) in
     λ k. record { number = a .number; client = a .client; count = n k; shares = e k }
 
 mul-shares : tie.Need-mul-shares Inv-loop μ-loop
@@ -49,13 +49,13 @@ loop-again : tie.Need-loop-again Inv-loop μ-loop
 loop-again c =
     let l = c .before .before .before in
     let a = l .before .args in
-    (search needs, search needs, search needs, shares-more (a .part .now) (l .loop .shares) (l .loop .i) (omega arith) (omega arith) (l .loop .inv .3))
+    (search needs, search needs, search needs, shares-more (a .part .now) (l .loop .shares) (l .loop .i) (l .loop .inv .3) (omega arith) (omega arith))
 
 returns-2 : tie.Need-returns-2 Inv-loop μ-loop
 returns-2 c =
     let l = c .before in
     let a = l .before .args in
-    let e = shares-whole (a .part .now) (l .loop .shares) (l .loop .i) (omega arith) (omega arith) (l .loop .inv .3) in
+    let e = shares-whole-end (a .part .now) (l .loop .shares) (l .loop .i) (l .loop .inv .3) (omega arith) in
     λ k. record { number = a .number; client = a .client; count = length (a .part .now); shares = e k }
 
 pub copy-out-spec : {M : Type 1} → statement M
