@@ -5,7 +5,7 @@
 --   Whole, Other                 a whole record stands at a place, and it is no element
 --   Item, items                  the records of an input, each with its offset, and where it breaks off
 --   Outcome, outcome, step       one record on the service's state: the answer and the next state
---   Placed, answers                the answers to a list of records, each with its record's offset; 7 ends the run
+--   Placed, answers              the answers to a list of records, each with its record's offset; 7 ends the run
 --   text, lines                  what is printed for a list of answers, and for an input
 --   ready-at, stop-at            whether a record is taken at a place, and why none is
 --   fed-from, fed                what feed hands back: the state, the bytes used and written, and why it stops
