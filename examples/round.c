@@ -1,5 +1,6 @@
-/* Document 01's example round through the library, from C: keys, first messages, the service, the replies to set 5, the total 40, and
- * a call for each refusal. Prints what it gets on standard error; exit status 1 where anything is not as expected. */
+/* Document 01's example round through the library, from C: the random list from raw bytes, keys, first messages, the service, the
+ * replies to set 5, the total 40, and a call for each refusal. Prints what it gets on standard error; exit status 1 where anything is
+ * not as expected. */
 #include <inttypes.h>
 #include <stdio.h>
 #include <string.h>
@@ -10,6 +11,8 @@ enum { USERS = 3, THRESHOLD = 2, COLLUSION = 1, BLOCKS = 1, SET = 5, TOTAL = 40,
 
 #define PLAN USERS, THRESHOLD, COLLUSION, BLOCKS
 
+/* 65521 and 65535 are skipped, and the last byte is unused. */
+static const uint8_t bytes[] = {241, 255, 100, 0, 200, 0, 44, 1, 12, 0, 60, 0, 255, 255, 40, 0, 120, 0, 9};
 static const uint16_t list[LIST_LEN] = {100, 200, 300, 12, 60, 40, 120};
 static const uint16_t figures[USERS][PLACES] = {{10}, {20}, {30}};
 static const uint16_t expected_keys[USERS][KEY_LEN] = {{100, 154, 220, 340}, {200, 103, 22017, 230}, {300, 112, 133, 174}};
@@ -73,6 +76,25 @@ static void expect_numbers(const char *what, const uint32_t got[CUTAWHENO_END], 
 static void expect_same(const char *what, const Service *got, const Service *wanted)
 {
     expect(what, memcmp(got, wanted, sizeof *got) == 0, 1);
+}
+
+/* The list from the bytes, which run out where the last number is cut; what is refused leaves the list as it came. */
+static void run_list(void)
+{
+    uint16_t drawn[LIST_LEN] = {7, 7, 7, 7, 7, 7, 7};
+    const uint16_t untouched[LIST_LEN] = {7, 7, 7, 7, 7, 7, 7};
+
+    expect("list of bad plan", cutawheno_list_from_bytes(bytes, sizeof bytes, drawn, LIST_LEN, 3, 3, 1, 1), CUTAWHENO_BAD_PLAN);
+    expect("short list", cutawheno_list_from_bytes(bytes, sizeof bytes, drawn, LIST_LEN - 1, PLAN), CUTAWHENO_BAD_LENGTH);
+    expect("no list", cutawheno_list_from_bytes(bytes, sizeof bytes, NULL, 0, PLAN), CUTAWHENO_BAD_LENGTH);
+    expect("cut bytes", cutawheno_list_from_bytes(bytes, sizeof bytes - 2, drawn, LIST_LEN, PLAN), CUTAWHENO_BYTES_RUN_OUT);
+    expect("no bytes", cutawheno_list_from_bytes(NULL, 0, drawn, LIST_LEN, PLAN), CUTAWHENO_BYTES_RUN_OUT);
+    expect_row("refused list", drawn, untouched, LIST_LEN);
+    expect("list by the last byte", cutawheno_list_from_bytes(bytes, sizeof bytes - 1, drawn, LIST_LEN, PLAN), CUTAWHENO_TAKEN);
+    expect_row("list by the last byte", drawn, list, LIST_LEN);
+    memcpy(drawn, untouched, sizeof drawn);
+    expect("list", cutawheno_list_from_bytes(bytes, sizeof bytes, drawn, LIST_LEN, PLAN), CUTAWHENO_TAKEN);
+    expect_row("list", drawn, list, LIST_LEN);
 }
 
 /* Started where anything stood; sent. */
@@ -277,6 +299,7 @@ int main(void)
     expect("list_len of 3 3 1 1", cutawheno_list_len(3, 3, 1, 1), 0);
     expect("key_len of 3 2 1 17", cutawheno_key_len(3, 2, 1, 17), 0);
     expect("version", CUTAWHENO_VERSION, 900);
+    run_list();
     run_round();
     run_key_refusals();
     run_end_refusals();

@@ -1,5 +1,5 @@
-/* Key maker, airfield end and pooling service of document 01, for C: the functions that crates/capi exports (rt staticlib capi
- * gives libcapi.a).
+/* Key maker, airfield end and pooling service of document 01, and the random list from raw bytes of document 02, for C: the functions
+ * that crates/capi exports (rt staticlib capi gives libcapi.a).
  *
  * A plan is four numbers: users (K), threshold (U), collusion (T) and blocks (M). A user is an airfield's number, 1 to K; a set of
  * users is a number whose bit k - 1 stands for user k. An element is a number below CUTAWHENO_Q. A row of figures, and a first
@@ -96,8 +96,8 @@ enum {
     CUTAWHENO_REPLYING = 3
 };
 
-/* Why a call is refused. Number 7 is the record stream's alone: an unknown kind, or a record cut short by the end; and document 01 has
- * no 9 and no 10. */
+/* Why a call is refused. Number 7 is the record stream's alone: an unknown kind, or a record cut short by the end; and there is no 9, no
+ * 10 and none from 20 to 30. */
 enum {
     CUTAWHENO_TAKEN = 0,
     CUTAWHENO_BAD_PLAN = 1,      /* plan outside its ranges */
@@ -115,7 +115,8 @@ enum {
     CUTAWHENO_UNEXPLAINED = 16,  /* no sums and noise explain all complete replies */
     CUTAWHENO_OLD_ROUND = 17,    /* the round is not above the last one opened */
     CUTAWHENO_OUT_OF_TURN = 18,  /* first message already given, or a reply asked of a fresh end */
-    CUTAWHENO_OTHER_SET = 19     /* a set other than the one answered */
+    CUTAWHENO_OTHER_SET = 19,    /* a set other than the one answered */
+    CUTAWHENO_BYTES_RUN_OUT = 31 /* the bytes run out before the list is full */
 };
 
 /* What a reply answers: the refusal or 0; the shares, which are the `count` elements of the key from `start` on (none after a
@@ -143,6 +144,14 @@ uint32_t cutawheno_list_len(uint32_t users, uint32_t threshold, uint32_t collusi
 /* The length of a key of a plan, the same for every user; 0 for a plan outside its ranges. */
 CUTAWHENO_ANSWER
 uint32_t cutawheno_key_len(uint32_t users, uint32_t threshold, uint32_t collusion, uint32_t blocks);
+
+/* Fills the random list of a plan from raw random bytes: two bytes are a number, low byte first, each number above 65520 is skipped, and
+ * bytes behind the last element of the list are unused, as is a byte that stands alone. The list has cutawheno_list_len elements; the
+ * bytes may have any length.
+ * Refusals, the earliest: BAD_PLAN, BAD_LENGTH (of the list), BYTES_RUN_OUT. */
+CUTAWHENO_ANSWER
+uint32_t cutawheno_list_from_bytes(const uint8_t *bytes, size_t bytes_len, uint16_t *list, size_t list_len,
+                                   uint32_t users, uint32_t threshold, uint32_t collusion, uint32_t blocks);
 
 /* Writes the user's key, made from the random list. The list has cutawheno_list_len elements, the key cutawheno_key_len.
  * Refusals, the earliest: BAD_PLAN, BAD_USER, BAD_LENGTH, BAD_ELEMENT (in the list). */

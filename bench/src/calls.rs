@@ -10,6 +10,22 @@ fn ours(p: Plan) -> cutawheno::Plan {
     cutawheno::Plan { users: p.users, threshold: p.threshold, collusion: p.collusion, blocks: p.blocks }
 }
 
+/// The random list from bytes that look random, with some left over.
+pub fn measure_list(p: Plan) -> [f64; 2] {
+    let mut random = Random(2);
+    let bytes: Vec<u8> = (0..2 * p.list_len() + 100).map(|_| random.below(256) as u8).collect();
+    let mut list = vec![0; p.list_len()];
+    let mut rust_list = list.clone();
+    let rust = black_box(fast::list_from_bytes as fn(Plan, &[u8], &mut [u16]) -> u32);
+    ours(p).list_from_bytes(&bytes, &mut list).unwrap();
+    assert_eq!(rust(p, &bytes, &mut rust_list), 0);
+    assert!(list == rust_list, "list under {}", named(p));
+    duel(
+        || ours(p).list_from_bytes(&bytes, &mut list).unwrap(),
+        || assert_eq!(rust(p, &bytes, &mut rust_list), 0),
+    )
+}
+
 /// A key, all users in turn.
 pub fn measure_keys(p: Plan) -> [f64; 2] {
     let round = Round::new(p, &mut Random(3));

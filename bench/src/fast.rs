@@ -1,4 +1,4 @@
-//! Document 01 in plain Rust, written for speed: the algorithms, tests and order of refusals of the proved crates.
+//! Document 01, and item 1 of document 02, in plain Rust, written for speed: the algorithms, tests and order of refusals of the proved crates.
 //! Every call answers 0, or the number of its refusal, and then changes nothing.
 #![allow(dead_code)] // each program uses its part
 
@@ -109,6 +109,69 @@ impl Plan {
             0
         }
     }
+}
+
+/// Numbers that are copied at a time.
+const ROW: usize = 64;
+
+/// The random list from raw bytes.
+pub fn list_from_bytes(plan: Plan, bytes: &[u8], list: &mut [u16]) -> u32 {
+    let (numbers, _) = bytes.as_chunks();
+    if !plan.is_good() {
+        1
+    } else if list.len() != plan.list_len() {
+        2
+    } else if !is_enough(numbers, list.len()) {
+        31
+    } else {
+        fill(numbers, list);
+        0
+    }
+}
+
+/// As many numbers are looked through as elements are missing, until none is.
+fn is_enough(mut numbers: &[[u8; 2]], mut missing: usize) -> bool {
+    while 0 < missing {
+        let Some((row, rest)) = numbers.split_at_checked(missing) else { return false };
+        numbers = rest;
+        missing = count_skipped(row) as usize;
+    }
+    true
+}
+
+/// A row of numbers is copied; where one of them is to be skipped, it is gone through once more, one by one.
+fn fill(mut numbers: &[[u8; 2]], mut list: &mut [u16]) {
+    while !list.is_empty() {
+        let (row, rest) = numbers.split_at(ROW.min(list.len()));
+        let mut filled = row.len();
+        let copied = match (row.first_chunk::<ROW>(), list.first_chunk_mut::<ROW>()) {
+            (Some(row), Some(out)) => copy(row, out),
+            _ => false,
+        };
+        if !copied {
+            filled = 0;
+            for x in row.iter().map(|&number| u16::from_le_bytes(number)).filter(|&x| (x as u32) < Q) {
+                list[filled] = x;
+                filled += 1;
+            }
+        }
+        numbers = rest;
+        list = &mut list[filled..];
+    }
+}
+
+/// Whether all are elements. Without an early end, so that it goes by vectors, as counting in 16 bits does.
+fn copy(numbers: &[[u8; 2]; ROW], out: &mut [u16; ROW]) -> bool {
+    let mut past = 0;
+    for (slot, &number) in out.iter_mut().zip(numbers) {
+        *slot = u16::from_le_bytes(number);
+        past |= slot.saturating_sub(Q as u16 - 1);
+    }
+    past == 0
+}
+
+fn count_skipped(numbers: &[[u8; 2]]) -> u16 {
+    numbers.iter().map(|&number| (Q <= u16::from_le_bytes(number) as u32) as u16).sum()
 }
 
 fn key_refusal(plan: Plan, user: u32, list: &[u16], room: usize) -> u32 {

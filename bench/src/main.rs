@@ -17,6 +17,8 @@ use timing::{BATCHES, RUNS};
 
 fn main() {
     let mut report = Report::default();
+    let p = plan(8, 2, 1, 16);
+    report.call("list from bytes", p, calls::measure_list(p));
     for users in 3..=8 {
         let p = plan(users, 2, 1, 16);
         let times = calls::measure_keys(p);

@@ -58,7 +58,7 @@ impl Report {
         let [ours, rust] = self.memory;
         line(&format!("\nPeak memory over the mixed stream: ours {ours} KiB, Rust {rust} KiB.\n"));
         line("## Calls\n");
-        line("Through the static library, beside `bench/src/fast.rs`: the same algorithms and the same tests of the input, over `&mut` state, with loops that know their lengths and, in finish, all blocks side by side. A key is that of all users in turn; of a round all users survive, and the first U or all of them reply.\n");
+        line("Through the static library, beside `bench/src/fast.rs`: the same algorithms and the same tests of the input, over `&mut` state, with loops that know their lengths and, in finish, all blocks side by side. The random list is drawn from bytes that look random, with a number to skip among them; a key is that of all users in turn; of a round all users survive, and the first U or all of them reply.\n");
         line("| call and plan | ours, ns | Rust, ns | ratio |\n|---|---|---|---|");
         for (name, [ours, rust]) in &self.calls {
             line(&format!("| {name} | {ours:.0} | {rust:.0} | {:.2} |", ours / rust));

@@ -1,6 +1,8 @@
 //! Key maker and airfield end: the calls on the airfields' side, with their
 //! refusals in document 01's order. A refused call changes nothing.
 //!
+//! - `list_from_bytes`: a random list from raw bytes, which document 02 adds as
+//!   item 1, refusals 1, 2, 31
 //! - `make_key`: the key maker, refusals 1, 4, 2, 3
 //! - `End`, `Stage`: an airfield end, its plan, number and stage
 //! - `End::start`: a fresh end, refusals 1, 4
@@ -10,6 +12,20 @@
 use crate::field::{is_element, Element};
 use crate::refusal::{refuse_if, Refusal};
 use crate::scheme::{self, holds, Plan, RandomList, Set};
+
+/// Fills a lent random list: two bytes are a number, low byte first, and a
+/// number that is no element is skipped. A lone last byte is no number, and
+/// the bytes behind the last element are unused.
+pub fn list_from_bytes(plan: [u8; 4], bytes: &[u8], list: &mut [Element]) -> Result<(), Refusal> {
+    let plan = Plan::new(plan)?;
+    refuse_if(list.len() != plan.list_length(), Refusal::Length)?;
+    let numbers = bytes.chunks_exact(2).map(|pair| u16::from_le_bytes([pair[0], pair[1]]));
+    let kept = numbers.filter(|&number| is_element(number));
+    let drawn: Vec<Element> = kept.take(list.len()).collect();
+    refuse_if(drawn.len() < list.len(), Refusal::BytesRunOut)?;
+    list.copy_from_slice(&drawn);
+    Ok(())
+}
 
 /// Writes the key of an airfield into a lent buffer of the key's length.
 pub fn make_key(

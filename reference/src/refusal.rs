@@ -1,6 +1,7 @@
-//! The refusals of document 01.
+//! The refusals of documents 01 and 02.
 //!
-//! - `Refusal`: one case for each numbered line of the two lists
+//! - `Refusal`: one case for each number: those of document 01's two lists,
+//!   then those that document 02 adds
 //! - `Refusal::number`: the number alone, as it is handed back and printed
 //! - `refuse_if`: a refusal under a condition
 
@@ -23,6 +24,7 @@ pub enum Refusal {
     RoundNotAbove = 17,
     SentOrFresh = 18,
     OtherSet = 19,
+    BytesRunOut = 31,
 }
 
 impl Refusal {
@@ -32,7 +34,7 @@ impl Refusal {
 }
 
 /// `Err(refusal)` if the condition holds, so that a call's refusals read as
-/// a list in the order of document 01.
+/// a list in the order of the documents.
 pub fn refuse_if(condition: bool, refusal: Refusal) -> Result<(), Refusal> {
     if condition {
         Err(refusal)

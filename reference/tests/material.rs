@@ -1,6 +1,6 @@
 //! The generated material is repeatable and reaches what it is meant to reach.
 
-use reference::material::{calls, damaged, plan_by_seed, rounds, whole};
+use reference::material::{calls, damaged, drawn, plan_by_seed, rounds, whole};
 use reference::stream::{run, to_bytes, Records};
 use std::collections::BTreeSet;
 
@@ -95,7 +95,7 @@ fn number_at(letter: &str) -> usize {
     match letter {
         "p" => 5,
         "k" | "e" | "a" => 3,
-        "s" | "f" | "r" | "o" => 2,
+        "d" | "s" | "f" | "r" | "o" => 2,
         _ => 1,
     }
 }
@@ -108,6 +108,24 @@ fn calls_reach_every_answer() {
         "f 3", "r 0", "r 18", "r 2", "r 3", "r 5", "r 6", "r 19",
     ];
     assert_eq!(answers(&text, number_at), set(&expected));
+}
+
+#[test]
+fn drawn_lists_reach_every_answer() {
+    let text: String = drawn::cases(0, CASES).collect();
+    let expected = ["p 0", "p 1", "d 0", "d 1", "d 2", "d 31", "k 0", "k 1", "k 2"];
+    assert_eq!(answers(&text, number_at), set(&expected));
+}
+
+/// How many numbers of a line the program `rounds` takes: its `SPACE`.
+const LONGEST_LINE: usize = 29536;
+
+#[test]
+fn lines_are_not_too_long() {
+    let longest = drawn::cases(0, 896).map(|case| {
+        case.lines().map(|line| line.split(' ').count() - 1).max().expect("a case has lines")
+    });
+    assert!(longest.max().expect("there are cases") <= LONGEST_LINE);
 }
 
 #[test]
@@ -126,5 +144,6 @@ fn the_same_seed_gives_the_same_material() {
     assert_eq!(rounds::records(9, ROUNDS), rounds::records(9, ROUNDS));
     assert_eq!(damaged::bytes(9, STEPS), damaged::bytes(9, STEPS));
     assert!(calls::cases(9, 4).eq(calls::cases(9, 4)));
+    assert!(drawn::cases(9, 4).eq(drawn::cases(9, 4)));
     assert!(whole::cases(9, 4).eq(whole::cases(9, 4)));
 }

@@ -1,9 +1,11 @@
-//! Document 01's example round through the library, from Rust: keys, first messages, the service, the replies to set 5, the total 40,
-//! and some refusals. Exit status 101 where anything is not as expected.
+//! Document 01's example round through the library, from Rust: the random list from raw bytes, keys, first messages, the service, the
+//! replies to set 5, the total 40, and some refusals. Exit status 101 where anything is not as expected.
 use cutawheno::{End, Plan, Refusal, Service, LONGEST_KEY, LONGEST_LIST, MOST_PLACES};
 
 const PLAN: Plan = Plan { users: 3, threshold: 2, collusion: 1, blocks: 1 };
 const BAD: Plan = Plan { threshold: 3, ..PLAN };
+/// 65521 and 65535 are skipped, and the last byte is unused.
+const BYTES: [u8; 19] = [241, 255, 100, 0, 200, 0, 44, 1, 12, 0, 60, 0, 255, 255, 40, 0, 120, 0, 9];
 const LIST: [u16; 7] = [100, 200, 300, 12, 60, 40, 120];
 const KEYS: [[u16; 4]; 3] = [[100, 154, 220, 340], [200, 103, 22017, 230], [300, 112, 133, 174]];
 const FIGURES: [[u16; 1]; 3] = [[10], [20], [30]];
@@ -65,6 +67,17 @@ fn run_round(service: &mut Service) {
     assert_eq!(service.finish(&mut totals), Err(Refusal::OtherPhase));
 }
 
+/// The list from the bytes, which run out where the last number is cut.
+fn run_list() {
+    let mut list = [7; 7];
+    assert_eq!(BAD.list_from_bytes(&BYTES, &mut list), Err(Refusal::BadPlan));
+    assert_eq!(PLAN.list_from_bytes(&BYTES, &mut list[..6]), Err(Refusal::BadLength));
+    assert_eq!(PLAN.list_from_bytes(&BYTES[..17], &mut list), Err(Refusal::BytesRunOut));
+    assert_eq!(list, [7; 7]);
+    assert_eq!(PLAN.list_from_bytes(&BYTES, &mut list), Ok(()));
+    assert_eq!(list, LIST);
+}
+
 /// What is refused changes nothing.
 fn run_refusals() {
     let mut key = [7; 4];
@@ -110,6 +123,7 @@ fn main() {
     assert_eq!((BAD.row_len(), BAD.list_len(), BAD.key_len()), (0, 0, 0));
     let mut service = Service::new();
     assert_eq!(service.plan(PLAN), Ok(()));
+    run_list();
     run_round(&mut service);
     run_refusals();
     println!("Rust: the example round, as expected");

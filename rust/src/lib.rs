@@ -1,5 +1,5 @@
-//! Pooled sums that nobody has to take on trust: key maker, airfield end and pooling service, safe over the proved functions that
-//! include/cutawheno.h declares (static library libcapi.a; build.rs finds it).
+//! Pooled sums that nobody has to take on trust: random list from raw bytes, key maker, airfield end and pooling service, safe over the
+//! proved functions that include/cutawheno.h declares (static library libcapi.a; build.rs finds it).
 //!
 //! A slice carries its own length, and the buffer to be written overlaps no other: what the header asks of a caller always holds.
 //! Every call answers or refuses with the specification's number, and a refusal changes neither state nor lent memory.
@@ -7,8 +7,12 @@
 //! ```
 //! use cutawheno::{End, Plan, Refusal};
 //! let plan = Plan { users: 3, threshold: 2, collusion: 1, blocks: 1 };
+//! let mut list = vec![0; plan.list_len()];
+//! // from a noise source; 65535 is skipped
+//! plan.list_from_bytes(&[100, 0, 200, 0, 44, 1, 255, 255, 12, 0, 60, 0, 40, 0, 120, 0], &mut list)?;
+//! assert_eq!(list, [100, 200, 300, 12, 60, 40, 120]);
 //! let mut key = vec![0; plan.key_len()];
-//! plan.make_key(1, &[100, 200, 300, 12, 60, 40, 120], &mut key)?;
+//! plan.make_key(1, &list, &mut key)?;
 //! assert_eq!(key, [100, 154, 220, 340]);
 //! let mut end = End::start(plan, 1)?;
 //! let mut message = [0];
@@ -37,7 +41,7 @@ pub struct Plan {
     pub blocks: u32,
 }
 
-/// Why a call is refused, by document 01's numbers.
+/// Why a call is refused, by the numbers of documents 01 and 02.
 #[derive(Clone, Copy, Debug, PartialEq, Eq)]
 pub enum Refusal {
     /// The plan is outside its ranges.
@@ -72,10 +76,12 @@ pub enum Refusal {
     OutOfTurn = 18,
     /// Another set was answered.
     OtherSet = 19,
+    /// The bytes run out before the list is full.
+    BytesRunOut = 31,
 }
 
 impl Refusal {
-    /// The number that document 01 gives it.
+    /// The number that the documents give it.
     pub const fn number(self) -> u32 {
         self as u32
     }
@@ -99,6 +105,7 @@ impl Refusal {
             Refusal::OldRound => "the round is not above the last one opened",
             Refusal::OutOfTurn => "the first message was given already, or a reply is asked of a fresh end",
             Refusal::OtherSet => "another set was answered",
+            Refusal::BytesRunOut => "the bytes run out before the list is full",
         }
     }
 }
@@ -160,6 +167,10 @@ extern "C" {
     fn cutawheno_row_len(users: u32, threshold: u32, collusion: u32, blocks: u32) -> u32;
     fn cutawheno_list_len(users: u32, threshold: u32, collusion: u32, blocks: u32) -> u32;
     fn cutawheno_key_len(users: u32, threshold: u32, collusion: u32, blocks: u32) -> u32;
+    fn cutawheno_list_from_bytes(
+        bytes: *const u8, bytes_len: usize, list: *mut u16, list_len: usize,
+        users: u32, threshold: u32, collusion: u32, blocks: u32,
+    ) -> u32;
     fn cutawheno_make_key(
         list: *const u16, list_len: usize, key: *mut u16, key_len: usize,
         users: u32, threshold: u32, collusion: u32, blocks: u32, user: u32,
@@ -209,6 +220,7 @@ fn refusal(number: u32) -> Refusal {
         17 => Refusal::OldRound,
         18 => Refusal::OutOfTurn,
         19 => Refusal::OtherSet,
+        31 => Refusal::BytesRunOut,
         _ => unreachable!("the calls have no other refusal"),
     }
 }
@@ -230,6 +242,23 @@ impl Plan {
     pub fn key_len(self) -> usize {
         // SAFETY: numbers alone.
         unsafe { cutawheno_key_len(self.users, self.threshold, self.collusion, self.blocks) as usize }
+    }
+
+    /// Fills the random list from raw random bytes: two bytes are a number, low byte first, and each number above 65520 is skipped.
+    pub fn list_from_bytes(self, bytes: &[u8], list: &mut [u16]) -> Result<(), Refusal> {
+        // SAFETY: pointers and lengths are those of slices, of which the written one is borrowed alone.
+        outcome(unsafe {
+            cutawheno_list_from_bytes(
+                bytes.as_ptr(),
+                bytes.len(),
+                list.as_mut_ptr(),
+                list.len(),
+                self.users,
+                self.threshold,
+                self.collusion,
+                self.blocks,
+            )
+        })
     }
 
     /// Writes the user's key, made from the random list.

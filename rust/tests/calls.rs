@@ -83,6 +83,30 @@ fn every_plan_gives_the_survivors_total() {
     }
 }
 
+/// Bytes among which some numbers are skipped: one too few, just enough, and one to spare.
+#[test]
+fn lists_of_every_plan_are_drawn() {
+    let mut random = Random(4);
+    for plan in plans() {
+        let mut bytes = Vec::new();
+        let mut wanted = Vec::new();
+        while wanted.len() < plan.list_len() {
+            let number = if random.below(10) == 0 { 65517 + random.below(19) } else { random.below(65536) } as u16;
+            bytes.extend(number.to_le_bytes());
+            wanted.extend(Some(number).filter(|&number| u32::from(number) < Q));
+        }
+        let mut list = vec![7; plan.list_len()];
+        assert_eq!(plan.list_from_bytes(&bytes[..bytes.len() - 1], &mut list), Err(Refusal::BytesRunOut));
+        assert!(list.iter().all(|&element| element == 7));
+        plan.list_from_bytes(&bytes, &mut list).unwrap();
+        assert_eq!(list, wanted);
+        bytes.push(255);
+        list.fill(7);
+        plan.list_from_bytes(&bytes, &mut list).unwrap();
+        assert_eq!(list, wanted);
+    }
+}
+
 #[test]
 fn the_longest_lengths_are_reached_and_not_passed() {
     let longest = |length: fn(Plan) -> usize| plans().map(length).max().unwrap();
@@ -100,6 +124,11 @@ fn any_numbers_are_answered() {
         let (list, mut written) = (random.elements(count), vec![7; random.below(9) as usize]);
         let before = written.clone();
         if plan.make_key(random.any(), &list, &mut written).is_err() {
+            assert_eq!(written, before);
+        }
+        let bytes: Vec<u8> = list.iter().flat_map(|element| element.to_le_bytes()).collect();
+        let before = written.clone();
+        if plan.list_from_bytes(&bytes, &mut written).is_err() {
             assert_eq!(written, before);
         }
         let numbers = [0; 8].map(|_| random.any());

@@ -52,28 +52,49 @@ fn lists_and_keys_are_those_of_the_plan() {
     assert_eq!(folder.numbers("end", "key"), key.map(u32::from));
 }
 
-/// Shows that identity and elements are the bytes of the system's source, each byte used once and in order, numbers that are no element
-/// left out; and that nothing is made where the source fails.
+/// A stand-in for the system's source: what a list of plan 3 2 1 1 is made of if the source gives these bytes and then fails.
+fn list_from(folder: &Folder, source: &[u8]) -> common::Said {
+    folder.write("source", source, 0o600);
+    let mut run = folder.shimmed(&["list", "3", "2", "1", "1", "list"], "none", "0");
+    common::Said::from(run.env("SHIM_RANDOM", folder.at("source")).output().unwrap())
+}
+
+fn bytes(numbers: &[u16]) -> Vec<u8> {
+    numbers.iter().flat_map(|number| number.to_le_bytes()).collect()
+}
+
+/// Shows that identity and elements are the bytes of the system's source in order, numbers that are no element left out; and that nothing
+/// is made where the source fails.
 #[test]
 fn a_list_is_what_the_source_gave() {
     let folder = Folder::new("source");
     let identity: Vec<u8> = (0..16).map(|at| at * 17).collect();
-    let drawn = [65520, 65521, 7, 65535, 65522, 0, 256, 65519, 40000, 7, 65530, 300];
-    let source = [identity, drawn.iter().flat_map(|number: &u16| number.to_le_bytes()).collect()].concat();
-    folder.write("source", &source, 0o600);
-    let list = |source: &str| {
-        let words = ["list", "3", "2", "1", "1", "list"];
-        common::Said::from(folder.shimmed(&words, "none", "0").env("SHIM_RANDOM", folder.at(source)).output().unwrap())
-    };
-    list("source").done();
+    let drawn = bytes(&[65520, 65521, 7, 65535, 65522, 0, 256, 65519, 40000, 7, 65530, 300]);
+    // two bytes for each of the 7 elements, and 64 more
+    let source = [identity, drawn, vec![1; 54]].concat();
+    list_from(&folder, &source).done();
     assert!(String::from_utf8(folder.read("list")).unwrap().contains("\nlist 00112233445566778899aabbccddeeff\n"));
     assert_eq!(folder.numbers("list", "elements"), [65520, 7, 0, 256, 65519, 40000, 7]);
     folder.airfield(&["destroy", "list"]).done();
-    for length in [0, 15, 16, 17, 34, 35] {
-        folder.write("short", &source[..length], 0o600);
-        list("short").failed(&["the system's source of randomness"]);
-        assert_eq!(folder.names(), ["short", "source"]);
+    for length in [0, 15, 16, 17, 34, 93] {
+        list_from(&folder, &source[..length]).failed(&["the system's source of randomness"]);
+        assert_eq!(folder.names(), ["source"]);
     }
+}
+
+/// Shows that more bytes are asked for where they run out, all of them new, and that a source that gives no elements is told.
+#[test]
+fn more_is_drawn_where_bytes_run_out() {
+    let folder = Folder::new("more");
+    let first = [bytes(&[1, 2, 3, 4, 5, 6]), vec![255; 66]].concat();
+    let second = [vec![255; 128], bytes(&[11, 12, 13, 14, 15, 16, 17])].concat();
+    let source = [vec![0; 16], first, second].concat();
+    list_from(&folder, &source).done();
+    assert_eq!(folder.numbers("list", "elements"), [11, 12, 13, 14, 15, 16, 17]);
+    folder.airfield(&["destroy", "list"]).done();
+    list_from(&folder, &source[..source.len() - 1]).failed(&["the system's source of randomness"]);
+    list_from(&folder, &[255; 4096]).failed(&["refused 31: in 4 tries the system's source of randomness gave too few numbers up to 65520"]);
+    assert_eq!(folder.names(), ["source"]);
 }
 
 /// Shows that a list makes one end for each airfield: a second one would send a second message under the same key.

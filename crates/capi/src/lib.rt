@@ -1,6 +1,6 @@
-// Key maker, airfield end and pooling service for callers in C and Rust: include/cutawheno.h declares these functions.
+// Random list from bytes, key maker, airfield end and pooling service for callers in C and Rust: include/cutawheno.h declares these functions.
 //   cutawheno_row_len, cutawheno_list_len, cutawheno_key_len    the lengths that a plan fixes, 0 for a plan that test 1 refuses
-//   cutawheno_make_key      a user's key from the random list
+//   cutawheno_list_from_bytes, cutawheno_make_key    the random list from raw bytes; a user's key from the random list
 //   ends                    the airfield end
 //   pooling                 the pooling service
 // A refused call hands back its number, and leaves every buffer as it came.
@@ -8,6 +8,7 @@
 ghost use mathlib.Core.Path.{_≡_};
 ghost use lib.ListN.{length};
 ghost use Rattle.scheme.specs.Scheme.{sixteen, key-refusal, key-left};
+ghost use Rattle.scheme.specs.Drawn.{list-refusal, list-left};
 ghost use Rattle.plan.specs.Plan.{plan-of, code-plan};
 ghost use Rattle.plan.specs.Lengths.{row-len, list-len, key-len};
 
@@ -56,6 +57,30 @@ pub extern "C" fn cutawheno_key_len(users: u32, threshold: u32, collusion: u32, 
         blocks,
     };
     plan::key_length(plan, 1) as u32
+}
+
+// 1, 2, 31.
+#[no_mangle]
+pub extern "C" fn cutawheno_list_from_bytes(
+    bytes: &[u8],
+    list: &mut [u16],
+    users: u32,
+    threshold: u32,
+    collusion: u32,
+    blocks: u32,
+) -> u32
+    ensures number { λ r. ⌜ r
+        ≡ list-refusal sixteen (plan-of (code-plan users threshold collusion blocks)) (now (bytes .entry)) (length (now (list .entry))) ⌝ }
+    ensures left { λ r. ⌜ now (list .exit)
+        ≡ list-left sixteen (plan-of (code-plan users threshold collusion blocks)) (now (bytes .entry)) (now (list .entry)) ⌝ }
+{
+    let plan = Plan {
+        users,
+        threshold,
+        collusion,
+        blocks,
+    };
+    keys::list_from_bytes(plan, bytes, list)
 }
 
 // "Key maker: 1, 4, 2, 3."

@@ -10,6 +10,7 @@ use Rattle.scheme.specs.Lists as Lists
 use Rattle.scheme.specs.Scheme as Scheme
 use Rattle.scheme.specs.Lists.{padded}
 use Rattle.scheme.specs.Scheme.{unless}
+use Rattle.scheme.specs.Drawn as Drawn
 use Rattle.scheme.specs.Promise.{shown}
 use Rattle.scheme.specs.Totals as Totals
 use Rattle.scheme.specs.Delta as Delta
@@ -20,15 +21,16 @@ use Rattle.client.specs.Client as Client
 use Rattle.service.specs.View as View
 use Rattle.service.specs.Calls as Calls
 use Rattle.finish.specs.Finish as Finish
-use Rattle.cases.specs.Cases.{key-from, key-of, message, asked, tried, planned, opened, firsts, replies, pooled, finish-tells, finish-tells-5, finish-tells-7, Cases}
+use Rattle.cases.specs.Cases.{drawn, key-from, key-of, message, asked, tried, planned, opened, firsts, replies, pooled, finish-tells, finish-tells-5, finish-tells-7, Cases}
 
 pub cases : Cases
-unfolding key-from key-of message asked tried planned opened firsts replies pooled finish-tells finish-tells-5 finish-tells-7
+unfolding drawn key-from key-of message asked tried planned opened firsts replies pooled finish-tells finish-tells-5 finish-tells-7
     sub inverse inverse-from modular-laws padded unknown-at shown
     Lists.rank Scheme.elements Scheme.sum Scheme.plan-good Scheme.items Scheme.places Scheme.is-user Scheme.in-set Scheme.ones Scheme.usable Scheme.usable-with
     Scheme.users-in Scheme.usable-sets Scheme.sets-with Scheme.list-length Scheme.mask Scheme.noise-start Scheme.noise Scheme.column Scheme.row-value
     Scheme.share Scheme.shares Scheme.key Scheme.key-length Scheme.first-message Scheme.reply-start Scheme.reply Scheme._then_ unless
     Scheme.is-fresh Scheme.open-to Scheme.start-refusal Scheme.key-refusal Scheme.message-refusal Scheme.reply-refusal Scheme.after
+    Drawn.numbers-in Drawn.elements-in Drawn.fills Drawn.drawn Drawn.list-refusal
     Lists.all-of Totals.explains Totals.explains-all Totals.total-of Totals.totals
     Delta.colluders-in Delta.kept Delta.unsolved Delta.shift Delta.delta Delta.translation Delta.difference Delta.table-delta Delta.partner
     Service.has-plan Service.is-gathering Service.is-replying Service.plan-missing Service.second-plan Service.not-gathering Service.not-replying
@@ -64,6 +66,12 @@ cases = record {
   list-3-left = refl;
   figure-3 = refl;
   first-3 = refl;
+  bytes-full = refl;
+  bytes-skipped = refl;
+  bytes-65520 = refl;
+  bytes-31 = refl;
+  bytes-2 = refl;
+  bytes-1 = refl;
   sixteen-blocks = refl;
   seventeen-blocks = refl;
   threshold-is-users = refl;

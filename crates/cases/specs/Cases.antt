@@ -1,5 +1,7 @@
--- The starred examples of document 01 ("Example round"), about the definitions that the contracts name: one table, a row for each example.
+-- The starred examples of document 01 ("Example round"), and some of raw bytes, about the definitions that the contracts name: one table, a
+-- row for each example.
 --   plan, random, partner-list, bad-list, figures   K, U, T, M = 3, 2, 1, 1; the random list, its partner, one that is refused; tables of figures
+--   drawn, six-numbers                              number and list that raw bytes leave of a lent list; most of the example list as bytes
 --   key-of, end-of, message                         a user's key; its airfield end; its first message
 --   handed, asked, part                             number and end handed back; what a reply to a set hands back, and its part alone
 --   tried                                           the numbers that the service and an airfield end have for a plan
@@ -15,6 +17,7 @@ use lib.ListN.{getD, take, replicate}
 use Rattle.algebra.specs.Residue.{inverse}
 use Rattle.scheme.specs.Lists.{span}
 use Rattle.scheme.specs.Scheme.{q, sixteen, plan-good, list-length, key, key-length, start-refusal, key-refusal, key-left}
+use Rattle.scheme.specs.Drawn.{list-refusal, list-left}
 use Rattle.scheme.specs.Promise.{Table, shown}
 use Rattle.scheme.specs.Delta as Delta
 use Rattle.scheme.specs.Modular.{sixteen-field}
@@ -47,6 +50,15 @@ bad-list = 100 ∷ 200 ∷ 300 ∷ 12 ∷ 60 ∷ 40 ∷ 65521 ∷ []
 
 abbrev pub figures : (a b c : ℕ) → Table
 figures a b c k = getD (0 ∷ a ∷ b ∷ c ∷ []) k 0 ∷ []
+
+-- ---- RAW BYTES
+-- of a lent list of seven sevens
+unfoldable pub drawn : (bytes : List ℕ) → ℕ × List ℕ
+drawn s = (list-refusal sixteen (plan-of plan) s 7, list-left sixteen (plan-of plan) s (replicate 7 7))
+
+-- 100 200 300 12 60 40, each as two bytes
+abbrev pub six-numbers : (rest : List ℕ) → List ℕ
+six-numbers s = 100 ∷ 0 ∷ 200 ∷ 0 ∷ 44 ∷ 1 ∷ 12 ∷ 0 ∷ 60 ∷ 0 ∷ 40 ∷ 0 ∷ s
 
 -- ---- AIRFIELD ENDS
 -- what the key maker leaves in a buffer of four zeros
@@ -137,6 +149,13 @@ pub record Cases : Type 0 where
   pub list-3-left : key-from bad-list 1 ≡ replicate 4 0
   pub figure-3 : first-answer sixteen (end-of 1 Fresh) (key-of 1) (65521 ∷ []) 1 ≡ handed 3 (end-of 1 Fresh)
   pub first-3 : first-step sixteen (opened 7) 1 0 65521 .number ≡ 3
+  -- raw bytes: 65521 to 65535 are skipped, 65520 is not; what lies behind a full list is unused; a byte that stands alone is no number
+  pub bytes-full : drawn (six-numbers (120 ∷ 0 ∷ [])) ≡ (0, random)
+  pub bytes-skipped : drawn (241 ∷ 255 ∷ six-numbers (255 ∷ 255 ∷ 120 ∷ 0 ∷ 241 ∷ [])) ≡ (0, random)
+  pub bytes-65520 : drawn (six-numbers (240 ∷ 255 ∷ 120 ∷ 0 ∷ [])) ≡ (0, 100 ∷ 200 ∷ 300 ∷ 12 ∷ 60 ∷ 40 ∷ 65520 ∷ [])
+  pub bytes-31 : drawn (six-numbers (241 ∷ 255 ∷ 120 ∷ [])) ≡ (31, replicate 7 7)
+  pub bytes-2 : list-refusal sixteen (plan-of plan) [] 6 ≡ 2
+  pub bytes-1 : list-refusal sixteen (plan-of (code-plan 3 3 1 1)) [] 6 ≡ 1
   -- plans
   pub sixteen-blocks : tried (code-plan 3 2 1 16) ≡ 0 ∷ 0 ∷ []
   pub seventeen-blocks : tried (code-plan 3 2 1 17) ≡ 1 ∷ 1 ∷ []

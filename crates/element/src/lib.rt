@@ -3,7 +3,7 @@
 //   add, multiply             of two elements; of any two 16-bit numbers, through wider integers
 //   reduce, folded            n % Q and a product without a division
 //   inverse_of, coefficient   the inverses of the numbers below points
-//   excess, all_elements      test 3 of document 01
+//   excess, all_elements      how far a number is past the last element; test 3 of document 01
 ghost use mathlib.Core.Path.{_≡_};
 ghost use Prim.Native.Nat.{_+_, _-_, _*_, _%_, _≤_, _<_};
 ghost use Rattle.algebra.specs.Residue.{inverse};
@@ -13,7 +13,7 @@ ghost use Rattle.element.specs.Fold.{word, fold, most-folded, reducible}
 
 pub const Q: u32 = 65521;
 
-const Q16: u16 = Q as u16;
+pub const Q16: u16 = Q as u16;
 
 // The largest element.
 const LAST: u16 = Q16 - 1;
@@ -96,7 +96,7 @@ pub fn coefficient(user: u32, column: u32) -> u16
 }
 
 // How far x is past the last element: 0 of an element.
-fn excess(x: u16) -> u16
+pub fn excess(x: u16) -> u16
     ensures { λ r. ⌜ r ≡ x - (q - 1) ⌝ }
 {
     if LAST < x {

@@ -27,6 +27,7 @@ pub refused-unchanged : Refused-unchanged
 unfolding number-of finish-totals start-left part-by
 refused-unchanged =
     record {
+      list-kept = λ p s o h. after-refused h _ o;
       key-kept = λ p k xs o h. after-refused h _ o;
       start-kept = λ p k e h. after-refused h _ e;
       first-kept = λ e ks fs o h.

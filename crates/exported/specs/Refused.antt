@@ -1,5 +1,5 @@
 -- "The state and every lent buffer stay as before the call", of the exported calls, whatever the lent memory holds.
---   Refused-unchanged   of key maker, airfield end and service
+--   Refused-unchanged   of the list from bytes, key maker, airfield end and service
 -- Assumes nothing: these are definitions.
 use mathlib.Core.Path.{_≡_}
 use mathlib.Core.Logic.{_≢_}
@@ -7,6 +7,7 @@ use mathlib.Core.List.{List}
 use Prim.Native.Nat.{ℕ}
 use lib.ListN.{length}
 use Rattle.scheme.specs.Scheme.{sixteen, key-refusal, key-left}
+use Rattle.scheme.specs.Drawn.{list-refusal, list-left}
 use Rattle.plan.specs.declared.Plan.{Plan}
 use Rattle.plan.specs.Plan.{plan-of}
 use Rattle.client.specs.Client.{begun, first-answer, message-left, reply-answer}
@@ -14,8 +15,9 @@ use Rattle.capi.specs.Ends.{end-at, start-left, kept, part-answer}
 use Rattle.capi.specs.Lent.{Arrays, finish-totals}
 use Rattle.exported.specs.Runs.{Call, finish-call, number-of, leaves}
 
--- the key's buffer; the end's array; array and buffer; array, and no part; the service's arrays; the buffer for totals
+-- the list; the key's buffer; the end's array; array and buffer; array, and no part; the service's arrays; the buffer for totals
 pub record Refused-unchanged : Type 0 where
+  pub list-kept : (p : Plan) (s o : List ℕ) → list-refusal sixteen (plan-of p) s (length o) ≢ 0 → list-left sixteen (plan-of p) s o ≡ o
   pub key-kept : (p : Plan) (k : ℕ) (xs o : List ℕ) → key-refusal sixteen (plan-of p) k xs (length o) ≢ 0 →
       key-left sixteen (plan-of p) k xs o ≡ o
   pub start-kept : (p : Plan) (k : ℕ) (e : List ℕ) → begun p k .number ≢ 0 → start-left p k e ≡ e

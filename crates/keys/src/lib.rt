@@ -1,4 +1,5 @@
-// The key maker of document 01.
+// The key maker of document 01, and the random list from raw bytes.
+//   list_from_bytes, drawing        the random list that a noise source's bytes fill, or a refusal; its parts
 //   make_key                        a user's key from the random list, or a refusal
 //   refusal                         tests 1, 4, 2, 3
 //   copy_masks                      the user's own masks
@@ -20,10 +21,14 @@ ghost use lib.Seq.{sets};
 ghost use Rattle.scheme.specs.Limits.{most-users, most-blocks, most-threshold, most-collusion, most-items, most-places, cells, points};
 ghost use Rattle.scheme.specs.Lists.{span, rows};
 ghost use Rattle.scheme.specs.Scheme.{q, sixteen, places, sets-with, mask, shares, key-length, key-refusal, key-left};
+ghost use Rattle.scheme.specs.Drawn.{list-refusal, list-left};
 ghost use Rattle.scheme.specs.Weighed.{Unreduced};
 ghost use Rattle.scheme.specs.KeyParts.{Key-input, Coefficients, block-values, Products, shares-from, Row-added, Unreduced-sums};
 ghost use Rattle.plan.specs.Plan.{plan-of};
 ghost use Rattle.element.specs.Fold.{most-word, most-product};
+
+mod drawing;
+
 use element::Q;
 use element::all_elements;
 use element::coefficient;
@@ -39,6 +44,19 @@ use plan::key_of;
 use plan::list_of;
 use plan::places_of;
 use plan::start_refusal;
+
+// Document 02, item 1, of the bytes of a noise source: "reads them as two-byte numbers, low byte first, skips each number above 65520, and
+// stops once the lent random list is full". Answers 0, or the number of the refusal, and then `list` stays as it was.
+pub fn list_from_bytes(plan: Plan, bytes: &[u8], list: &mut [u16]) -> u32
+    ensures number { λ r. ⌜ r ≡ list-refusal sixteen (plan-of plan) (now (bytes .entry)) (length (now (list .entry))) ⌝ }
+    ensures left { λ r. ⌜ now (list .exit) ≡ list-left sixteen (plan-of plan) (now (bytes .entry)) (now (list .entry)) ⌝ }
+{
+    let number = drawing::refusal(plan, bytes, list.len());
+    if number == 0 {
+        drawing::fill(bytes, list);
+    }
+    number
+}
 
 // "Key of airfield k: its L elements of S, then for each usable set holding k, in rising number, its M shares."
 // Answers 0, or the number of the refusal, and then `out` stays as it was.

@@ -1,6 +1,6 @@
 // A line of the input is a call with what it must answer; its letter names the call, its numbers follow. The second implementation
 // writes such lines (reference/src/material/vectors.rs sets them out).
-//   maker, ends, pooling       the lines of the key maker, of an airfield end, and of the service
+//   maker, ends, pooling       the lines of the key office, of an airfield end, and of the service
 //   input, reading             the input, line by line; one line
 //   Verdict, Case, Checked     whether a call answered as the line says, or what differs; what the lines of a case have made so far; both
 //   judge, agree, new_case     what differs first; a case of a plan
@@ -91,7 +91,7 @@ fn fits(letter: u8, count: usize) -> bool {
     match letter {
         b'p' => count == 5,
         b's' | b'o' | b'c' => count == 2,
-        b'k' | b'r' | b'e' | b'a' => 3 <= count,
+        b'd' | b'k' | b'r' | b'e' | b'a' => 3 <= count,
         b'f' => 4 <= count,
         b't' => 1 <= count,
         b'l' | b'y' => true,
@@ -108,6 +108,7 @@ fn check(case: Case, letter: u8, line: &[u16], lent: &mut [u16; SPACE]) -> Check
     match letter {
         b'l' => maker::lend_list(case, line, lent),
         b'y' => maker::lend_key(case, line, lent),
+        b'd' => maker::check_list(case, line, lent),
         b'k' => maker::check_key(case, line, lent),
         b's' => ends::check_start(case, line),
         b'f' => ends::check_first(case, line, lent),

@@ -3,6 +3,7 @@
 --   Pooling   demands 1 and 2: totals and the service
 --   Making    the key maker
 --   Solving   the solver
+--   Drawing   random lists from raw bytes
 pub mod Tests
 pub mod Good
 pub mod Lists
@@ -20,3 +21,4 @@ pub mod Privacy
 pub mod Pooling
 pub mod Making
 pub mod Solving
+pub mod Drawing

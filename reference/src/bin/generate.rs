@@ -2,16 +2,17 @@
 //! - `rounds`: a record stream of COUNT rounds
 //! - `damaged`: a record stream that must be refused in many places, with
 //!   COUNT random records in it
-//! - `calls`: COUNT cases for the key maker and the airfield end, and
+//! - `calls`: COUNT cases for the key maker and the airfield end,
+//! - `drawn`: COUNT cases for random lists from raw bytes, and
 //! - `whole`: COUNT cases of whole rounds, as text for the program `rounds`;
 //!   src/material/vectors.rs sets it out
 
-use reference::material::{calls, damaged, rounds, whole};
+use reference::material::{calls, damaged, drawn, rounds, whole};
 use reference::stream::to_bytes;
 use std::io::{self, BufWriter, Write};
 use std::process::ExitCode;
 
-const USAGE: &str = "usage: generate rounds|damaged|calls|whole SEED [COUNT]";
+const USAGE: &str = "usage: generate rounds|damaged|calls|drawn|whole SEED [COUNT]";
 const DEFAULT_COUNT: u32 = 20;
 
 fn main() -> io::Result<ExitCode> {
@@ -28,6 +29,7 @@ fn main() -> io::Result<ExitCode> {
         "rounds" => out.write_all(&to_bytes(&rounds::records(seed, count)))?,
         "damaged" => out.write_all(&damaged::bytes(seed, count))?,
         "calls" => calls::cases(seed, count).try_for_each(|case| write!(out, "{case}"))?,
+        "drawn" => drawn::cases(seed, count).try_for_each(|case| write!(out, "{case}"))?,
         "whole" => whole::cases(seed, count).try_for_each(|case| write!(out, "{case}"))?,
         _ => {
             eprintln!("{USAGE}");

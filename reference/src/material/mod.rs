@@ -5,12 +5,14 @@
 //! - `damaged`: streams that try every bound in every phase, and damage
 //! - `vectors`: calls with their answers as text, one a line
 //! - `calls`: cases for the key maker and the airfield end, by `vectors`
+//! - `drawn`: cases for random lists from raw bytes, by `vectors`
 //! - `whole`: whole rounds from keys to totals, by `vectors`
 //! - `all_plans`, `plan_by_seed`: every plan there is, one for each seed
 //! - `first_records`, `reply_records`: one airfield's messages as records
 
 pub mod calls;
 pub mod damaged;
+pub mod drawn;
 pub mod rounds;
 pub mod vectors;
 pub mod whole;

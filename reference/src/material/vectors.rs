@@ -10,6 +10,7 @@
 //! |---|---|
 //! | `p K U T M number` | a new case under this plan, which a new service takes |
 //! | `l list..` | the random list lent from then on |
+//! | `d room number n bytes.. list..` | a random list from n raw bytes, into a buffer of `room` elements; where it is taken, it is lent from then on |
 //! | `k airfield room number key..` | key maker, into a buffer of `room` elements; its key is lent from then on |
 //! | `y key..` | another key lent from then on |
 //! | `s airfield number` | a fresh end |
@@ -24,7 +25,7 @@
 //! The number is 0, or that of the refusal, and then no elements come back.
 //! The stage is the one after the call: 0 fresh, 1 sent, 2 + v answered v.
 
-use crate::client::{make_key, End, Stage};
+use crate::client::{list_from_bytes, make_key, End, Stage};
 use crate::field::Element;
 use crate::refusal::Refusal;
 use crate::scheme::Set;
@@ -63,6 +64,19 @@ impl Case {
     pub fn lend_list(&mut self, list: Vec<Element>) {
         self.line('l', &list);
         self.list = list;
+    }
+
+    /// After a refusal the list lent stays the one before.
+    pub fn draw_list(&mut self, bytes: &[u8], room: usize) {
+        let mut list = vec![0; room];
+        let result = list_from_bytes(self.plan, bytes, &mut list);
+        let list = if result.is_ok() { list } else { vec![] };
+        let head = [short(room), number_of(&result), short(bytes.len())];
+        let given: Vec<u16> = bytes.iter().copied().map(u16::from).collect();
+        self.line('d', &[&head, &given[..], &list].concat());
+        if result.is_ok() {
+            self.list = list;
+        }
     }
 
     pub fn make_key(&mut self, airfield: u8, room: usize) {

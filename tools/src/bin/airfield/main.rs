@@ -19,6 +19,10 @@ use std::process::ExitCode;
 use words::{Command, Figures, Number, HELP};
 
 const LARGEST: u32 = 65520;
+/// Bytes that are drawn for a list beyond two for each element, and as many more at each further try.
+const SPARE: usize = 64;
+/// How often a list is tried. With a sound source the first try fails less than once in 10 ^ 29 lists.
+const TRIES: usize = 4;
 /// Bytes of standard input that are looked through for figures: far more than a row has.
 const LONGEST_INPUT: u64 = 1 << 16;
 const NOT_COVERED: &str = "not covered: copies, backups and snapshots of it, what the disk, its file system or a swap area keeps of \
@@ -64,16 +68,25 @@ fn draw_list([k, u, t, m]: [Number; 4], file: &Path) -> Result<String, String> {
     }
     let mut identity = [0; 16];
     draw(&mut identity)?;
-    let mut elements = Vec::new();
-    while elements.len() < wanted {
-        let mut bytes = [0; 2];
-        draw(&mut bytes)?;
-        // what is no element is drawn again, so that every element is as likely as every other
-        elements.extend(Some(u16::from_le_bytes(bytes)).filter(|&element| u32::from(element) <= LARGEST));
-    }
-    let list = List { identity: Identity(identity), plan, ends: 0, elements };
+    let list = List { identity: Identity(identity), plan, ends: 0, elements: elements(plan, wanted)? };
     New::create(file, None)?.write(list.text().as_bytes())?;
     Ok(String::new())
+}
+
+/// The elements of a random list. At each try the bytes are all new, and how many is settled before they are drawn: so every list is as
+/// likely as every other. Where they run out, more are asked for.
+fn elements(plan: Plan, wanted: usize) -> Result<Vec<u16>, String> {
+    let mut elements = vec![0; wanted];
+    for tries in 1..=TRIES {
+        let mut bytes = vec![0; 2 * wanted + tries * SPARE];
+        draw(&mut bytes)?;
+        match plan.list_from_bytes(&bytes, &mut elements) {
+            Err(Refusal::BytesRunOut) => {}
+            answer => return answer.map(|()| elements).map_err(|refusal| refusal.to_string()),
+        }
+    }
+    let why = format!("in {TRIES} tries the system's source of randomness gave too few numbers up to {LARGEST}");
+    Err(refused(Refusal::BytesRunOut, &why))
 }
 
 fn draw(bytes: &mut [u8]) -> Result<(), String> {

@@ -1,0 +1,54 @@
+-- Demand 3 from raw bytes.
+--   nothing-told-of-bytes    for one plan, from demand 3 for it
+--   demand-3-of-bytes        THE THIRD DEMAND FROM RAW BYTES, modulo 65521
+-- Assumes nothing.
+use mathlib.Core.Path.{_≡_}
+use mathlib.Core.Bool.{true}
+use mathlib.Core.List.{List}
+use Prim.Native.Nat.{ℕ, _*_, _≤_}
+use native.Mathlib.Omega.{arith}
+use Rattle.scheme.specs.Scheme.{Arithmetic, sixteen, Plan}
+use Rattle.scheme.specs.Promise.{Table, list-good, Matching, Nothing-told, Demand-3}
+use Rattle.scheme.specs.Drawn.{byte}
+use Rattle.scheme.specs.Evenly.{Matched, Draws, Nothing-told-of-bytes, Demand-3-of-bytes}
+use Rattle.scheme.proofs.Privacy.Demand.{demand-3}
+use Rattle.scheme.proofs.Drawing.Draws.{draws-good, draws-left}
+use Rattle.scheme.proofs.Drawing.Partners.{Drawn-from, partners, partners-drawn}
+
+module _ (A : Arithmetic) (p : Plan) where
+  abbrev Good-list : List ℕ → Type 0
+  Good-list xs = list-good A p xs ≡ true
+
+  draws-from : (n : ℕ) → Drawn-from A p n Good-list (Draws A p n)
+  draws-from n = record {
+    good = λ xs h. h;
+    draws = λ s d. (d, draws-good A p n s d);
+    drawing = λ s d h. d;
+  }
+
+  abbrev lists-matched : {v c : ℕ} {x y : Table} → Matching A p v c x y → Matched Good-list Good-list
+  lists-matched m = record {
+    there = m .partner;
+    back = m .back;
+    there-in = λ xs h. m .stays xs h .0;
+    back-in = λ xs h. m .stays xs h .1;
+    there-back = λ xs h. m .one-to-one xs h .0;
+    back-there = λ xs h. m .one-to-one xs h .1;
+  }
+
+pub nothing-told-of-bytes : (A : Arithmetic) → A .size ≤ byte * byte → (p : Plan) → Nothing-told A p → Nothing-told-of-bytes A p
+unfolding Nothing-told Nothing-told-of-bytes
+nothing-told-of-bytes A two p told n v c x y ok lt few good-x good-y alike =
+    let m = told v c x y ok lt few good-x good-y alike in
+    let l = lists-matched A p m in
+    let f = draws-from A p n in
+    record {
+      matched = partners A two p n f f l;
+      same = λ s o o′ d e e′.
+          rw (draws-left A p n s d o e, draws-left A p n _ (partners A two p n f f l .there-in s d) o′ e′, partners-drawn A two p n f f l s d)
+          (m .same _ (draws-good A p n s d));
+    }
+
+pub demand-3-of-bytes : Demand-3-of-bytes
+unfolding Demand-3-of-bytes Demand-3
+demand-3-of-bytes p h = nothing-told-of-bytes sixteen (omega arith) p (demand-3 p h)

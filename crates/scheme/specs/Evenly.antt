@@ -1,0 +1,55 @@
+-- Raw random bytes favour no random list, so demand 3 begins at the noise source.
+--   Matched                  the byte strings of one kind and those of another, one to one
+--   Draws, Gives             a string of n bytes that the call takes; one from which it fills every lent list with the same elements
+--   Evenly-drawn             what the call leaves is a random list; it leaves each; and any two of as many byte strings of a length
+--   Byte-matching            one matching of all byte strings that are taken, under which partners show the same
+--   Nothing-told-of-bytes    demand 3 from bytes for one plan; Demand-3-of-bytes: for every plan, modulo 65521
+-- `evenly-drawn` and `demand-3-of-bytes` of proofs/Drawing/ prove them. Assumes nothing: these are definitions.
+use mathlib.Core.Path.{_≡_}
+use mathlib.Core.Bool.{true}
+use mathlib.Core.List.{List}
+use Prim.Native.Nat.{ℕ, _*_, _^_, _≤_, _<_}
+use lib.ListN.{length}
+use Rattle.scheme.specs.Scheme.{Arithmetic, sixteen, Plan, plan-good, ones, usable, list-length}
+use Rattle.scheme.specs.Promise.{Table, admissible, list-good, shown, Alike}
+use Rattle.scheme.specs.Drawn.{bytes-good, bytes-of, list-refusal, list-left}
+
+pub record Matched (P Q : List ℕ → Type 0) : Type 0 where
+  pub there : List ℕ → List ℕ
+  pub back : List ℕ → List ℕ
+  pub there-in : (s : List ℕ) → P s → Q (there s)
+  pub back-in : (s : List ℕ) → Q s → P (back s)
+  pub there-back : (s : List ℕ) → P s → back (there s) ≡ s
+  pub back-there : (s : List ℕ) → Q s → there (back s) ≡ s
+
+pub record Draws (A : Arithmetic) (p : Plan) (n : ℕ) (s : List ℕ) : Type 0 where
+  pub long : length s ≡ n
+  pub small : bytes-good s ≡ true
+  pub taken : list-refusal A p s (list-length p) ≡ 0
+
+-- whatever the lent list held
+pub record Gives (A : Arithmetic) (p : Plan) (n : ℕ) (xs s : List ℕ) : Type 0 where
+  pub draws : Draws A p n s
+  pub right : (o : List ℕ) → length o ≡ list-length p → list-left A p s o ≡ xs
+
+-- "for a fixed even length .. every full list is reached by the same number of byte strings": at every length, an odd one too
+pub record Evenly-drawn (A : Arithmetic) (p : Plan) : Type 0 where
+  pub full : (n : ℕ) (s o : List ℕ) → Draws A p n s → length o ≡ list-length p → list-good A p (list-left A p s o) ≡ true
+  pub reached : (xs : List ℕ) → list-good A p xs ≡ true → Gives A p (list-length p * 2) xs (bytes-of xs)
+  pub evenly : (n : ℕ) (xs ys : List ℕ) → list-good A p xs ≡ true → list-good A p ys ≡ true → Matched (Gives A p n xs) (Gives A p n ys)
+
+-- each byte string that is taken has exactly one partner, and what the call leaves of it shows with the first table what its partner's
+-- shows with the second, whatever lists were lent
+pub record Byte-matching (A : Arithmetic) (p : Plan) (n v c : ℕ) (x y : Table) : Type 0 where
+  pub matched : Matched (Draws A p n) (Draws A p n)
+  pub same : (s o o′ : List ℕ) → Draws A p n s → length o ≡ list-length p → length o′ ≡ list-length p
+      → shown A p v c (list-left A p s o) x ≡ shown A p v c (list-left A p (matched .there s) o′) y
+
+unfoldable pub Nothing-told-of-bytes : Arithmetic → Plan → Type 0
+Nothing-told-of-bytes A p =
+    (n v c : ℕ) (x y : Table) → usable p v ≡ true → c < 2 ^ p .users → ones (p .users) c ≤ p .collusion →
+    admissible A p x → admissible A p y → Alike A p v c x y → Byte-matching A p n v c x y
+
+-- THE THIRD DEMAND FROM RAW BYTES
+unfoldable pub Demand-3-of-bytes : Type 0
+Demand-3-of-bytes = (p : Plan) → plan-good p ≡ true → Nothing-told-of-bytes sixteen p
