@@ -1,6 +1,6 @@
 /* Document 01's example round through the library, from C: the random list from raw bytes, keys, first messages, the service, the
- * replies to set 5, the total 40, and a call for each refusal. Prints what it gets on standard error; exit status 1 where anything is
- * not as expected. */
+ * replies to set 5, the total 40, the largest figure, and a call for each refusal. Prints what it gets on standard error; exit status 1
+ * where anything is not as expected. */
 #include <inttypes.h>
 #include <stdio.h>
 #include <string.h>
@@ -8,6 +8,7 @@
 #include "cutawheno.h"
 
 enum { USERS = 3, THRESHOLD = 2, COLLUSION = 1, BLOCKS = 1, SET = 5, TOTAL = 40, ROUND = 7, LIST_LEN = 7, KEY_LEN = 4, PLACES = 1 };
+enum { BOUND = 21840 };
 
 #define PLAN USERS, THRESHOLD, COLLUSION, BLOCKS
 
@@ -229,6 +230,31 @@ static void run_end_refusals(void)
     expect_numbers("the last two stay", fresh, (uint32_t[])END_AT(CUTAWHENO_ANSWERED + SET));
 }
 
+/* What a fresh end of user 1 answers to a figure, and what is then in the buffer: the element sent, or 7 after a refusal, which leaves
+ * the end fresh. */
+static void expect_figure(const char *what, const uint16_t key[KEY_LEN], uint16_t figure, uint32_t number, uint16_t sent)
+{
+    uint32_t end[CUTAWHENO_END] = END_AT(CUTAWHENO_FRESH);
+    uint16_t message[PLACES] = {7};
+
+    expect(what, cutawheno_end_first_message(key, KEY_LEN, &figure, PLACES, message, PLACES, end), number);
+    expect_row(what, message, &sent, PLACES);
+    expect_numbers(what, end, (uint32_t[])END_AT(number == CUTAWHENO_TAKEN ? CUTAWHENO_SENT : CUTAWHENO_FRESH));
+}
+
+/* The largest figure and the next; what is no element, in figures or key, is refused as such. */
+static void run_figures(void)
+{
+    const uint16_t *key = expected_keys[0], near_q[KEY_LEN] = {65511, 154, 220, 340}, bad[KEY_LEN] = {100, 154, 220, CUTAWHENO_Q};
+
+    expect_figure("largest figure", key, BOUND, CUTAWHENO_TAKEN, 21940);
+    expect_figure("larger figure", key, BOUND + 1, CUTAWHENO_FIGURE_BEYOND, 7);
+    expect_figure("largest element", key, CUTAWHENO_Q - 1, CUTAWHENO_FIGURE_BEYOND, 7);
+    expect_figure("no element", key, CUTAWHENO_Q, CUTAWHENO_BAD_ELEMENT, 7);
+    expect_figure("larger figure, bad key", bad, BOUND + 1, CUTAWHENO_BAD_ELEMENT, 7);
+    expect_figure("figure 10 with mask 65511", near_q, 10, CUTAWHENO_TAKEN, 0);
+}
+
 /* The three report; then what is refused leaves every array as it came. */
 static void run_service_refusals(void)
 {
@@ -291,18 +317,22 @@ int main(void)
     expect("row_len", cutawheno_row_len(PLAN), PLACES);
     expect("list_len", cutawheno_list_len(PLAN), LIST_LEN);
     expect("key_len", cutawheno_key_len(PLAN), KEY_LEN);
+    expect("figure_bound", cutawheno_figure_bound(PLAN), BOUND);
     expect("list_len of 8 2 1 16", cutawheno_list_len(8, 2, 1, 16), 4080);
     expect("longest row", cutawheno_row_len(8, 7, 1, 16), CUTAWHENO_MOST_PLACES);
     expect("longest list", cutawheno_list_len(8, 4, 3, 16), CUTAWHENO_LONGEST_LIST);
     expect("longest key", cutawheno_key_len(8, 2, 1, 16), CUTAWHENO_LONGEST_KEY);
+    expect("figure_bound of 8 2 1 16", cutawheno_figure_bound(8, 2, 1, 16), 8190);
     expect("row_len of 3 2 2 1", cutawheno_row_len(3, 2, 2, 1), 0);
     expect("list_len of 3 3 1 1", cutawheno_list_len(3, 3, 1, 1), 0);
     expect("key_len of 3 2 1 17", cutawheno_key_len(3, 2, 1, 17), 0);
+    expect("figure_bound of 3 3 1 1", cutawheno_figure_bound(3, 3, 1, 1), 0);
     expect("version", CUTAWHENO_VERSION, 900);
     run_list();
     run_round();
     run_key_refusals();
     run_end_refusals();
+    run_figures();
     run_service_refusals();
     printf("C: %s\n", failures == 0 ? "the example round, as expected" : "NOT as expected");
     return failures != 0;

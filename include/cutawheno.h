@@ -1,9 +1,10 @@
-/* Key maker, airfield end and pooling service of document 01, and the random list from raw bytes of document 02, for C: the functions
- * that crates/capi exports (rt staticlib capi gives libcapi.a).
+/* Key maker, airfield end and pooling service of document 01, and of document 02 the random list from raw bytes and the bound of figures,
+ * for C: the functions that crates/capi exports (rt staticlib capi gives libcapi.a).
  *
  * A plan is four numbers: users (K), threshold (U), collusion (T) and blocks (M). A user is an airfield's number, 1 to K; a set of
  * users is a number whose bit k - 1 stands for user k. An element is a number below CUTAWHENO_Q. A row of figures, and a first
- * message, has blocks * (threshold - collusion) elements.
+ * message, has blocks * (threshold - collusion) elements. A figure is at most 65520 / users, rounded down, so that the figures of all
+ * users at one place add up to an element.
  *
  * An end is an array of CUTAWHENO_END numbers that the caller keeps and lends to each call: cutawheno_end_start makes it, whatever
  * stood there, and the other calls move its stage themselves. The array may be read and stored at any time: store it after each call
@@ -100,23 +101,24 @@ enum {
  * 10 and none from 20 to 30. */
 enum {
     CUTAWHENO_TAKEN = 0,
-    CUTAWHENO_BAD_PLAN = 1,      /* plan outside its ranges */
-    CUTAWHENO_BAD_LENGTH = 2,    /* a lent list or buffer is not of the plan's length */
-    CUTAWHENO_BAD_ELEMENT = 3,   /* an element above 65520 */
-    CUTAWHENO_BAD_USER = 4,      /* user 0 or above the plan's users */
-    CUTAWHENO_SET_UNUSABLE = 5,  /* fewer than the threshold in the set, or a user that the plan has not */
-    CUTAWHENO_NOT_IN_SET = 6,    /* the user is not in the set */
-    CUTAWHENO_BAD_PLACE = 8,     /* a place or block that the plan has not */
-    CUTAWHENO_PLAN_ORDER = 11,   /* no plan yet, or a second plan */
-    CUTAWHENO_OTHER_PHASE = 12,  /* not in this phase */
-    CUTAWHENO_HELD = 13,         /* that place or block is held already */
-    CUTAWHENO_NO_SURVIVOR = 14,  /* the user is not a survivor */
-    CUTAWHENO_TOO_FEW = 15,      /* fewer complete users than the threshold */
-    CUTAWHENO_UNEXPLAINED = 16,  /* no sums and noise explain all complete replies */
-    CUTAWHENO_OLD_ROUND = 17,    /* the round is not above the last one opened */
-    CUTAWHENO_OUT_OF_TURN = 18,  /* first message already given, or a reply asked of a fresh end */
-    CUTAWHENO_OTHER_SET = 19,    /* a set other than the one answered */
-    CUTAWHENO_BYTES_RUN_OUT = 31 /* the bytes run out before the list is full */
+    CUTAWHENO_BAD_PLAN = 1,       /* plan outside its ranges */
+    CUTAWHENO_BAD_LENGTH = 2,     /* a lent list or buffer is not of the plan's length */
+    CUTAWHENO_BAD_ELEMENT = 3,    /* an element above 65520 */
+    CUTAWHENO_BAD_USER = 4,       /* user 0 or above the plan's users */
+    CUTAWHENO_SET_UNUSABLE = 5,   /* fewer than the threshold in the set, or a user that the plan has not */
+    CUTAWHENO_NOT_IN_SET = 6,     /* the user is not in the set */
+    CUTAWHENO_BAD_PLACE = 8,      /* a place or block that the plan has not */
+    CUTAWHENO_PLAN_ORDER = 11,    /* no plan yet, or a second plan */
+    CUTAWHENO_OTHER_PHASE = 12,   /* not in this phase */
+    CUTAWHENO_HELD = 13,          /* that place or block is held already */
+    CUTAWHENO_NO_SURVIVOR = 14,   /* the user is not a survivor */
+    CUTAWHENO_TOO_FEW = 15,       /* fewer complete users than the threshold */
+    CUTAWHENO_UNEXPLAINED = 16,   /* no sums and noise explain all complete replies */
+    CUTAWHENO_OLD_ROUND = 17,     /* the round is not above the last one opened */
+    CUTAWHENO_OUT_OF_TURN = 18,   /* first message already given, or a reply asked of a fresh end */
+    CUTAWHENO_OTHER_SET = 19,     /* a set other than the one answered */
+    CUTAWHENO_BYTES_RUN_OUT = 31, /* the bytes run out before the list is full */
+    CUTAWHENO_FIGURE_BEYOND = 32  /* a figure above 65520 / users, rounded down */
 };
 
 /* What a reply answers: the refusal or 0; the shares, which are the `count` elements of the key from `start` on (none after a
@@ -145,6 +147,10 @@ uint32_t cutawheno_list_len(uint32_t users, uint32_t threshold, uint32_t collusi
 CUTAWHENO_ANSWER
 uint32_t cutawheno_key_len(uint32_t users, uint32_t threshold, uint32_t collusion, uint32_t blocks);
 
+/* The largest figure of a plan, the same for every user and place: 65520 / users, rounded down; 0 for a plan outside its ranges. */
+CUTAWHENO_ANSWER
+uint32_t cutawheno_figure_bound(uint32_t users, uint32_t threshold, uint32_t collusion, uint32_t blocks);
+
 /* Fills the random list of a plan from raw random bytes: two bytes are a number, low byte first, each number above 65520 is skipped, and
  * bytes behind the last element of the list are unused, as is a byte that stands alone. The list has cutawheno_list_len elements; the
  * bytes may have any length.
@@ -164,9 +170,9 @@ CUTAWHENO_ANSWER
 uint32_t cutawheno_end_start(uint32_t end[CUTAWHENO_END],
                              uint32_t users, uint32_t threshold, uint32_t collusion, uint32_t blocks, uint32_t user);
 
-/* Writes the first message: figures plus masks, place by place. Figures and message have cutawheno_row_len elements. The end must be
- * fresh, and has then sent.
- * Refusals, the earliest: BAD_PLAN, BAD_USER, OUT_OF_TURN, BAD_LENGTH, BAD_ELEMENT (in key or figures). */
+/* Writes the first message: figures plus masks, place by place. Figures and message have cutawheno_row_len elements, and no figure is
+ * above cutawheno_figure_bound. The end must be fresh, and has then sent.
+ * Refusals, the earliest: BAD_PLAN, BAD_USER, OUT_OF_TURN, BAD_LENGTH, BAD_ELEMENT (in key or figures), FIGURE_BEYOND. */
 CUTAWHENO_ANSWER
 uint32_t cutawheno_end_first_message(const uint16_t *key, size_t key_len, const uint16_t *figures, size_t figures_len,
                                      uint16_t *message, size_t message_len, uint32_t end[CUTAWHENO_END]);
@@ -205,7 +211,9 @@ CUTAWHENO_ANSWER
 uint32_t cutawheno_service_reply_element(const uint32_t head[CUTAWHENO_HEAD], uint16_t reply[CUTAWHENO_REPLIES],
                                          uint32_t user, uint32_t block, uint32_t element);
 
-/* Writes the survivors' total, place by place, and 0 behind the places of the plan; the service is idle then, and holds nothing.
+/* Writes the survivors' total, place by place, and 0 behind the places of the plan; the service is idle then, and holds nothing. Where
+ * all that is held of the survivors is what cutawheno_end_first_message wrote and cutawheno_end_reply told for their set, each under its
+ * user's key of one random list, this is the whole-number sum of their figures.
  * Refusals, the earliest: PLAN_ORDER, OTHER_PHASE, TOO_FEW, UNEXPLAINED. */
 CUTAWHENO_ANSWER
 uint32_t cutawheno_service_finish(uint32_t head[CUTAWHENO_HEAD], uint16_t first[CUTAWHENO_FIRSTS], uint16_t reply[CUTAWHENO_REPLIES],

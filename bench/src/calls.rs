@@ -1,7 +1,7 @@
 //! The calls: ours through the static library, beside plain Rust, and for solving beside FLINT. Function pointers hide Rust's from the
 //! compiler, so that each is called as ours are.
 use crate::cutawheno;
-use crate::fast::{self, Client, Plan, Service, Stage, MOST_PLACES, Q};
+use crate::fast::{self, Client, Plan, Service, Stage, MOST_PLACES};
 use crate::rounds::{named, Random, Round};
 use crate::timing::{duel, duel_over};
 use std::hint::black_box;
@@ -131,7 +131,7 @@ pub fn measure_finish(round: &Round, users: u32) -> [f64; 2] {
     assert_eq!(totals, rust_totals);
     for (place, &total) in totals[..round.plan.places()].iter().enumerate() {
         let sum: u32 = round.figures.iter().map(|row| row[place] as u32).sum();
-        assert_eq!(total as u32, sum % Q);
+        assert_eq!(total as u32, sum);
     }
     let rust = black_box(Service::finish as fn(&mut Service, &mut [u16; MOST_PLACES]) -> u32);
     duel_over(
@@ -167,7 +167,7 @@ pub fn measure_flint(round: &Round, users: u32) -> Option<[f64; 2]> {
     for place in 0..p.places() {
         let masks: u32 = round.keys.iter().map(|key| key[place] as u32).sum();
         let unknown = unsafe { flint_unknown(systems, place as u32 / items, place as u32 % items) };
-        assert_eq!(unknown, masks % Q);
+        assert_eq!(unknown, masks % fast::Q);
     }
     Some(duel(blocks, columns))
 }

@@ -1,5 +1,5 @@
-//! Document 01, and item 1 of document 02, in plain Rust, written for speed: the algorithms, tests and order of refusals of the proved crates.
-//! Every call answers 0, or the number of its refusal, and then changes nothing.
+//! Document 01, and items 1 and 2 of document 02, in plain Rust, written for speed: the algorithms, tests and order of refusals of the
+//! proved crates. Every call answers 0, or the number of its refusal, and then changes nothing.
 #![allow(dead_code)] // each program uses its part
 
 use std::array;
@@ -16,6 +16,9 @@ const INVERSES: [u16; 16] =
 /// The inverses of -7 to 8 modulo Q, and 1 for 0.
 const GAPS: [u16; 16] =
     [9360, 10920, 13104, 16380, 21840, 32760, 65520, 1, 1, 32761, 43681, 49141, 52417, 54601, 56161, 57331];
+
+/// The largest figures, by K.
+const BOUNDS: [u16; 16] = [0, 0, 0, 21840, 16380, 13104, 10920, 9360, 8190, 0, 0, 0, 0, 0, 0, 0];
 
 /// How many sets of K users have at least U members, and how many of these hold a given user: by K and U.
 const USABLE: [[u16; 8]; 16] = counts(0);
@@ -46,9 +49,14 @@ fn reduced(n: u64) -> u16 {
     (n % Q as u64) as u16
 }
 
-/// Test 3 without an early end, so that it goes by vectors.
+/// Without an early end, so that it goes by vectors, as differences that stop at 0 do.
+fn all_within(list: &[u16], most: u16) -> bool {
+    list.iter().fold(0, |past, &x| past | x.saturating_sub(most)) == 0
+}
+
+/// Test 3.
 fn all_elements(list: &[u16]) -> bool {
-    list.iter().fold(true, |good, &x| good & ((x as u32) < Q))
+    all_within(list, Q as u16 - 1)
 }
 
 /// K, U, T and M of document 01.
@@ -79,6 +87,11 @@ impl Plan {
 
     pub fn places(self) -> usize {
         self.blocks as usize * self.items()
+    }
+
+    /// The largest figure.
+    pub fn bound(self) -> u16 {
+        BOUNDS[self.users as usize & 15]
     }
 
     fn is_usable(self, set: u32) -> bool {
@@ -284,13 +297,16 @@ pub struct Client {
 }
 
 impl Client {
+    /// Figures within the bound are elements, so that one look at them tells of 3 and 32 where nothing is refused.
     fn first_refusal(&self, key: &[u16], figures: &[u16], room: usize) -> u32 {
         let places = || self.plan.places();
         match self.plan.start_refusal(self.user) {
             0 if !matches!(self.stage, Stage::Fresh) => 18,
             0 if key.len() != self.plan.key_len() => 2,
             0 if figures.len() != places() || room != places() => 2,
+            0 if all_within(figures, self.plan.bound()) && all_elements(key) => 0,
             0 if !all_elements(key) || !all_elements(figures) => 3,
+            0 => 32,
             number => number,
         }
     }

@@ -12,8 +12,9 @@ impl Random {
         ((self.0 >> 32) * n as u64 >> 32) as u32
     }
 
-    pub fn elements(&mut self, n: usize) -> Vec<u16> {
-        (0..n).map(|_| self.below(Q) as u16).collect()
+    /// So many numbers from 0 to `most`.
+    pub fn within(&mut self, n: usize, most: u16) -> Vec<u16> {
+        (0..n).map(|_| self.below(most as u32 + 1) as u16).collect()
     }
 }
 
@@ -39,13 +40,13 @@ pub struct Round {
 impl Round {
     pub fn new(plan: Plan, random: &mut Random) -> Round {
         let everyone = (1 << plan.users) - 1;
-        let list = random.elements(plan.list_len());
+        let list = random.within(plan.list_len(), Q as u16 - 1);
         let mut round =
             Round { plan, everyone, list, keys: vec![], figures: vec![], messages: vec![], replies: vec![] };
         for user in 1..=plan.users {
             let mut key = vec![0; plan.key_len()];
             let mut message = vec![0; plan.places()];
-            let figures = random.elements(plan.places());
+            let figures = random.within(plan.places(), plan.bound());
             let mut end = Client { plan, user, stage: Stage::Fresh };
             assert_eq!(make_key(plan, user, &round.list, &mut key), 0);
             assert_eq!(end.first_message(&key, &figures, &mut message), 0);
@@ -59,10 +60,18 @@ impl Round {
 
     /// All first elements, as user, place and element.
     pub fn firsts(&self) -> Vec<(u32, u32, u32)> {
-        let row = |(k, row): (usize, &Vec<u16>)| {
-            row.iter().enumerate().map(|(p, &x)| (k as u32 + 1, p as u32, x as u32)).collect::<Vec<_>>()
-        };
-        self.messages.iter().enumerate().flat_map(row).collect()
+        self.firsts_of(|figure| figure)
+    }
+
+    /// All first elements where each figure is changed into another.
+    fn firsts_of(&self, other: impl Fn(u32) -> u32) -> Vec<(u32, u32, u32)> {
+        let mut firsts = vec![];
+        for (k, (figures, key)) in self.figures.iter().zip(&self.keys).enumerate() {
+            for (place, (&figure, &mask)) in figures.iter().zip(key).enumerate() {
+                firsts.push((k as u32 + 1, place as u32, (other(figure as u32) + mask as u32) % Q));
+            }
+        }
+        firsts
     }
 }
 
@@ -98,16 +107,17 @@ impl Records {
         self.0.push(6);
     }
 
-    /// Round upon round, with nothing refused.
+    /// Round upon round, with nothing refused; each figure is one more than in the round before, and 0 behind the bound.
     pub fn accepted(size: usize) -> Records {
         let round = Round::new(plan(8, 2, 1, 16), &mut Random(1));
+        let figures = round.plan.bound() as u32 + 1;
         let mut records = Records::plan(round.plan);
         let mut number = 0;
         while records.0.len() < size {
             number += 1;
             records.open(number);
-            for (user, place, x) in round.firsts() {
-                records.first(user, place, (x + number) % Q);
+            for (user, place, x) in round.firsts_of(|figure| (figure + number) % figures) {
+                records.first(user, place, x);
             }
             records.close();
             for (k, row) in round.replies.iter().enumerate() {

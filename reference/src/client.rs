@@ -6,7 +6,8 @@
 //! - `make_key`: the key maker, refusals 1, 4, 2, 3
 //! - `End`, `Stage`: an airfield end, its plan, number and stage
 //! - `End::start`: a fresh end, refusals 1, 4
-//! - `End::first_message`: refusals 18, 2, 3
+//! - `End::first_message`: refusals 18, 2, 3, and 32, which document 02 adds as
+//!   item 2
 //! - `End::reply`: refusals 18, 2, 3, 5, 6, 19
 
 use crate::field::{is_element, Element};
@@ -65,7 +66,8 @@ impl End {
     }
 
     /// Writes figures plus S into a lent buffer of L elements. The key is lent
-    /// whole, so test 3 looks through its shares too.
+    /// whole, so test 3 looks through its shares too; whatever it finds, in key
+    /// or figures, comes before a figure beyond the bound.
     pub fn first_message(
         &mut self,
         key: &[Element],
@@ -78,6 +80,8 @@ impl End {
             self.key_fits(key) && figures.len() == row_length && message.len() == row_length;
         refuse_if(!lengths_fit, Refusal::Length)?;
         refuse_if(!all_elements(key) || !all_elements(figures), Refusal::NotElement)?;
+        let bound = self.plan.figure_bound();
+        refuse_if(figures.iter().any(|&figure| figure > bound), Refusal::FigureBeyond)?;
         message.copy_from_slice(&scheme::first_message(key, figures));
         self.stage = Stage::Sent;
         Ok(())

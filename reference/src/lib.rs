@@ -1,12 +1,13 @@
-//! Second implementation of document 01, and of item 1 of document 02, written
-//! from their text alone, to be run beside the first one. It goes for the
-//! obvious way everywhere: plain vectors, ordered maps, inverses by Fermat,
+//! Second implementation of document 01, and of items 1 and 2 of document 02,
+//! written from their text alone, to be run beside the first one. It goes for
+//! the obvious way everywhere: plain vectors, ordered maps, inverses by Fermat,
 //! Gaussian elimination.
 //!
 //! How the modules follow document 01:
 //! - `field`: "Plan, sets and the field", elements modulo 65521
 //! - `refusal`: the refusals, each with its number
-//! - `scheme`: the plan, usable sets, and "Keys and messages" as formulas
+//! - `scheme`: the plan with its bound on figures (document 02, item 2), usable
+//!   sets, and "Keys and messages" as formulas
 //! - `client`: key maker and airfield end, with their refusals in order, and
 //!   random lists from raw bytes (document 02, item 1)
 //! - `service`: the pooling service, with its refusals in order

@@ -3,15 +3,16 @@
 //!
 //! - `Random`: the generator
 //! - `Random::draw`, `below`, `chance`, `pick`, `shuffle`: plain draws
-//! - `Random::element`, `elements`: elements, both ends drawn often
+//! - `Random::up_to`: from 0 to a largest number, both ends drawn often
+//! - `Random::element`, `elements`: elements, drawn so
 
-use crate::field::{Element, LARGEST, Q};
+use crate::field::{Element, LARGEST};
 
 const STEP: u64 = 0x9E37_79B9_7F4A_7C15;
 const FIRST_FACTOR: u64 = 0xBF58_476D_1CE4_E5B9;
 const SECOND_FACTOR: u64 = 0x94D0_49BB_1331_11EB;
 
-/// One draw in this many is 0, another one is 65520.
+/// One draw in this many is 0, another one is the largest number.
 const ENDS_EVERY: u64 = 8;
 
 pub struct Random(u64);
@@ -48,12 +49,16 @@ impl Random {
         }
     }
 
-    pub fn element(&mut self) -> Element {
+    pub fn up_to(&mut self, largest: Element) -> Element {
         match self.draw() % ENDS_EVERY {
             0 => 0,
-            1 => LARGEST,
-            _ => self.below(usize::from(Q)) as Element,
+            1 => largest,
+            _ => self.below(usize::from(largest) + 1) as Element,
         }
+    }
+
+    pub fn element(&mut self) -> Element {
+        self.up_to(LARGEST)
     }
 
     pub fn elements(&mut self, length: usize) -> Vec<Element> {

@@ -25,6 +25,7 @@ pub enum Refusal {
     SentOrFresh = 18,
     OtherSet = 19,
     BytesRunOut = 31,
+    FigureBeyond = 32,
 }
 
 impl Refusal {

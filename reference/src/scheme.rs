@@ -1,8 +1,10 @@
 //! The plan, the sets and the formulas of "Keys and messages". Nothing here
-//! refuses anything but a plan; lengths and elements are tested by the callers.
+//! refuses anything but a plan; lengths, elements and figures are tested by the
+//! callers.
 //!
 //! - `Set`, `members`, `holds`, `set_of`: sets as numbers, bit k - 1 for k
-//! - `Plan`: K, U, T, M within their ranges, and the lengths they fix
+//! - `Plan`: K, U, T, M within their ranges, the lengths they fix, and the
+//!   largest figure (document 02, item 2)
 //! - `RandomList`: the layout of the random list
 //! - `coefficient`: the Cauchy matrix
 //! - `share`, `key`: what airfield k gets from a random list
@@ -10,7 +12,7 @@
 //! - `solve`: Gaussian elimination
 //! - `sums`, `total`: what the service makes of complete replies
 
-use crate::field::{add, inverse, mul, sub, sum, Element};
+use crate::field::{add, inverse, mul, sub, sum, Element, LARGEST};
 use crate::refusal::{refuse_if, Refusal};
 use std::ops::Range;
 
@@ -93,6 +95,11 @@ impl Plan {
     /// Item j of block m, j from 1.
     pub fn place(&self, block: usize, item: usize) -> usize {
         block * self.items() + (item - 1)
+    }
+
+    /// The largest figure, so that K figures add up to an element.
+    pub fn figure_bound(&self) -> Element {
+        LARGEST / Element::from(self.airfields)
     }
 
     pub fn has_airfield(&self, airfield: u8) -> bool {

@@ -120,12 +120,15 @@ fn other_list_shows_the_same_bytes() {
 #[test]
 fn elements_at_the_bound() {
     let mut key = KEYS[0];
+    key[0] = 65511;
+    assert_eq!(sent(&key, 1, 10).1, 0);
     key[0] = 1;
-    assert_eq!(sent(&key, 1, 65520).1, 0);
     let mut end = End::start(PLAN, 1).unwrap();
     let mut message = [9];
-    let refused = end.first_message(&key, &[65521], &mut message);
-    assert_eq!((refused, message, end.stage()), (Err(Refusal::NotElement), [9], Stage::Fresh));
+    for (figure, refusal) in [(65521, Refusal::NotElement), (65520, Refusal::FigureBeyond)] {
+        let refused = end.first_message(&key, &[figure], &mut message);
+        assert_eq!((refused, message, end.stage()), (Err(refusal), [9], Stage::Fresh));
+    }
 }
 
 #[test]

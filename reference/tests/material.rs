@@ -105,9 +105,59 @@ fn calls_reach_every_answer() {
     let text: String = calls::cases(0, CASES).collect();
     let expected = [
         "p 0", "p 1", "k 0", "k 1", "k 4", "k 2", "k 3", "s 0", "s 1", "s 4", "f 0", "f 18", "f 2",
-        "f 3", "r 0", "r 18", "r 2", "r 3", "r 5", "r 6", "r 19",
+        "f 3", "f 32", "r 0", "r 18", "r 2", "r 3", "r 5", "r 6", "r 19",
     ];
     assert_eq!(answers(&text, number_at), set(&expected));
+}
+
+/// Where a row leaves the bound, and what comes first if it leaves 65520 too.
+fn outside(figures: &[u16], bound: u16) -> &'static str {
+    let beyond = figures.iter().position(|&figure| figure > bound && figure <= 65520);
+    let no_element = figures.iter().position(|&figure| figure > 65520);
+    match (beyond, no_element) {
+        (None, None) if figures.contains(&bound) => "nowhere, and reaches it",
+        (None, None) => "nowhere",
+        (None, Some(_)) => "by no element",
+        (Some(beyond), Some(no_element)) if beyond < no_element => "before no element",
+        (Some(_), Some(_)) => "behind no element",
+        (Some(0), None) => "at the start",
+        (Some(place), None) if place == figures.len() - 1 => "at the end",
+        (Some(_), None) => "between",
+    }
+}
+
+/// First messages refused by 18 or 2 are left aside.
+#[test]
+fn first_messages_meet_the_bound() {
+    let mut bound = 0;
+    let mut met = BTreeSet::new();
+    for line in calls::cases(0, CASES).collect::<String>().lines() {
+        let numbers: Vec<u16> = line.split(' ').skip(1).map(|word| word.parse().unwrap()).collect();
+        match (&line[..1], &numbers[..]) {
+            ("p", [airfields, ..]) if *airfields > 0 => bound = 65520 / airfields,
+            ("f", [_, number, _, count, rest @ ..]) if ![18, 2].contains(number) => {
+                let figures = &rest[..usize::from(*count)];
+                met.insert(format!("{number} {}", outside(figures, bound)));
+            }
+            _ => {}
+        }
+    }
+    let expected = [
+        "0 nowhere",
+        "0 nowhere, and reaches it",
+        "3 nowhere",
+        "3 nowhere, and reaches it",
+        "3 by no element",
+        "3 before no element",
+        "3 behind no element",
+        "3 at the start",
+        "3 at the end",
+        "3 between",
+        "32 at the start",
+        "32 at the end",
+        "32 between",
+    ];
+    assert_eq!(met, set(&expected));
 }
 
 #[test]
@@ -137,6 +187,7 @@ fn whole_rounds_reach_every_answer_they_can() {
         "t 12", "t 15", "t 16",
     ];
     assert_eq!(answers(&text, number_at), set(&expected));
+    assert!(text.lines().any(|line| line.starts_with("t 0 ") && line.ends_with(" 65520")));
 }
 
 #[test]

@@ -2,8 +2,8 @@
 //! airfield ends, totals from the service.
 
 use reference::client::{make_key, End};
-use reference::field::{add, sum, Element};
-use reference::material::all_plans;
+use reference::field::{add, Element};
+use reference::material::{all_plans, table, whole_sums};
 use reference::random::Random;
 use reference::refusal::Refusal;
 use reference::scheme::{members, Plan, Set};
@@ -14,7 +14,7 @@ const PLANS: usize = 896;
 
 struct Round {
     plan: Plan,
-    figures: Vec<Vec<Element>>,
+    table: Vec<Vec<Element>>,
     survivors: Set,
     /// The reply of each survivor, in rising number.
     replies: Vec<(u8, Vec<Element>)>,
@@ -30,23 +30,21 @@ fn round(plan: Plan, random: &mut Random) -> Round {
     let mut service = Service::default();
     service.plan(plan.numbers()).unwrap();
     service.open(1).unwrap();
-    let mut figures = Vec::new();
+    let table = table(&plan, random);
     let mut replies = Vec::new();
     for airfield in members(survivors) {
         let mut key = vec![0; plan.key_length(airfield)];
         make_key(plan.numbers(), airfield, &list, &mut key).unwrap();
-        let row = random.elements(plan.row_length());
-        let mut message = vec![0; row.len()];
+        let mut message = vec![0; plan.row_length()];
         let mut end = End::start(plan.numbers(), airfield).unwrap();
-        end.first_message(&key, &row, &mut message).unwrap();
+        end.first_message(&key, &table[usize::from(airfield - 1)], &mut message).unwrap();
         for (place, &element) in (0..).zip(&message) {
             service.first_element(airfield, place, element).unwrap();
         }
-        figures.push(row);
         replies.push((airfield, end.reply(&key, survivors).unwrap().to_vec()));
     }
     assert_eq!(service.close(), Ok((1, survivors)));
-    Round { plan, figures, survivors, replies, service }
+    Round { plan, table, survivors, replies, service }
 }
 
 fn give(service: &mut Service, replies: &[(u8, Vec<Element>)]) {
@@ -67,9 +65,8 @@ fn totals_are_the_survivors_sums() {
         let spare = round.replies.len() - plan.least();
         let used = plan.least() + random.below(spare + 1);
         give(&mut round.service, &round.replies[..used]);
-        let expected =
-            (0..plan.row_length()).map(|place| sum(round.figures.iter().map(|row| row[place])));
-        assert_eq!(round.service.finish(), Ok((1, expected.collect())));
+        let expected = whole_sums(&plan, &round.table, round.survivors);
+        assert_eq!(round.service.finish(), Ok((1, expected)));
     }
 }
 

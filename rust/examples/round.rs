@@ -1,5 +1,5 @@
 //! Document 01's example round through the library, from Rust: the random list from raw bytes, keys, first messages, the service, the
-//! replies to set 5, the total 40, and some refusals. Exit status 101 where anything is not as expected.
+//! replies to set 5, the total 40, the largest figure, and some refusals. Exit status 101 where anything is not as expected.
 use cutawheno::{End, Plan, Refusal, Service, LONGEST_KEY, LONGEST_LIST, MOST_PLACES};
 
 const PLAN: Plan = Plan { users: 3, threshold: 2, collusion: 1, blocks: 1 };
@@ -78,6 +78,26 @@ fn run_list() {
     assert_eq!(list, LIST);
 }
 
+/// A first message of airfield 1 from a fresh end: the element, or the refusal, which leaves buffer and end as they were.
+fn sent(key: &[u16], figure: u16) -> Result<u16, Refusal> {
+    let mut end = End::start(PLAN, 1).unwrap();
+    let mut message = [7];
+    let answer = end.first_message(key, &[figure], &mut message);
+    assert!(answer.is_ok() || (end.numbers(), message) == ([3, 2, 1, 1, 1, 0, 0, 0], [7]));
+    answer.map(|()| message[0])
+}
+
+/// A figure of three airfields is at most 21840; one that is no element at all is refused as such, and so is a key.
+fn run_figures() {
+    assert_eq!((PLAN.figure_bound(), BAD.figure_bound()), (21840, 0));
+    assert_eq!(sent(&KEYS[0], 21840), Ok(21940));
+    assert_eq!(sent(&KEYS[0], 21841), Err(Refusal::FigureBeyond));
+    assert_eq!(sent(&KEYS[0], 65520), Err(Refusal::FigureBeyond));
+    assert_eq!(sent(&KEYS[0], 65521), Err(Refusal::BadElement));
+    assert_eq!(sent(&[100, 154, 220, 65521], 21841), Err(Refusal::BadElement));
+    assert_eq!(sent(&[65511, 154, 220, 340], 10), Ok(0));
+}
+
 /// What is refused changes nothing.
 fn run_refusals() {
     let mut key = [7; 4];
@@ -125,6 +145,7 @@ fn main() {
     assert_eq!(service.plan(PLAN), Ok(()));
     run_list();
     run_round(&mut service);
+    run_figures();
     run_refusals();
     println!("Rust: the example round, as expected");
 }

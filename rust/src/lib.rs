@@ -7,6 +7,7 @@
 //! ```
 //! use cutawheno::{End, Plan, Refusal};
 //! let plan = Plan { users: 3, threshold: 2, collusion: 1, blocks: 1 };
+//! assert_eq!(plan.figure_bound(), 21840);
 //! let mut list = vec![0; plan.list_len()];
 //! // from a noise source; 65535 is skipped
 //! plan.list_from_bytes(&[100, 0, 200, 0, 44, 1, 255, 255, 12, 0, 60, 0, 40, 0, 120, 0], &mut list)?;
@@ -78,6 +79,8 @@ pub enum Refusal {
     OtherSet = 19,
     /// The bytes run out before the list is full.
     BytesRunOut = 31,
+    /// A figure is above 65520 / K, rounded down.
+    FigureBeyond = 32,
 }
 
 impl Refusal {
@@ -106,6 +109,7 @@ impl Refusal {
             Refusal::OutOfTurn => "the first message was given already, or a reply is asked of a fresh end",
             Refusal::OtherSet => "another set was answered",
             Refusal::BytesRunOut => "the bytes run out before the list is full",
+            Refusal::FigureBeyond => "a figure is above 65520 / K, rounded down",
         }
     }
 }
@@ -167,6 +171,7 @@ extern "C" {
     fn cutawheno_row_len(users: u32, threshold: u32, collusion: u32, blocks: u32) -> u32;
     fn cutawheno_list_len(users: u32, threshold: u32, collusion: u32, blocks: u32) -> u32;
     fn cutawheno_key_len(users: u32, threshold: u32, collusion: u32, blocks: u32) -> u32;
+    fn cutawheno_figure_bound(users: u32, threshold: u32, collusion: u32, blocks: u32) -> u32;
     fn cutawheno_list_from_bytes(
         bytes: *const u8, bytes_len: usize, list: *mut u16, list_len: usize,
         users: u32, threshold: u32, collusion: u32, blocks: u32,
@@ -221,6 +226,7 @@ fn refusal(number: u32) -> Refusal {
         18 => Refusal::OutOfTurn,
         19 => Refusal::OtherSet,
         31 => Refusal::BytesRunOut,
+        32 => Refusal::FigureBeyond,
         _ => unreachable!("the calls have no other refusal"),
     }
 }
@@ -242,6 +248,12 @@ impl Plan {
     pub fn key_len(self) -> usize {
         // SAFETY: numbers alone.
         unsafe { cutawheno_key_len(self.users, self.threshold, self.collusion, self.blocks) as usize }
+    }
+
+    /// The largest figure, the same for every user and place: 65520 / K, rounded down; 0 for a plan outside its ranges.
+    pub fn figure_bound(self) -> u16 {
+        // SAFETY: numbers alone.
+        unsafe { cutawheno_figure_bound(self.users, self.threshold, self.collusion, self.blocks) as u16 }
     }
 
     /// Fills the random list from raw random bytes: two bytes are a number, low byte first, and each number above 65520 is skipped.
@@ -299,7 +311,7 @@ impl End {
         self.numbers
     }
 
-    /// Writes the first message: figures plus masks, place by place.
+    /// Writes the first message: figures plus masks, place by place. No figure may be above the plan's bound.
     pub fn first_message(&mut self, key: &[u16], figures: &[u16], message: &mut [u16]) -> Result<(), Refusal> {
         // SAFETY: pointers and lengths are those of slices, of which the written one is borrowed alone, as the array is.
         outcome(unsafe {
@@ -366,7 +378,9 @@ impl Service {
         outcome(unsafe { cutawheno_service_reply_element(&self.head, &mut self.reply, user, block, element) })
     }
 
-    /// Finishes the round: the survivors' total, one figure for each place of a row, written into the lent buffer.
+    /// Finishes the round: the survivors' total, one number for each place of a row, written into the lent buffer. Where all that is held
+    /// of the survivors came from their ends, with keys of one random list and replies to their set, it is the whole-number sum of their
+    /// figures.
     pub fn finish<'a>(&mut self, totals: &'a mut [u16; MOST_PLACES]) -> Result<&'a [u16], Refusal> {
         outcome(unsafe { cutawheno_service_finish(&mut self.head, &mut self.first, &mut self.reply, totals) })?;
         Ok(&totals[..self.head[PLACES] as usize])

@@ -1,7 +1,7 @@
 //! Whole rounds through `airfield` and `records`, and what the tools say.
 mod common;
 
-use common::{checksum, Folder, AIRFIELD, RECORDS};
+use common::{checksum, sealed, Folder, AIRFIELD, RECORDS};
 use reference::client::make_key;
 use reference::stream::run;
 use std::ffi::OsStr;
@@ -17,7 +17,7 @@ fn the_tests_checksum_is_the_one_of_iso_3309() {
 fn a_round_gives_the_survivors_total() {
     let folder = Folder::new("round");
     folder.airfield(&["list", "4", "3", "1", "2", "list"]).done();
-    let figures = [["12", "0", "7", "310"], ["3", "5", "0", "205"], ["0", "0", "1", "80"], ["9", "1", "2", "65520"]];
+    let figures = [["12", "0", "7", "310"], ["3", "5", "0", "205"], ["0", "0", "1", "80"], ["9", "1", "2", "16380"]];
     let mut told = "plan 4 3 1 2\nopen 1\n".to_string();
     for (airfield, row) in (1..).zip(figures) {
         let end = format!("end{airfield}");
@@ -33,7 +33,7 @@ fn a_round_gives_the_survivors_total() {
     let bytes = folder.with_input(RECORDS, &["encode"], told.as_bytes());
     assert_eq!((bytes.status, bytes.error.as_str()), (Some(0), ""));
     let stream = reference::text::encode(&told).unwrap();
-    assert_eq!(run(&stream), "plan 4 3 1 2\nopen 1\nsurvivors 1 13\ntotal 1 21 1 10 389\n");
+    assert_eq!(run(&stream), "plan 4 3 1 2\nopen 1\nsurvivors 1 13\ntotal 1 21 1 10 16770\n");
 }
 
 /// Shows that lists are drawn anew, and that keys are those of the second implementation.
@@ -139,8 +139,9 @@ fn the_same_asked_again_gives_the_same_bytes_and_another_is_refused() {
     }
     let other = |figures: &[&str]| folder.airfield(&[&["first", "end1"], figures].concat());
     for figures in [&["11"][..], &["65521"], &["10", "10"]] {
-        other(figures).failed(&["refused 18", "end1 has given its first message with other figures"]);
+        other(figures).failed(&["refused 18: end1 has given its first message with other figures, and a key never sends twice"]);
     }
+    other(&["21841"]).failed(&["refused 18: end1 has given its first message, which `airfield again` prints, and a key never sends twice"]);
     folder.airfield(&["reply", "end1", "1"]).failed(&["refused 5", "set 1 is airfields 1; wanted are at least 2 of 1 to 3"]);
     folder.airfield(&["reply", "end1", "6"]).failed(&["refused 6", "airfield 1 is not in set 6, which is airfields 2 3"]);
     folder.airfield(&["reply", "end1", "99999999999"]).failed(&["refused 5: set 99999999999 is above 7, which is all of airfields 1 to 3"]);
@@ -150,6 +151,47 @@ fn the_same_asked_again_gives_the_same_bytes_and_another_is_refused() {
     folder.airfield(&["reply", "end1", "7"]).failed(&["refused 19", "end1 has answered set 5"]);
     assert_eq!(folder.airfield(&["first", "end1", "10"]).done(), message);
     assert_eq!(folder.airfield(&["reply", "end1", "5"]).done(), reply);
+}
+
+/// Shows that the first figure beyond the bound is named, by its position and as it was given, and that the bound itself is taken: here
+/// 65520 / 4 is 16380.
+#[test]
+fn a_figure_beyond_the_bound_is_refused() {
+    let folder = Folder::new("bound");
+    folder.airfield(&["list", "4", "3", "1", "2", "list"]).done();
+    folder.airfield(&["key", "list", "2", "end"]).done();
+    let fresh = folder.read("end");
+    let refused = |row: &str, told: &str| {
+        let words: Vec<&str> = ["first", "end"].into_iter().chain(row.split(' ')).collect();
+        for said in [folder.airfield(&words), folder.with_input(AIRFIELD, &["first", "end"], row.as_bytes())] {
+            assert_eq!((said.status, said.output.as_str(), said.error), (Some(1), "", format!("airfield: refused {told}\n")));
+        }
+        assert_eq!((folder.read("end"), folder.names()), (fresh.clone(), vec!["end".to_string(), "list".to_string()]));
+    };
+    refused("0 0 0 65520", "32: figure 4 is 65520, above 16380, the largest for 4 airfields");
+    refused("16381 0 0 0", "32: figure 1 is 16381, above 16380, the largest for 4 airfields");
+    refused("16380 20000 65520 016381", "32: figure 2 is 20000, above 16380, the largest for 4 airfields");
+    refused("0 0 0 016381", "32: figure 4 is 016381, above 16380, the largest for 4 airfields");
+    refused("16381 0 65521 65522", "3: figure 3 is 65521, above 65520; the largest for 4 airfields is 16380");
+    refused("65536 16381 0 0", "3: figure 1 is 65536, above 65520; the largest for 4 airfields is 16380");
+    refused("16381 0 0 99999999999", "3: figure 4 is 99999999999, above 65520; the largest for 4 airfields is 16380");
+    refused("16381 0 0", "2: figures wanted 4, given 3");
+    assert_eq!(folder.airfield(&["first", "end", "16380", "0", "1", "16380"]).done(), folder.row("end", &[16380, 0, 1, 16380]));
+}
+
+/// Shows what becomes of an end that has sent a larger figure, as earlier builds let it: it sends nothing else, nothing false is said of
+/// its figures, and its round goes on.
+#[test]
+fn an_end_that_has_sent_a_larger_figure_is_kept() {
+    let folder = Folder::with_ends("earlier");
+    let message = folder.message("end1", 65520);
+    let element = message.trim_end().rsplit(' ').next().unwrap();
+    let fresh = String::from_utf8(folder.read("end1")).unwrap();
+    let body = fresh[..fresh.rfind("checksum").unwrap()].replace("stage fresh", "stage sent");
+    folder.write("end1", &sealed(&format!("{body}message {element}\n")), 0o600);
+    folder.airfield(&["first", "end1", "65520"]).failed(&["refused 18: end1 has given its first message, which `airfield again` prints"]);
+    assert_eq!(folder.airfield(&["again", "end1"]).done(), message);
+    assert!(folder.airfield(&["reply", "end1", "5"]).done().contains("reply 1 0 "));
 }
 
 /// Shows that the kept first message needs no figures to be had again, and that nothing else comes by that way.
@@ -195,7 +237,8 @@ fn refusals_say_what_was_wanted() {
 fn status_tells_the_stage_and_nothing_secret() {
     let folder = Folder::with_ends("status");
     let list = String::from_utf8(folder.read("list")).unwrap().lines().nth(1).unwrap().to_string();
-    let plan = "plan 3 2 1 1\nairfields 3, of which 2 must answer and 1 may collude; blocks 1; figures in a row 1";
+    let figures = "figures in a row 1, each at most 21840";
+    let plan = format!("plan 3 2 1 1\nairfields 3, of which 2 must answer and 1 may collude; blocks 1; {figures}");
     assert_eq!(
         folder.airfield(&["status", "list"]).done(),
         format!("random list of 7 elements\n{list}\n{plan}\nends made: airfields 1 2 3\n")

@@ -72,7 +72,7 @@ pub extern "C" fn cutawheno_end_start(
     0
 }
 
-// "First message: 18, 2, 3." A taken one leaves the end at the stage sent.
+// "First message: 18, 2, 3", and then 32. A taken one leaves the end at the stage sent.
 #[no_mangle]
 pub extern "C" fn cutawheno_end_first_message(
     key: &[u16],

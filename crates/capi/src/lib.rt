@@ -1,5 +1,6 @@
 // Random list from bytes, key maker, airfield end and pooling service for callers in C and Rust: include/cutawheno.h declares these functions.
 //   cutawheno_row_len, cutawheno_list_len, cutawheno_key_len    the lengths that a plan fixes, 0 for a plan that test 1 refuses
+//   cutawheno_figure_bound  the largest figure that a plan lets an airfield report, 0 for such a plan
 //   cutawheno_list_from_bytes, cutawheno_make_key    the random list from raw bytes; a user's key from the random list
 //   ends                    the airfield end
 //   pooling                 the pooling service
@@ -10,7 +11,7 @@ ghost use lib.ListN.{length};
 ghost use Rattle.scheme.specs.Scheme.{sixteen, key-refusal, key-left};
 ghost use Rattle.scheme.specs.Drawn.{list-refusal, list-left};
 ghost use Rattle.plan.specs.Plan.{plan-of, code-plan};
-ghost use Rattle.plan.specs.Lengths.{row-len, list-len, key-len};
+ghost use Rattle.plan.specs.Lengths.{row-len, list-len, key-len, largest-figure};
 
 pub mod ends;
 pub mod pooling;
@@ -57,6 +58,25 @@ pub extern "C" fn cutawheno_key_len(users: u32, threshold: u32, collusion: u32, 
         blocks,
     };
     plan::key_length(plan, 1) as u32
+}
+
+// The largest figure of a plan.
+#[no_mangle]
+pub extern "C" fn cutawheno_figure_bound(
+    users: u32,
+    threshold: u32,
+    collusion: u32,
+    blocks: u32,
+) -> u32
+    ensures { λ r. ⌜ r ≡ largest-figure sixteen (plan-of (code-plan users threshold collusion blocks)) ⌝ }
+{
+    let plan = Plan {
+        users,
+        threshold,
+        collusion,
+        blocks,
+    };
+    plan::figure_bound(plan)
 }
 
 // 1, 2, 31.

@@ -17,15 +17,17 @@ use Rattle.scheme.specs.Delta as Delta
 use Rattle.scheme.specs.Service as Service
 use Rattle.scheme.specs.Modular.{modular-laws}
 use Rattle.scheme.specs.Solve.{unknown-at}
+use Rattle.plan.specs.Lengths as Lengths
 use Rattle.client.specs.Client as Client
 use Rattle.service.specs.View as View
 use Rattle.service.specs.Calls as Calls
 use Rattle.finish.specs.Finish as Finish
-use Rattle.cases.specs.Cases.{drawn, key-from, key-of, message, asked, tried, planned, opened, firsts, replies, pooled, finish-tells, finish-tells-5, finish-tells-7, Cases}
+use Rattle.cases.specs.Cases.{drawn, key-from, key-of, message, sent-by, asked, tried, planned, opened, firsts, replies, pooled, finish-tells, finish-tells-5, finish-tells-7, Cases}
 
 pub cases : Cases
-unfolding drawn key-from key-of message asked tried planned opened firsts replies pooled finish-tells finish-tells-5 finish-tells-7
+unfolding drawn key-from key-of message sent-by asked tried planned opened firsts replies pooled finish-tells finish-tells-5 finish-tells-7
     sub inverse inverse-from modular-laws padded unknown-at shown
+    Lengths.largest-figure Scheme.figure-bound Scheme.within
     Lists.rank Scheme.elements Scheme.sum Scheme.plan-good Scheme.items Scheme.places Scheme.is-user Scheme.in-set Scheme.ones Scheme.usable Scheme.usable-with
     Scheme.users-in Scheme.usable-sets Scheme.sets-with Scheme.list-length Scheme.mask Scheme.noise-start Scheme.noise Scheme.column Scheme.row-value
     Scheme.share Scheme.shares Scheme.key Scheme.key-length Scheme.first-message Scheme.reply-start Scheme.reply Scheme._then_ unless
@@ -66,6 +68,14 @@ cases = record {
   list-3-left = refl;
   figure-3 = refl;
   first-3 = refl;
+  bounds = refl;
+  figure-32 = refl;
+  figure-32-left = refl;
+  three = refl;
+  eight = refl;
+  last-figure = refl;
+  three-first = refl;
+  key-first = refl;
   bytes-full = refl;
   bytes-skipped = refl;
   bytes-65520 = refl;

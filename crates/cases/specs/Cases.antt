@@ -1,8 +1,9 @@
--- The starred examples of document 01 ("Example round"), and some of raw bytes, about the definitions that the contracts name: one table, a
--- row for each example.
+-- The starred examples of document 01 ("Example round") as document 02 changes them, and some of raw bytes and of the bound on figures,
+-- about the definitions that the contracts name: one table, a row for each example.
 --   plan, random, partner-list, bad-list, figures   K, U, T, M = 3, 2, 1, 1; the random list, its partner, one that is refused; tables of figures
 --   drawn, six-numbers                              number and list that raw bytes leave of a lent list; most of the example list as bytes
 --   key-of, end-of, message                         a user's key; its airfield end; its first message
+--   sent-by                                         number and stage that a fresh end of a plan hands back
 --   handed, asked, part                             number and end handed back; what a reply to a set hands back, and its part alone
 --   tried                                           the numbers that the service and an airfield end have for a plan
 --   planned, opened, pooled, finish-tells           a service with the plan; in a round; with the replies; what its finish tells
@@ -10,10 +11,10 @@
 -- Assumes nothing: these are definitions.
 use mathlib.Core.Path.{_≡_}
 use mathlib.Core.Bool.{true}
-use mathlib.Core.List.{List, [], _∷_, map}
+use mathlib.Core.List.{List, [], _∷_, _++_, map}
 use Prim.Native.Nat.{ℕ, _≤_}
 use lib.Dec.{lit<}
-use lib.ListN.{getD, take, replicate}
+use lib.ListN.{length, getD, take, replicate}
 use Rattle.algebra.specs.Residue.{inverse}
 use Rattle.scheme.specs.Lists.{span}
 use Rattle.scheme.specs.Scheme.{q, sixteen, plan-good, list-length, key, key-length, start-refusal, key-refusal, key-left}
@@ -24,6 +25,7 @@ use Rattle.scheme.specs.Modular.{sixteen-field}
 use Rattle.solve.specs.Solve.{laws16}
 use Rattle.plan.specs.declared.Plan.{Plan}
 use Rattle.plan.specs.Plan.{plan-of, code-plan}
+use Rattle.plan.specs.Lengths.{largest-figure}
 use Rattle.client.specs.declared.Stage.{Stage}
 use Rattle.client.specs.declared.Stage.the-variants.{Fresh, Sent, Answered}
 use Rattle.client.specs.declared.Client.{Client}
@@ -71,9 +73,15 @@ key-of = key-from random
 abbrev pub end-of : (k : ℕ) → Stage → Client
 end-of k g = record { plan = plan; user = k; stage = g }
 
--- what a fresh end leaves in a buffer that held 1
+-- what a fresh end leaves in a buffer that held 7
 unfoldable pub message : (k : ℕ) → (key figures : List ℕ) → List ℕ
-message k ks fs = message-left sixteen (end-of k Fresh) ks fs (1 ∷ [])
+message k ks fs = message-left sixteen (end-of k Fresh) ks fs (7 ∷ [])
+
+-- as user 1, into a buffer of the right length
+unfoldable pub sent-by : Plan → (key figures : List ℕ) → ℕ × Stage
+sent-by p ks fs =
+    let answer = first-answer sixteen (record { plan = p; user = 1; stage = Fresh }) ks fs (length fs) in
+    (answer .number, answer .client .stage)
 
 abbrev pub handed : (number : ℕ) → Client → Moved
 handed n c = record { number = n; client = c }
@@ -143,12 +151,22 @@ pub record Cases : Type 0 where
   pub good : plan-good (plan-of plan) ≡ true
   pub partner : Delta.partner sixteen (plan-of plan) (sixteen-field 3 2 (lit< tt)) 1 (figures 10 20 30) (figures 10 25 30) random ≡ partner-list
   pub same-shown : shown sixteen (plan-of plan) 5 1 random (figures 10 20 30) ≡ shown sixteen (plan-of plan) 5 1 partner-list (figures 10 25 30)
-  -- elements: 65520 and 1 give 0; 65521 is none, for the key maker, an end and the service
-  pub sum-wraps : message 1 (1 ∷ 154 ∷ 220 ∷ 340 ∷ []) (65520 ∷ []) ≡ 0 ∷ []
+  -- elements: 10 and 65511 give 0; 65521 is none, for the key maker, an end and the service
+  pub sum-wraps : message 1 (65511 ∷ 154 ∷ 220 ∷ 340 ∷ []) (10 ∷ []) ≡ 0 ∷ []
   pub list-3 : key-refusal sixteen (plan-of plan) 1 bad-list 4 ≡ 3
   pub list-3-left : key-from bad-list 1 ≡ replicate 4 0
   pub figure-3 : first-answer sixteen (end-of 1 Fresh) (key-of 1) (65521 ∷ []) 1 ≡ handed 3 (end-of 1 Fresh)
   pub first-3 : first-step sixteen (opened 7) 1 0 65521 .number ≡ 3
+  -- figures: of three and of eight airfields the bound is taken and the next number refused; 3 of any place comes before 32
+  pub bounds : map (λ p. largest-figure sixteen (plan-of p)) (plan ∷ code-plan 4 3 1 1 ∷ code-plan 8 2 1 1 ∷ code-plan 9 2 1 1 ∷ [])
+      ≡ 21840 ∷ 16380 ∷ 8190 ∷ 0 ∷ []
+  pub figure-32 : first-answer sixteen (end-of 1 Fresh) (1 ∷ 154 ∷ 220 ∷ 340 ∷ []) (65520 ∷ []) 1 ≡ handed 32 (end-of 1 Fresh)
+  pub figure-32-left : message 1 (1 ∷ 154 ∷ 220 ∷ 340 ∷ []) (65520 ∷ []) ≡ 7 ∷ []
+  pub three : map (λ x. sent-by plan (replicate 4 0) (x ∷ [])) (21840 ∷ 21841 ∷ []) ≡ (0, Sent) ∷ (32, Fresh) ∷ []
+  pub eight : map (λ x. sent-by (code-plan 8 2 1 1) (replicate 128 0) (x ∷ [])) (8190 ∷ 8191 ∷ []) ≡ (0, Sent) ∷ (32, Fresh) ∷ []
+  pub last-figure : sent-by (code-plan 4 3 1 1) (replicate 6 0) (0 ∷ 16381 ∷ []) ≡ (32, Fresh)
+  pub three-first : map (sent-by (code-plan 4 3 1 1) (replicate 6 0)) ((16381 ∷ 65521 ∷ []) ∷ (65521 ∷ 16381 ∷ []) ∷ []) ≡ replicate 2 (3, Fresh)
+  pub key-first : sent-by plan (replicate 3 0 ++ 65521 ∷ []) (21841 ∷ []) ≡ (3, Fresh)
   -- raw bytes: 65521 to 65535 are skipped, 65520 is not; what lies behind a full list is unused; a byte that stands alone is no number
   pub bytes-full : drawn (six-numbers (120 ∷ 0 ∷ [])) ≡ (0, random)
   pub bytes-skipped : drawn (241 ∷ 255 ∷ six-numbers (255 ∷ 255 ∷ 120 ∷ 0 ∷ 241 ∷ [])) ≡ (0, random)

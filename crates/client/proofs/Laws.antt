@@ -30,7 +30,9 @@ module _ (A : Arithmetic) (p : scheme.Plan) (k : ℕ) (g : scheme.Stage) (ks fs 
   message-tests : (unless (eqb (length ks) (key-length p k) && (eqb (length fs) (places p) && eqb out (places p))) 2 ≡ 0)
       × (unless (elements A ks && elements A fs) 3 ≡ 0)
   unfolding message-refusal
-  message-tests = then-zero _ _ (then-zero _ _ (then-zero _ _ e .1) .1)
+  message-tests =
+      let l = then-zero _ _ (then-zero _ _ (then-zero _ _ e .1) .1) in
+      (l .0, then-zero _ _ (l .1) .0)
 
   message-lengths : (length ks ≡ key-length p k) × (length fs ≡ places p) × (out ≡ places p)
   message-lengths =

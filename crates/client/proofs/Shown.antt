@@ -15,11 +15,14 @@ use Rattle.scheme.proofs.Good.{good}
 use Rattle.algebra.specs.Sums.{In}
 use Rattle.scheme.specs.Scheme as scheme
 use Rattle.scheme.specs.Lists.{span}
-use Rattle.scheme.specs.Scheme.{Arithmetic, sixteen, elements, plan-good, places, in-set, usable, users-in, list-length, key, key-length, first-message, reply, is-fresh, open-to, start-refusal, key-refusal, message-refusal, unless, _then_}
-use Rattle.scheme.specs.Promise.{shown, admissible, list-good}
+use Rattle.scheme.specs.Scheme.{Arithmetic, sixteen, elements, within, plan-good, places, figure-bound, in-set, usable, users-in, list-length, key, key-length, first-message, reply, is-fresh, open-to, start-refusal, key-refusal, message-refusal, unless, _then_}
+use Rattle.scheme.specs.Promise.{shown, rows-good, list-good}
 use Rattle.scheme.proofs.Lists.{map-same, span-in, members-in}
 use Rattle.scheme.proofs.Keys.{key-is-long, key-elements, list-long, list-elements}
 use Rattle.scheme.specs.Laws.{Laws}
+use Rattle.scheme.proofs.Sums.{zero-small}
+use Rattle.scheme.proofs.Elements.{within-elements}
+use Rattle.scheme.proofs.Whole.{bound-element}
 use Rattle.scheme.proofs.Modular.{sixteen-sums}
 use Rattle.scheme.proofs.Refusals.{after-taken, start-passes}
 use Rattle.plan.specs.declared.Plan.{Plan}
@@ -40,17 +43,17 @@ unfolding key-refusal unless _then_
 key-taken A p k xs out s l e o = simp (s, eq-eqb _ _ l, eq-eqb _ _ o, e)
 
 message-taken : (A : Arithmetic) (p : scheme.Plan) (k : ℕ) (ks fs : List ℕ) (out : ℕ) → start-refusal p k ≡ 0
-    → length ks ≡ key-length p k → elements A ks ≡ true → (length fs ≡ places p) × (elements A fs ≡ true) → out ≡ places p
-    → message-refusal A p k scheme.fresh ks fs out ≡ 0
+    → length ks ≡ key-length p k → elements A ks ≡ true → length fs ≡ places p → elements A fs ≡ true → within (figure-bound A p) fs ≡ true
+    → out ≡ places p → message-refusal A p k scheme.fresh ks fs out ≡ 0
 unfolding message-refusal is-fresh unless _then_
-message-taken A p k ks fs out s l e f o = simp (s, eq-eqb _ _ l, eq-eqb _ _ (f .0), eq-eqb _ _ o, e, f .1)
+message-taken A p k ks fs out s l e f c b o = simp (s, eq-eqb _ _ l, eq-eqb _ _ f, eq-eqb _ _ o, e, c, b)
 
 -- ---- what they give: one user's calls
 pub record Inputs-right (A : Arithmetic) (p : Plan) (xs : List ℕ) (k : ℕ) (fs ko o : List ℕ) : Type 0 where
   pub good-plan : plan-good (plan-of p) ≡ true
   pub good-list : list-good A (plan-of p) xs ≡ true
   pub user : (1 ≤ k) × (k ≤ p .users)
-  pub figures : (length fs ≡ places (plan-of p)) × (elements A fs ≡ true)
+  pub figures : (length fs ≡ places (plan-of p)) × (within (figure-bound A (plan-of p)) fs ≡ true)
   pub room : (length ko ≡ key-length (plan-of p) k) × (length o ≡ places (plan-of p))
 
 module _ (A : Arithmetic) {n m : ℕ} (L : Laws A n m) (p : Plan) (xs : List ℕ) (v k : ℕ) (fs ko o : List ℕ) (r : Inputs-right A p xs k fs ko o) where
@@ -73,7 +76,9 @@ module _ (A : Arithmetic) {n m : ℕ} (L : Laws A n m) (p : Plan) (xs : List ℕ
   makes = key-taken A (plan-of p) k xs (length ko) begun (list-long A (plan-of p) xs (r .good-list)) pure (r .room .0)
 
   sends : message-refusal A (plan-of p) k scheme.fresh ks fs (length o) ≡ 0
-  sends = message-taken A (plan-of p) k ks fs (length o) begun long clean (r .figures) (r .room .1)
+  sends =
+      let small = within-elements A (zero-small A n m L) _ (bound-element A (plan-of p)) fs (r .figures .1) in
+      message-taken A (plan-of p) k ks fs (length o) begun long clean (r .figures .0) small (r .figures .1) (r .room .1)
 
   taken : calls A p xs fs v k ko o ≡ client-calls A (some (record { plan = p; user = k; stage = Fresh })) ks fs v o
   unfolding calls
@@ -95,7 +100,7 @@ module _ (A : Arithmetic) {n m : ℕ} (L : Laws A n m) (p : Plan) (xs : List ℕ
       ∙ after-taken (reply-taken a scheme.sent refl refl) _ _
 
 pub calls-show : (A : Arithmetic) {n m : ℕ} → Laws A n m → Shown-is-sent A
-unfolding Shown-is-sent shown admissible users-in
+unfolding Shown-is-sent shown rows-good users-in
 calls-show A L p v c xs x ko o good u ok rows room =
     let ready : (k : ℕ) → 1 ≤ k → k ≤ p .users → Inputs-right A p xs k (x k) (ko k) (o k) = λ k lo hi.
     record { good-plan = good; good-list = ok; user = (lo, hi); figures = rows k lo hi; room = room k lo hi } in

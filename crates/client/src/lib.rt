@@ -123,7 +123,8 @@ impl Client {
         Start::Started(client)
     }
 
-    // 18, 2, 3, of a first message into a buffer of `room` elements; 1 and 4 only of an end that start has not made.
+    // 18, 2, 3, 32, of a first message into a buffer of `room` elements; 1 and 4 only of an end that start has not made. Figures within
+    // the bound are elements, so that one look at them tells of both.
     fn first_refusal(self, key: &[u16], figures: &[u16], room: usize) -> u32
         ensures { λ r. ⌜ r ≡ first-refusal sixteen self (now (key .entry)) (now (figures .entry)) room ⌝ }
     {
@@ -150,10 +151,13 @@ impl Client {
         if !element::all_elements(key) {
             return 3;
         }
+        if element::all_within(figures, plan::bound_of(plan)) {
+            return 0;
+        }
         if !element::all_elements(figures) {
             return 3;
         }
-        0
+        32
     }
 
     // "First message: figures plus S, place by place."

@@ -14,9 +14,9 @@ use lib.ListN.{length, getD}
 use borrow.Author.Tests.{eqb-true}
 use Rattle.scheme.specs.Lists.{span}
 use Rattle.scheme.specs.Scheme.{sixteen, plan-good, places, in-set, list-length, key, first-message, reply, total-at}
-use Rattle.scheme.specs.Promise.{Table, admissible, list-good}
+use Rattle.scheme.specs.Promise.{Table, rows-good, list-good}
 use Rattle.scheme.specs.Good.{Good}
-use Rattle.scheme.specs.Totals.{Follows, One-choice, Rules-explain, Totals-right}
+use Rattle.scheme.specs.Totals.{Follows, One-choice, Rules-explain, Residues-right}
 use Rattle.scheme.specs.Service.{replied, finish-record, refusal, values, explained-by, totals-by}
 use Rattle.scheme.proofs.Tests.{and-both, holds}
 use Rattle.scheme.proofs.Good.{good}
@@ -32,7 +32,7 @@ use Rattle.document03.specs.Promise as P
 use Rattle.document03.proofs.Sets.{plan-good-same, places-same, in-set-same, usable-same}
 use Rattle.document03.proofs.Shares.{total-at-same}
 use Rattle.document03.proofs.Keys.{key-same, places-in-key, first-message-same, reply-same}
-use Rattle.document03.proofs.Shown.{list-good-same, admissible-same}
+use Rattle.document03.proofs.Shown.{list-good-same, rows-same}
 use Rattle.document03.proofs.State.{held-same, held-value-same, replied-same, refusal-same}
 use Rattle.document03.proofs.Explains.{explained-same, totals-same}
 
@@ -115,7 +115,7 @@ module _ (s : S.State) (xs : List ℕ) (x : Table) (pg : D.plan-good (s .plan-of
   ok = sym (list-good-same p xs) ∙ lg
 
   follows : Follows sixteen (our-plan p) xs x (s .survivors) (replied (our-state s)) (values (our-held (s .firsts))) (values (our-held (s .replies)))
-  unfolding p P.within replied list-good admissible
+  unfolding p P.within replied list-good rows-good
   follows = record { first = first; survives = survives; answer = answer }
     where
       g : Good (our-plan p)
@@ -135,7 +135,7 @@ module _ (s : S.State) (xs : List ℕ) (x : Table) (pg : D.plan-good (s .plan-of
           sym (held-value-same k i (s .firsts)) ∙ true-state .firsts k i (in-set-same (s .survivors) k ∙ e) (rw (places-same p) l)
           ∙ ap (λ (m : List ℕ). getD m i 0)
           (ap (λ ks. D.first-message p ks (x k)) (key-same p g xs k lo hi long)
-          ∙ first-message-same p (key sixteen (our-plan p) xs k) (x k) (admissible-same p x ax k lo hi .0) (places-in-key p xs k))
+          ∙ first-message-same p (key sixteen (our-plan p) xs k) (x k) (rows-same p x ax k lo hi .0) (places-in-key p xs k))
 
       answer : (k b : ℕ) → 1 ≤ k → k ≤ p .k → in-set (replied (our-state s)) k ≡ true → b < p .m
           → values (our-held (s .replies)) k b ≡ getD (reply (our-plan p) (key sixteen (our-plan p) xs k) k (s .survivors)) b 0
@@ -149,7 +149,7 @@ module _ (s : S.State) (xs : List ℕ) (x : Table) (pg : D.plan-good (s .plan-of
           ∙ reply-same p (key sixteen (our-plan p) xs k) k (s .survivors) (sym (usable-same p (s .survivors)) ∙ true-state .set) i)
 
   told : (t : S.State) (l : S.Line) → S.Steps S.finish-round s l t → l ≡ S.told-total (s .round) (P.survivor-totals (D.places p) 0 p x (s .survivors))
-  unfolding p S.record-refusal S.quick explained-by totals-by Rules-explain Totals-right
+  unfolding p S.record-refusal S.quick explained-by totals-by Rules-explain Residues-right
   told _ _ (S.turned-away _ _ n e) = absurd (omega arith)
   told _ _ (S.taken _ _ h e) = absurd (holds h)
   told _ _ (S.summed _ f e h) =
@@ -157,7 +157,7 @@ module _ (s : S.State) (xs : List ℕ) (x : Table) (pg : D.plan-good (s .plan-of
       let a : explained-by sixteen (our-state s) f ≡ true = sym (explained-same s (good (our-plan p) k) f) ∙ h in
       ap (S.told-total (s .round))
       (totals-same s (good (our-plan p) k) f a
-      ∙ Totals.totals-right sixteen (our-plan p) (sixteen-laws (our-plan p) k) xs x (s .survivors) (replied (our-state s)) _ _ f ok (admissible-same p x ax)
+      ∙ Totals.residues-right sixteen (our-plan p) (sixteen-laws (our-plan p) k) xs x (s .survivors) (replied (our-state s)) _ _ f ok
       (sym (usable-same p (s .survivors)) ∙ true-state .set) (finishing sixteen (our-state s) (finish-same s fine) .many) follows a
       ∙ sym (ap (λ (n : ℕ). P.survivor-totals n 0 p x (s .survivors)) (places-same p) ∙ survivor-totals-same (places (our-plan p)) 0 p x (s .survivors)))
   told _ _ (S.unexplained _ e h) =

@@ -8,5 +8,6 @@ pub mod Says
 pub mod State
 pub mod Explains
 pub mod Answers
+pub mod Counts
 pub mod Steps
 pub mod Always

@@ -19,7 +19,7 @@ use Rattle.document03.specs.Ours.{our-plan}
 use Rattle.document03.specs.Scheme as D
 use Rattle.document03.specs.Entry as E
 use Rattle.document03.proofs.Sets.{plan-good-same, places-same, in-set-same, usable-same, list-long-same, key-long-same}
-use Rattle.document03.proofs.Shown.{elements-same}
+use Rattle.document03.proofs.Shown.{elements-same, figures-same}
 
 -- ---- a chain of refusals: cond .. and ours by then and unless
 pub refuse : (n : ℕ) {a b : Bool} {x y : ℕ} → a ≡ b → x ≡ y → cond (not a) (suc n) x ≡ (unless b (suc n) then y)
@@ -92,7 +92,7 @@ message-refusal-same p k g ks fs o =
     refuse-start (start-refusal-same p k)
     (refuse _ (fresh-same g)
     (refuse _ (ap₂ (λ (m n : ℕ). eqb (length ks) m && (eqb (length fs) n && eqb o n)) (key-long-same p k) (places-same p))
-    (refuse-last _ (ap₂ (λ (a b : Bool). a && b) (elements-same ks) (elements-same fs)))))
+    (refuse _ (ap₂ (λ (a b : Bool). a && b) (elements-same ks) (elements-same fs)) (refuse-last _ (figures-same p fs)))))
 
 -- a fresh end is refused before its set is looked at
 refuse-fresh : (g : ℕ) {x y : ℕ} → (1 ≤ g → x ≡ y) → cond (eqb g 0) 18 x ≡ (unless (not (is-fresh (stage-of-number g))) 18 then y)

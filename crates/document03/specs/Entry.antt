@@ -1,4 +1,4 @@
--- Document 03's specs/Entry.antt, word for word.
+-- Document 03's specs/Entry.antt, word for word but for message-refusal, where document 02's item 2 puts 32 after 3.
 -- What the key maker, the first message and the reply answer and leave behind. Assumes nothing: these are definitions.
 use mathlib.Core.Path.{_≡_}
 use mathlib.Core.Bool.{Bool, true, false, _&&_, _||_, not, cond}
@@ -9,6 +9,7 @@ use lib.Dec.{ltb, leb, eqb}
 use lib.ListN.{length, getD, set, take, drop, replicate}
 use Rattle.document03.specs.Scheme.{q, Plan, plan, plan-good, places, in-set, usable, list-long, key, key-long, first-message, reply-start}
 use Rattle.document03.specs.Service.{elements-good}
+use Rattle.document03.specs.Counts.{figures-good}
 use Rattle.document03.specs.declared.Part.{Part}
 use Rattle.document03.specs.declared.Sent.{Sent}
 
@@ -30,13 +31,13 @@ Key-says k u t m a xs r o z = Put-says (key-refusal (plan k u t m) a xs (length 
 unfoldable pub start-refusal : Plan → (k : ℕ) → ℕ
 start-refusal p k = cond (not (plan-good p)) 1 (cond (eqb k 0 || ltb (p .k) k) 4 0)
 
--- first message, of an end of a plan: 18, 2, 3
+-- first message, of an end of a plan: 18, 2, 3, 32
 unfoldable pub message-refusal : Plan → (k stage : ℕ) → (key figures : List ℕ) → (out : ℕ) → ℕ
 message-refusal p k g ks fs o =
     cond (not (eqb (start-refusal p k) 0)) (start-refusal p k)
     (cond (not (eqb g 0)) 18
     (cond (not (eqb (length ks) (key-long p k) && (eqb (length fs) (places p) && eqb o (places p)))) 2
-    (cond (elements-good ks && elements-good fs) 0 3)))
+    (cond (not (elements-good ks && elements-good fs)) 3 (cond (figures-good p fs) 0 32))))
 
 -- a sent message leaves the end at stage 1, a refused one where it was
 unfoldable pub Sent-says : (refusal : ℕ) → (words : List ℕ) → (stage : ℕ) → Sent → (out out-now : List ℕ) → Type 0

@@ -1,5 +1,5 @@
 // Document 03 beside our own definitions: its text in specs/, its statements from ours in proofs/, and its three functions with its
-// contracts, word for word, over our own calls. No crate depends on this one.
+// contracts, word for word but for 32, over our own calls. No crate depends on this one.
 //   Part, Sent                              what its contracts name
 //   make_key, first_message, reply_part     its functions: an end's plan, number and stage are arguments
 //   client_of                               the end that these arguments tell

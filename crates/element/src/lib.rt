@@ -3,12 +3,13 @@
 //   add, multiply             of two elements; of any two 16-bit numbers, through wider integers
 //   reduce, folded            n % Q and a product without a division
 //   inverse_of, coefficient   the inverses of the numbers below points
-//   excess, all_elements      how far a number is past the last element; test 3 of document 01
+//   past, all_within          how far a number is past the most; that no number of a list is
+//   excess, all_elements      the same of the last element: test 3 of document 01
 ghost use mathlib.Core.Path.{_≡_};
 ghost use Prim.Native.Nat.{_+_, _-_, _*_, _%_, _≤_, _<_};
 ghost use Rattle.algebra.specs.Residue.{inverse};
 ghost use Rattle.scheme.specs.Limits.{points};
-ghost use Rattle.scheme.specs.Scheme.{q, sixteen, elements};
+ghost use Rattle.scheme.specs.Scheme.{q, sixteen, elements, within};
 ghost use Rattle.element.specs.Fold.{word, fold, most-folded, reducible};
 
 pub const Q: u32 = 65521;
@@ -95,25 +96,39 @@ pub fn coefficient(user: u32, column: u32) -> u16
     inverse_of(user + column)
 }
 
-// How far x is past the last element: 0 of an element.
-pub fn excess(x: u16) -> u16
-    ensures { λ r. ⌜ r ≡ x - (q - 1) ⌝ }
+// How far x is past the most: 0 of a number that is not above it.
+fn past(x: u16, most: u16) -> u16
+    ensures { λ r. ⌜ r ≡ x - most ⌝ }
 {
-    if LAST < x {
-        return x - LAST;
+    if most < x {
+        return x - most;
     }
     0
 }
 
-// "Test 3 looks through every list lent to be read, whole." Without an early end many numbers are tested at a time.
+// How far x is past the last element: 0 of an element.
+pub fn excess(x: u16) -> u16
+    ensures { λ r. ⌜ r ≡ x - (q - 1) ⌝ }
+{
+    past(x, LAST)
+}
+
+// Whether no number of a list is above the most. Without an early end many numbers are tested at a time.
+pub fn all_within(list: &[u16], most: u16) -> bool
+    ensures { λ r. ⌜ r ≡ within most (now (list .entry)) ⌝ }
+{
+    let mut beyond: u16 = 0;
+    let mut i = 0;
+    while i < list.len() {
+        beyond = beyond | past(list[i], most);
+        i += 1;
+    }
+    beyond == 0
+}
+
+// "Test 3 looks through every list lent to be read, whole."
 pub fn all_elements(list: &[u16]) -> bool
     ensures { λ r. ⌜ r ≡ elements sixteen (now (list .entry)) ⌝ }
 {
-    let mut past: u16 = 0;
-    let mut i = 0;
-    while i < list.len() {
-        past = past | excess(list[i]);
-        i += 1;
-    }
-    past == 0
+    all_within(list, LAST)
 }

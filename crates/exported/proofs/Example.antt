@@ -24,6 +24,7 @@ use Rattle.exported.specs.Example.{example-given, example-calls, Example
 
 pub example-right : Example-right
 unfolding inverse inverse-from modular-laws padded unknown-at
+    Scheme.figure-bound Scheme.within
     Lists.rank Scheme.elements Scheme.sum Scheme.plan-good Scheme.items Scheme.places Scheme.is-user Scheme.in-set Scheme.ones Scheme.usable Scheme.usable-with
     Scheme.users-in Scheme.usable-sets Scheme.sets-with Scheme.list-length Scheme.mask Scheme.noise-start Scheme.noise Scheme.column Scheme.row-value
     Scheme.share Scheme.shares Scheme.key Scheme.key-length Scheme.first-message Scheme.reply-start Scheme._then_ unless

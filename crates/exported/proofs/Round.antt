@@ -96,7 +96,7 @@ pub round-right : Round-right
 unfolding Round-right run number-of finish-step finish-answer finish-totals Survived Same-given gathered replied view filled round.Round-right
 round-right before cs r xs x lent o e n11 n12 n15 ok rows room sent =
     let done = round-proved.round-right-sixteen s xs x (λ k. lent k .key-buffer) (λ k. lent k .buffer) formed (f .untested) ok rows room held in
-    (done .0, after-taken (done .0) _ o ∙ totals-padded sixteen laws16 s _ (done .0) ∙ ap (padded most-places) (done .1))
+    (done .0, after-taken (done .0) _ o ∙ totals-padded sixteen laws16 s _ (done .0) ∙ ap (padded most-places) (done .1), done .2)
   where
     start : Arrays
     start = run before zeros

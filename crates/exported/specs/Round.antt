@@ -1,5 +1,5 @@
 -- Demand 2 from end to end on lent memory: what the exported calls of the airfields give, put in by the exported calls of the service,
--- finishes as the survivors' total.
+-- finishes as the survivors' whole-number total.
 --   Each-taken         a fact of each call of a list that is taken where it comes, refused ones left out
 --   First-of, Reply-of the records that carry an element of a user carry those of its first message, of its part
 --   Sent-in            what is taken of the survivors' first messages, and of the replies of those that replied whole, is what their calls gave
@@ -14,8 +14,9 @@ use Prim.Native.Nat.{ℕ, _≤_}
 use lib.ListN.{getD}
 use Rattle.scheme.specs.Limits.{most-places}
 use Rattle.scheme.specs.Lists.{filled}
-use Rattle.scheme.specs.Scheme.{sixteen, places, in-set, total-at}
+use Rattle.scheme.specs.Scheme.{sixteen, places, in-set, whole-total}
 use Rattle.scheme.specs.Promise.{Table, admissible, list-good}
+use Rattle.scheme.specs.Totals.{Totals-fit}
 use Rattle.scheme.specs.Service.{Record, plan-record, open-record, first-record, close-record, reply-record, finish-record, replied}
 use Rattle.plan.specs.Plan.{plan-of}
 use Rattle.client.specs.Shown.{Handed}
@@ -51,8 +52,8 @@ pub record Sent-in (round : List Call) (opened : Arrays) (given : (k : ℕ) → 
   pub answer : let a = run round opened in (k : ℕ) → 1 ≤ k → k ≤ plan-in a .users → in-set (replied (view (state a))) k ≡ true →
       Each-taken (Reply-of k (given k .part)) round opened
 
--- where finish is not refused by 11, 12 or 15, it answers 0 and leaves in the lent buffer the sums of the survivors' figures, place by
--- place, and 0 behind them
+-- where finish is not refused by 11, 12 or 15, it answers 0 and leaves in the lent buffer the whole-number sums of the survivors'
+-- figures, place by place, each at most 65520, and 0 behind them
 unfoldable pub Round-right : Type 0
 Round-right =
     (before round : List Call) (r : ℕ) (xs : List ℕ) (x : Table) (lent : (k : ℕ) → Lent) (o : List ℕ) →
@@ -64,4 +65,4 @@ Round-right =
     let n = number-of (finish-call o) a in
     n ≢ 11 → n ≢ 12 → n ≢ 15 → list-good sixteen (plan-of p) xs ≡ true → admissible sixteen (plan-of p) x →
     ((k : ℕ) → 1 ≤ k → k ≤ p .users → Room p k (lent k)) → Sent-in round opened (λ k. calls p xs (x k) v k (lent k)) →
-    (n ≡ 0) × (finish-totals a o ≡ filled most-places (places (plan-of p)) (total-at sixteen (plan-of p) x v))
+    (n ≡ 0) × (finish-totals a o ≡ filled most-places (places (plan-of p)) (whole-total (plan-of p) x v)) × Totals-fit sixteen (plan-of p) x v

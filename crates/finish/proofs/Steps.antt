@@ -3,7 +3,7 @@
 --   totals-padded     behind them its totals are 0
 --   finish-same       on a well-formed state the guard never acts
 --   choice-explains   where anything explains the replies, the closed solution does
---   finish-steps, finish-right, refused-unchanged     the statements of specs/Promise.antt
+--   finish-steps, finish-right, finish-residues, refused-unchanged     the statements of specs/Promise.antt
 -- Assumes nothing.
 use mathlib.Core.Path.{_≡_, refl, sym, ap, _∙_, subst}
 use mathlib.Core.Bool.{Bool, true, false}
@@ -14,13 +14,14 @@ use lib.ListN.{length, take}
 use Rattle.scheme.specs.Limits.{most-users, most-threshold, most-blocks, most-places, firsts, cells}
 use Rattle.scheme.specs.Lists.{padded, filled}
 use Rattle.scheme.specs.Scheme.{Arithmetic, Plan, places, users-in, _then_, unless, after}
-use Rattle.scheme.specs.Laws.{Laws}
+use Rattle.scheme.specs.Laws.{Laws, Adds-whole}
 use Rattle.scheme.specs.Totals.{totals}
 use Rattle.scheme.specs.ServicePromise as promise
 use Rattle.scheme.specs.Service.{replied, values, explained-by, totals-by, finish-record, totalled, refusal, idle-state, next-state, totals-up, disagrees}
 use Rattle.scheme.proofs.Tests.{holds}
 use Rattle.scheme.proofs.Padded.{filled-take}
 use Rattle.scheme.proofs.Good.{good}
+use Rattle.scheme.proofs.Whole.{total-fits, totals-whole}
 use Rattle.scheme.proofs.Refusals.{then-taken, then-zero, then-same, then-assoc, unless-held, after-taken}
 use Rattle.scheme.proofs.Laws.{laws-of}
 use Rattle.scheme.proofs.Pooling.Totals.{Explained, explained, explained-back, settled}
@@ -35,7 +36,7 @@ use Rattle.service.proofs.View.{look-nothing}
 use Rattle.service.proofs.Same.{state-same}
 use Rattle.service.proofs.Steps.{refuse, take as take-step, first-long, reply-long}
 use Rattle.finish.specs.Finish.{choice, finish-refusal, finished, finish-answer, finish-step}
-use Rattle.finish.specs.Promise.{Finish-steps, Finish-right, Refused-unchanged}
+use Rattle.finish.specs.Promise.{Finish-steps, Finish-right, Finish-residues, Refused-unchanged}
 use Rattle.finish.proofs.Blocks.{values-small, choice-first}
 use Rattle.finish.proofs.Answers.{finish-refuses, Passed}
 
@@ -112,12 +113,20 @@ module _ (A : Arithmetic) (L : Laws A most-users most-threshold) where
   unfolding Finish-steps finish-step
   finish-steps s w = subst (Answers s w) (sym (finish-same s w)) (answers s w _ _ refl refl)
 
-  pub finish-right : Finish-right A L
-  unfolding Finish-right Finish-steps finish-step finish-answer promise.Finish-right view filled
-  finish-right s xs x w e ok ax rules =
+  pub finish-residues : Finish-residues A L
+  unfolding Finish-residues Finish-steps finish-step finish-answer promise.Finish-residues view filled
+  finish-residues s xs x w e ok rules =
       let h = finish-steps s w in
-      let t = told-totalled _ _ _ _ (service.finish-right A (laws-of L) (view s) _ _ xs x (w .well) e ok ax rules (h .step)) in
+      let t = told-totalled _ _ _ _ (service.finish-residues A (laws-of L) (view s) _ _ xs x (w .well) e ok rules (h .step)) in
       (t .0, totals-padded s _ (t .0) ∙ ap (padded most-places) (t .1))
+
+  pub finish-right : Adds-whole A → Finish-right A L
+  unfolding Finish-right Finish-residues filled
+  finish-right adds s xs x w e ok ax rules =
+      let p = plan-of (s .head .plan) in
+      let v = s .head .survivors in
+      let t = finish-residues s xs x w e ok rules in
+      (t .0, t .1 ∙ ap (padded most-places) (totals-whole A p x ax v adds), total-fits A p x ax v)
 
   pub refused-unchanged : Refused-unchanged A L
   unfolding Refused-unchanged finish-step finish-answer

@@ -1,6 +1,7 @@
 -- That finish is the step of document 01's service, and that a refused one leaves the state as it was, over an arithmetic with its laws.
 --   Finish-steps      on a well-formed state: the step that names what explains the replies, never the solver
---   Finish-right      complete replies that follow the rules give the survivors' total
+--   Finish-right      complete replies that follow the rules give the survivors' whole-number total
+--   Finish-residues   behind it: of any table, the total in the arithmetic
 --   Refused-unchanged "a refusal hands back its number alone": no totals, and the state as it was, whatever it was
 -- Assumes nothing: these are definitions.
 use mathlib.Core.Path.{_≡_}
@@ -11,10 +12,10 @@ use Prim.Native.Nat.{ℕ}
 use lib.ListN.{take}
 use Rattle.scheme.specs.Limits.{most-users, most-threshold, most-places}
 use Rattle.scheme.specs.Lists.{filled}
-use Rattle.scheme.specs.Scheme.{Arithmetic, places, total-at}
+use Rattle.scheme.specs.Scheme.{Arithmetic, places, total-at, whole-total}
 use Rattle.scheme.specs.Laws.{Laws}
 use Rattle.scheme.specs.Promise.{Table, admissible, list-good}
-use Rattle.scheme.specs.Totals.{Follows}
+use Rattle.scheme.specs.Totals.{Follows, Totals-fit}
 use Rattle.scheme.specs.Service.{finish-record, totalled, refusal, replied, values}
 use Rattle.plan.specs.Plan.{plan-of}
 use Rattle.service.specs.declared.Service.{Service}
@@ -36,6 +37,15 @@ module _ (A : Arithmetic) (L : Laws A most-users most-threshold) where
       let p = plan-of (s .head .plan) in
       let t = finish-step A L s in
       Formed A s → refusal A finish-record (view s) ≡ 0 → list-good A p xs ≡ true → admissible A p x →
+      Follows A p xs x (s .head .survivors) (replied (view s)) (values (view s .firsts)) (values (view s .replies)) →
+      (t .number ≡ 0) × (t .totals ≡ filled most-places (places p) (whole-total p x (s .head .survivors))) × Totals-fit A p x (s .head .survivors)
+
+  unfoldable pub Finish-residues : Type 0
+  Finish-residues =
+      (s : Service) (xs : List ℕ) (x : Table) →
+      let p = plan-of (s .head .plan) in
+      let t = finish-step A L s in
+      Formed A s → refusal A finish-record (view s) ≡ 0 → list-good A p xs ≡ true →
       Follows A p xs x (s .head .survivors) (replied (view s)) (values (view s .firsts)) (values (view s .replies)) →
       (t .number ≡ 0) × (t .totals ≡ filled most-places (places p) (total-at A p x (s .head .survivors)))
 

@@ -6,6 +6,7 @@
 //   holds, is_usable, has_enough, is_usable_with      sets of users
 //   row_length, list_length, key_length               how long lent lists are: 0 for what tests 1 and 4 refuse
 //   places_of, list_of, key_of                        the same of what those tests have let pass
+//   figure_bound, bound_of                            the largest figure: 0 for what test 1 refuses; of what it has let pass
 //   count_sets, reply_start                           how many sets; where a reply lies in the key
 // Document 01's airfield is a user here. What has a `requires` is for plans that passed test 1.
 ghost use mathlib.Core.Path.{_≡_};
@@ -13,12 +14,12 @@ ghost use Prim.Native.Nat.{_+_, _*_, _^_, _≤_, _<_};
 ghost use lib.ListN.{length};
 ghost use Rattle.scheme.specs.Limits.{most-users, most-places, most-sets, most-list, most-key};
 ghost use Rattle.scheme.specs.Lists.{rank};
-ghost use Rattle.scheme.specs.Scheme.{plan-good, start-refusal, in-set, usable, usable-with, usable-sets, sets-with, places, list-length, key-length, reply-start};
+ghost use Rattle.scheme.specs.Scheme.{sixteen, plan-good, figure-bound, start-refusal, in-set, usable, usable-with, usable-sets, sets-with, places, list-length, key-length, reply-start};
 ghost use Rattle.scheme.specs.Good.{Good};
 ghost use Rattle.plan.specs.Plan.{plan-of};
 ghost use Rattle.plan.specs.Limits.{document-limits};
 ghost use Rattle.plan.specs.Counts.{fewest, counts, sets-of, sets-rule};
-ghost use Rattle.plan.specs.Lengths.{row-len, list-len, key-len};
+ghost use Rattle.plan.specs.Lengths.{row-len, list-len, key-len, largest-figure};
 
 // "K airfields, 3 to 8 .. T at least 1 .. M blocks, 1 to 16"
 pub const LEAST_USERS: u32 = 3;
@@ -320,6 +321,14 @@ pub fn key_of(p: Plan, user: u32) -> usize
     places_of(p) + count_holding(p, user) * p.blocks as usize
 }
 
+// "A figure is at most 65520 / K, rounded down."
+pub fn bound_of(p: Plan) -> u16
+    requires { ⌜ Good (plan-of p) ⌝ }
+    ensures { λ r. ⌜ r ≡ figure-bound sixteen (plan-of p) ⌝ }
+{
+    ((element::Q - 1) / p.users) as u16
+}
+
 // How long a row of figures is, and a first message.
 pub fn row_length(p: Plan) -> usize
     ensures { λ r. ⌜ (r ≡ row-len (plan-of p)) × (r ≤ most-places) ⌝ }
@@ -346,6 +355,16 @@ pub fn key_length(p: Plan, user: u32) -> usize
         return 0;
     }
     key_of(p, user)
+}
+
+// How large a figure may be.
+pub fn figure_bound(p: Plan) -> u32
+    ensures { λ r. ⌜ r ≡ largest-figure sixteen (plan-of p) ⌝ }
+{
+    if !is_good(p) {
+        return 0;
+    }
+    bound_of(p) as u32
 }
 
 // Where the M shares for a set start in a user's key: behind its L masks and the shares for the smaller sets.

@@ -9,12 +9,13 @@ use Prim.Native.Nat.{ℕ, _≤_}
 use lib.ListN.{getD, take}
 use Rattle.scheme.specs.Limits.{most-users, most-threshold, most-places}
 use Rattle.scheme.specs.Scheme as scheme
-use Rattle.scheme.specs.Scheme.{Arithmetic, sixteen, plan-good, places, in-set, total-at}
-use Rattle.scheme.specs.Laws.{Laws}
-use Rattle.scheme.specs.Promise.{admissible}
+use Rattle.scheme.specs.Scheme.{Arithmetic, sixteen, plan-good, places, in-set, whole-total}
+use Rattle.scheme.specs.Laws.{Laws, Adds-whole}
+use Rattle.scheme.specs.Promise.{rows-good}
 use Rattle.scheme.specs.Totals.{Follows}
 use Rattle.scheme.specs.Service.{replied, values}
 use Rattle.scheme.proofs.Padded.{filled-take}
+use Rattle.scheme.proofs.Whole.{sixteen-whole}
 use Rattle.scheme.proofs.Pooling.Well.{Finishing, finishing, replied-survives}
 use Rattle.plan.specs.declared.Plan.{Plan}
 use Rattle.plan.specs.Plan.{plan-of}
@@ -25,11 +26,11 @@ use Rattle.finish.specs.Promise.{Finish-right}
 use Rattle.finish.proofs.Steps.{finish-right}
 use Rattle.round.specs.Round.{Round-right}
 
-pub round-right : (A : Arithmetic) (L : Laws A most-users most-threshold) → Round-right A L
-unfolding Round-right Finish-right admissible view
-round-right A L s xs x ko o w e ok rows room held =
-    let done = finish-right A L s xs x w e ok rows rules in
-    (done .0, ap (take (places q)) (done .1) ∙ filled-take most-places (total-at A q x v) (places q))
+pub round-right : (A : Arithmetic) (L : Laws A most-users most-threshold) → Adds-whole A → Round-right A L
+unfolding Round-right Finish-right rows-good view
+round-right A L adds s xs x ko o w e ok rows room held =
+    let done = finish-right A L adds s xs x w e ok rows rules in
+    (done .0, ap (take (places q)) (done .1) ∙ filled-take most-places (whole-total q x v) (places q), done .2)
   where
     p : Plan
     p = s .head .plan
@@ -64,4 +65,4 @@ round-right A L s xs x ko o w e ok rows room held =
         }
 
 pub round-right-sixteen : Round-right sixteen laws16
-round-right-sixteen = round-right sixteen laws16
+round-right-sixteen = round-right sixteen laws16 sixteen-whole

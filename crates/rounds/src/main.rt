@@ -1,7 +1,8 @@
 // Runs the examples of document 01 that no theorem covers, and the cases of the second implementation that come on standard input, by
 // the public functions, and checks every result. It says what agrees, or the first line of the input that does not.
 //   lengths_right   plan 8 2 1 16: its lengths; a round of it is among the cases
-//   limits_right    plans at each limit have lengths and those past it none; 96 places are the most
+//   bounds_right    the largest figures of eight airfields and of three
+//   limits_right    plans at each limit have lengths and a largest figure, and those past it none; 96 places are the most
 //   elements_right  a random list may hold q - 1, and not q
 //   stream_lines    the example stream, cut in two at every byte: the printed lines; and the line of refusal 7
 //   main            the examples, then the input (calls/input.rt)
@@ -70,7 +71,15 @@ fn least() -> Plan {
     )
 }
 
-// Whether the plan at a limit has lengths, and the one past it has none.
+// Document 02, item 2: "a figure is at most 65520 / K, rounded down: 8190 for eight airfields, 21840 for three".
+fn bounds_right() -> bool {
+    if plan::figure_bound(plan_of(8, 2, 1, 1)) != 8190 {
+        return false;
+    }
+    plan::figure_bound(plan_of(3, 2, 1, 1)) == 21840
+}
+
+// Whether the plan at a limit has lengths and a largest figure, and the one past it has none.
 fn limit_between(at: Plan, past: Plan) -> bool {
     if plan::row_length(at) == 0 {
         return false;
@@ -81,13 +90,19 @@ fn limit_between(at: Plan, past: Plan) -> bool {
     if plan::key_length(at, 1) == 0 {
         return false;
     }
+    if plan::figure_bound(at) == 0 {
+        return false;
+    }
     if plan::row_length(past) != 0 {
         return false;
     }
     if plan::list_length(past) != 0 {
         return false;
     }
-    plan::key_length(past, 1) == 0
+    if plan::key_length(past, 1) != 0 {
+        return false;
+    }
+    plan::figure_bound(past) == 0
 }
 
 fn least_right() -> bool {
@@ -248,8 +263,13 @@ fn main() {
         return;
     }
     say(b"plan 8 2 1 16: list 4080, each key 2048\n");
+    if !bounds_right() {
+        say(b"largest figures: one differs\n");
+        return;
+    }
+    say(b"largest figures: 8190 of eight airfields, 21840 of three\n");
     if !limits_right() {
-        say(b"limits: a length differs\n");
+        say(b"limits: a length or a largest figure differs\n");
         return;
     }
     if !elements_right() {

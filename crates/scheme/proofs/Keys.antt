@@ -17,12 +17,13 @@ use native.Mathlib.Omega.{arith}
 use lib.Dec.{ltb, eqb}
 use lib.ListN.{length, getD, take, drop, length-append, List·getD-append}
 use lib.Seq.{drop-append-add}
-use borrow.Author.Tests.{lt-ltb, ltb-true, eqb-true}
+use borrow.Author.Tests.{lt-ltb, eqb-true}
 use Rattle.algebra.specs.Sums.{In}
 use Rattle.scheme.specs.Lists.{span, rank, rows, each, all-of}
 use Rattle.scheme.specs.Scheme.{Arithmetic, elements, Plan, places, in-set, usable, usable-with, sets-with, list-length, mask, share, shares, key, key-length, reply-start, reply}
 use Rattle.scheme.specs.Promise.{list-good}
 use Rattle.scheme.specs.Laws.{Laws}
+use Rattle.scheme.proofs.Elements.{within-at, elements-within}
 use Rattle.scheme.proofs.Tests.{and-both, and-joined}
 use Rattle.scheme.proofs.Lists.{map-span-length, map-below-at, rows-length, rows-at}
 use Rattle.scheme.proofs.Sets.{usable-below}
@@ -84,10 +85,7 @@ module _ (A : Arithmetic) (p : Plan) (xs : List ℕ) (k : ℕ) where
 -- ---- lists of elements
 module _ (A : Arithmetic) where
   pub elements-at : 0 < A .size → (xs : List ℕ) (i : ℕ) → elements A xs ≡ true → getD xs i 0 < A .size
-  unfolding elements all-of
-  elements-at z [] i h = z
-  elements-at z (x ∷ xs) zero h = ltb-true x (A .size) (and-both (ltb x (A .size)) (elements A xs) h .0)
-  elements-at z (x ∷ xs) (suc i) h = elements-at z xs i (and-both (ltb x (A .size)) (elements A xs) h .1)
+  elements-at z xs i h = omega (arith, z, within-at (A .size - 1) xs i (sym (elements-within A z xs) ∙ h))
 
   pub elements-map : (f : ℕ → ℕ) (l : List ℕ) → ((k : ℕ) → In k l → f k < A .size) → elements A (map f l) ≡ true
   unfolding elements all-of

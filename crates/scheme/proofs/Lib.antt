@@ -1,4 +1,5 @@
--- What all share: tests, lists, refusals; sums, sets, bounds of a plan, keys; the laws of fewer rows, and modulo 65521. Then a folder for each matter.
+-- What all share: tests, lists, refusals; sums, sets, bounds of a plan, keys, whole-number totals; the laws of fewer rows, and modulo
+-- 65521. Then a folder for each matter.
 --   Privacy   demand 3, and that its premises are sharp
 --   Pooling   demands 1 and 2: totals and the service
 --   Making    the key maker
@@ -14,6 +15,7 @@ pub mod Sets
 pub mod PlanBounds
 pub mod Keys
 pub mod Elements
+pub mod Whole
 pub mod Weighed
 pub mod Laws
 pub mod Modular

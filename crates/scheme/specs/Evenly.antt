@@ -3,7 +3,8 @@
 --   Draws, Gives             a string of n bytes that the call takes; one from which it fills every lent list with the same elements
 --   Evenly-drawn             what the call leaves is a random list; it leaves each; and any two of as many byte strings of a length
 --   Byte-matching            one matching of all byte strings that are taken, under which partners show the same
---   Nothing-told-of-bytes    demand 3 from bytes for one plan; Demand-3-of-bytes: for every plan, modulo 65521
+--   Nothing-told-of-bytes    demand 3 from bytes for one plan and the tables of a kind
+--   Demand-3-of-bytes        for every plan and admissible figures, modulo 65521
 -- `evenly-drawn` and `demand-3-of-bytes` of proofs/Drawing/ prove them. Assumes nothing: these are definitions.
 use mathlib.Core.Path.{_≡_}
 use mathlib.Core.Bool.{true}
@@ -45,11 +46,11 @@ pub record Byte-matching (A : Arithmetic) (p : Plan) (n v c : ℕ) (x y : Table)
   pub same : (s o o′ : List ℕ) → Draws A p n s → length o ≡ list-length p → length o′ ≡ list-length p
       → shown A p v c (list-left A p s o) x ≡ shown A p v c (list-left A p (matched .there s) o′) y
 
-unfoldable pub Nothing-told-of-bytes : Arithmetic → Plan → Type 0
-Nothing-told-of-bytes A p =
+unfoldable pub Nothing-told-of-bytes : Arithmetic → Plan → (kind : Table → Type 0) → Type 0
+Nothing-told-of-bytes A p kind =
     (n v c : ℕ) (x y : Table) → usable p v ≡ true → c < 2 ^ p .users → ones (p .users) c ≤ p .collusion →
-    admissible A p x → admissible A p y → Alike A p v c x y → Byte-matching A p n v c x y
+    kind x → kind y → Alike A p v c x y → Byte-matching A p n v c x y
 
 -- THE THIRD DEMAND FROM RAW BYTES
 unfoldable pub Demand-3-of-bytes : Type 0
-Demand-3-of-bytes = (p : Plan) → plan-good p ≡ true → Nothing-told-of-bytes sixteen p
+Demand-3-of-bytes = (p : Plan) → plan-good p ≡ true → Nothing-told-of-bytes sixteen p (admissible sixteen p)

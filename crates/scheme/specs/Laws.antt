@@ -1,9 +1,10 @@
 -- What ties an arithmetic to a field.
---   Laws   it is a field's, on numbers, and its coefficients are a Cauchy matrix of the rows 1 to n and the columns 1 to m
+--   Laws         it is a field's, on numbers, and its coefficients are a Cauchy matrix of the rows 1 to n and the columns 1 to m
+--   Adds-whole   and what counts need besides: a sum that is an element is the whole-number sum
 -- Assumes nothing: these are definitions.
 use mathlib.Core.Path.{_≡_}
 use mathlib.Core.Logic.{_≢_}
-use Prim.Native.Nat.{ℕ, _≤_, _<_}
+use Prim.Native.Nat.{ℕ, _+_, _-_, _≤_, _<_}
 use Rattle.algebra.specs.Field.{Field, sub}
 use Rattle.scheme.specs.Scheme.{Arithmetic}
 
@@ -26,3 +27,6 @@ pub record Laws (A : Arithmetic) (n m : ℕ) : Type 1 where
   pub rows-apart : (i k : ℕ) → (1 ≤ i) × (i ≤ n) → (1 ≤ k) × (k ≤ n) → i ≢ k → row i ≢ row k
   pub columns-apart : (i j : ℕ) → (1 ≤ i) × (i ≤ m) → (1 ≤ j) × (j ≤ m) → i ≢ j → col i ≢ col j
   pub meet : (k j : ℕ) → (1 ≤ k) × (k ≤ n) → (1 ≤ j) × (j ≤ m) → K .add (row k) (col j) ≢ K .𝟘
+
+unfoldable pub Adds-whole : Arithmetic → Type 0
+Adds-whole A = (a b : ℕ) → a + b ≤ A .size - 1 → A .add a b ≡ a + b

@@ -1,10 +1,14 @@
 -- Demand 3 as a type: the bytes that the server and at most T colluders see say nothing of the figures beyond the total.
 -- `demand-3` of proofs/Privacy/Demand.antt proves it.
---   Table, admissible, list-good   tables of figures; random lists
+--   Table, rows-good               a row of figures for each user; tables whose rows pass a test
+--   element-rows, admissible       tables of elements; of figures within the plan's bound
+--   list-good                      random lists
 --   Shown, shown                   what a random list and a table show
---   Alike                          tables that agree for each colluder and have the same survivors' total
+--   Alike, Alike-whole             tables that agree for each colluder and have the same survivors' total; those with the same
+--                                  whole-number total are among them
 --   Matching                       one matching of all random lists, under which partners show the same
---   Nothing-told                   demand 3 for one plan; Demand-3: for every plan, modulo 65521
+--   Nothing-told                   demand 3 for one plan and the tables of a kind
+--   Demand-3                       for every plan and admissible figures, modulo 65521
 --   Key-add                        behind it: the key of a sum of two lists is the sum of their keys
 -- Assumes nothing: these are definitions.
 use mathlib.Core.Path.{_≡_}
@@ -14,14 +18,21 @@ use Prim.Native.Nat.{ℕ, _^_, _≤_, _<_}
 use lib.Dec.{eqb}
 use lib.ListN.{length}
 use Rattle.scheme.specs.Lists.{span, each}
-use Rattle.scheme.specs.Scheme.{Arithmetic, sixteen, elements, Plan, plan-good, places, in-set, ones, usable, users-in, list-length, key, key-length, first-message, reply, total-at}
+use Rattle.scheme.specs.Scheme.{Arithmetic, sixteen, elements, within, Plan, plan-good, places, figure-bound, in-set, ones, usable, users-in, list-length, key, key-length, first-message, reply, total-at, whole-total}
 
 -- a row of figures for each user
 abbrev pub Table : Type 0
 Table = (k : ℕ) → List ℕ
 
-unfoldable pub admissible : Arithmetic → Plan → Table → Type 0
-admissible A p x = (k : ℕ) → 1 ≤ k → k ≤ p .users → (length (x k) ≡ places p) × (elements A (x k) ≡ true)
+-- L figures a row, all of which pass the test
+unfoldable pub rows-good : (test : List ℕ → Bool) → Plan → Table → Type 0
+rows-good t p x = (k : ℕ) → 1 ≤ k → k ≤ p .users → (length (x k) ≡ places p) × (t (x k) ≡ true)
+
+abbrev pub element-rows : Arithmetic → Plan → Table → Type 0
+element-rows A p x = rows-good (elements A) p x
+
+abbrev pub admissible : Arithmetic → Plan → Table → Type 0
+admissible A p x = rows-good (within (figure-bound A p)) p x
 
 unfoldable pub list-good : Arithmetic → Plan → (list : List ℕ) → Bool
 list-good A p xs = eqb (length xs) (list-length p) && elements A xs
@@ -40,9 +51,15 @@ shown A p v c xs x =
       keys = map (key A p xs) (users-in p c);
     }
 
+-- the totals need agree in the arithmetic alone
 pub record Alike (A : Arithmetic) (p : Plan) (v c : ℕ) (x y : Table) : Type 0 where
   pub own : (k : ℕ) → 1 ≤ k → k ≤ p .users → in-set c k ≡ true → x k ≡ y k
   pub totals : (i : ℕ) → i < places p → total-at A p x v i ≡ total-at A p y v i
+
+unfoldable pub Alike-whole : Arithmetic → Plan → Type 0
+Alike-whole A p =
+    (v c : ℕ) (x y : Table) → admissible A p x → admissible A p y → ((k : ℕ) → 1 ≤ k → k ≤ p .users → in-set c k ≡ true → x k ≡ y k) →
+    ((i : ℕ) → i < places p → whole-total p x v i ≡ whole-total p y v i) → Alike A p v c x y
 
 -- each list has exactly one partner, and with the first table it shows what its partner shows with the second
 pub record Matching (A : Arithmetic) (p : Plan) (v c : ℕ) (x y : Table) : Type 0 where
@@ -52,14 +69,14 @@ pub record Matching (A : Arithmetic) (p : Plan) (v c : ℕ) (x y : Table) : Type
   pub one-to-one : (xs : List ℕ) → list-good A p xs ≡ true → (back (partner xs) ≡ xs) × (partner (back xs) ≡ xs)
   pub same : (xs : List ℕ) → list-good A p xs ≡ true → shown A p v c xs x ≡ shown A p v c (partner xs) y
 
-unfoldable pub Nothing-told : Arithmetic → Plan → Type 0
-Nothing-told A p =
+unfoldable pub Nothing-told : Arithmetic → Plan → (kind : Table → Type 0) → Type 0
+Nothing-told A p kind =
     (v c : ℕ) (x y : Table) → usable p v ≡ true → c < 2 ^ p .users → ones (p .users) c ≤ p .collusion →
-    admissible A p x → admissible A p y → Alike A p v c x y → Matching A p v c x y
+    kind x → kind y → Alike A p v c x y → Matching A p v c x y
 
 -- THE THIRD DEMAND
 unfoldable pub Demand-3 : Type 0
-Demand-3 = (p : Plan) → plan-good p ≡ true → Nothing-told sixteen p
+Demand-3 = (p : Plan) → plan-good p ≡ true → Nothing-told sixteen p (admissible sixteen p)
 
 -- place by place, whatever numbers the lists hold
 unfoldable pub Key-add : Arithmetic → Plan → Type 0

@@ -1,10 +1,13 @@
 -- The scheme of document 01 (section 4.3 of Zhao and Sun), over an arithmetic as a parameter.
 --   Arithmetic, modular, sixteen       elements; modulo q; modulo 65521
+--   elements, within, sum, whole-sum   tests of a list; sums in an arithmetic, and of whole numbers
 --   Plan, plan-good, items, places     K, U, T, M; U - T and L
+--   figure-bound                       the largest figure: those of K airfields add up to an element
 --   in-set, ones, usable               a set of airfields as a number; its size
 --   list-length, mask, noise           the random list and what stands where
 --   column, row-value, share, key      shares and keys
---   first-message, reply, total-at     messages and totals
+--   first-message, reply               messages
+--   total-at, whole-total              totals, in an arithmetic and as whole numbers
 --   Stage, start-refusal, key-refusal, message-refusal, reply-refusal, after, key-left    what the calls answer and leave
 -- Document 01's airfield is a user here, and its S of an airfield is that user's mask. Assumes nothing: these are definitions.
 use mathlib.Core.Bool.{Bool, true, false, _&&_, not, cond}
@@ -47,9 +50,17 @@ sixteen = modular q
 unfoldable pub elements : Arithmetic → List ℕ → Bool
 elements A xs = all-of (λ x. ltb x (A .size)) xs
 
+-- no number is above the most
+unfoldable pub within : (most : ℕ) → List ℕ → Bool
+within n xs = all-of (λ x. leb x n) xs
+
 unfoldable pub sum : Arithmetic → (indices : List ℕ) → (ℕ → ℕ) → ℕ
 sum A [] f = 0
 sum A (k ∷ l) f = A .add (f k) (sum A l f)
+
+unfoldable pub whole-sum : (indices : List ℕ) → (ℕ → ℕ) → ℕ
+whole-sum [] f = 0
+whole-sum (k ∷ l) f = f k + whole-sum l f
 
 -- ---- PLANS
 -- K, U, T and M
@@ -70,6 +81,10 @@ items p = p .threshold - p .collusion
 
 unfoldable pub places : Plan → ℕ
 places p = p .blocks * items p
+
+-- "a figure is at most 65520 / K, rounded down"
+unfoldable pub figure-bound : Arithmetic → Plan → ℕ
+figure-bound A p = (A .size - 1) / p .users
 
 unfoldable pub is-user : Plan → (k : ℕ) → Bool
 is-user p k = leb 1 k && leb k (p .users)
@@ -150,6 +165,10 @@ reply p ks k v = take (p .blocks) (drop (reply-start p k v) ks)
 unfoldable pub total-at : Arithmetic → Plan → (table : ℕ → List ℕ) → (set place : ℕ) → ℕ
 total-at A p x v i = sum A (users-in p v) (λ k. getD (x k) i 0)
 
+-- the same as a whole number: nothing is taken off
+unfoldable pub whole-total : Plan → (table : ℕ → List ℕ) → (set place : ℕ) → ℕ
+whole-total p x v i = whole-sum (users-in p v) (λ k. getD (x k) i 0)
+
 -- ---- THE CALLS: 0 where a call is taken, else the earliest refusal that applies
 infixr 20 _then_
 unfoldable pub _then_ : ℕ → ℕ → ℕ
@@ -186,12 +205,12 @@ unfoldable pub key-refusal : Arithmetic → Plan → (k : ℕ) → (list : List 
 key-refusal A p k xs out =
     start-refusal p k then unless (eqb (length xs) (list-length p) && eqb out (key-length p k)) 2 then unless (elements A xs) 3
 
--- of the first message: 18, 2, 3, of an end that start has made
+-- of the first message: 18, 2, 3, 32, of an end that start has made
 unfoldable pub message-refusal : Arithmetic → Plan → (k : ℕ) → Stage → (key figures : List ℕ) → (out : ℕ) → ℕ
 message-refusal A p k g ks fs out =
     start-refusal p k then unless (is-fresh g) 18
     then unless (eqb (length ks) (key-length p k) && (eqb (length fs) (places p) && eqb out (places p))) 2
-    then unless (elements A ks && elements A fs) 3
+    then unless (elements A ks && elements A fs) 3 then unless (within (figure-bound A p) fs) 32
 
 -- of the reply: 18, 2, 3, 5, 6, 19, of an end that start has made
 unfoldable pub reply-refusal : Arithmetic → Plan → (k : ℕ) → Stage → (key : List ℕ) → (set : ℕ) → ℕ

@@ -1,7 +1,8 @@
 -- The promises of demands 1 and 2, about the abstract service.
 --   One-answer, Answered, Always-answers, Refused-unchanged    each record has one answer, and a refusal changes nothing
 --   As-new                                           a round keeps nothing but the plan of what was before
---   Finish-right                                     replies that follow the rules give the survivors' total
+--   Finish-right, Finish-residues                    replies that follow the rules give the survivors' whole-number total; behind it, of
+--                                                    any table, the total in the arithmetic
 --   Unexplained, Sixteen-exactly, Never-sixteen      when 16 is given, and when never
 --   Stays-well                                       every run stays well-formed
 --   Demand-2                                         all of them modulo 65521
@@ -12,9 +13,9 @@ use mathlib.Core.Bool.{true}
 use mathlib.Core.List.{List, _∷_, map}
 use Prim.Native.Nat.{ℕ}
 use Rattle.scheme.specs.Lists.{span}
-use Rattle.scheme.specs.Scheme.{Arithmetic, sixteen, places, ones, total-at}
+use Rattle.scheme.specs.Scheme.{Arithmetic, sixteen, places, ones, total-at, whole-total}
 use Rattle.scheme.specs.Promise.{Table, admissible, list-good}
-use Rattle.scheme.specs.Totals.{Follows}
+use Rattle.scheme.specs.Totals.{Follows, Totals-fit}
 use Rattle.scheme.specs.Service.{State, new-state, replied, Record, open-record, finish-record, Answer, opened, totalled, refused, refusal, planned-state, values, explained-by, Steps, Runs, Well}
 
 -- each record has at most one answer
@@ -40,11 +41,18 @@ As-new A =
     (r : ℕ) (rs : List Record) (s t : State) (l : List Answer) → Runs A (open-record r ∷ rs) s (opened r ∷ l) t →
     Runs A (open-record r ∷ rs) (planned-state (s .plan)) (opened r ∷ l) t
 
--- complete replies that follow the rules give the survivors' total, whatever else was sent
+-- complete replies that follow the rules give the survivors' whole-number total, whatever else was sent
 unfoldable pub Finish-right : Arithmetic → Type 0
 Finish-right A =
     (s t : State) (a : Answer) (xs : List ℕ) (x : Table) → Well A s → refusal A finish-record s ≡ 0 → list-good A (s .plan) xs ≡ true →
     admissible A (s .plan) x → Follows A (s .plan) xs x (s .survivors) (replied s) (values (s .firsts)) (values (s .replies)) →
+    Steps A finish-record s a t →
+    (a ≡ totalled (s .round) (map (whole-total (s .plan) x (s .survivors)) (span (places (s .plan)) 0))) × Totals-fit A (s .plan) x (s .survivors)
+
+unfoldable pub Finish-residues : Arithmetic → Type 0
+Finish-residues A =
+    (s t : State) (a : Answer) (xs : List ℕ) (x : Table) → Well A s → refusal A finish-record s ≡ 0 → list-good A (s .plan) xs ≡ true →
+    Follows A (s .plan) xs x (s .survivors) (replied s) (values (s .firsts)) (values (s .replies)) →
     Steps A finish-record s a t → a ≡ totalled (s .round) (map (total-at A (s .plan) x (s .survivors)) (span (places (s .plan)) 0))
 
 -- 16 is the answer to a finish of enough complete replies that nothing explains, and to nothing else
@@ -73,5 +81,6 @@ pub record Demand-2 : Type 0 where
   pub refused-unchanged : Refused-unchanged sixteen
   pub as-new : As-new sixteen
   pub finish-right : Finish-right sixteen
+  pub finish-residues : Finish-residues sixteen
   pub sixteen-exactly : Sixteen-exactly sixteen
   pub never-sixteen : Never-sixteen sixteen

@@ -2,6 +2,7 @@
 --   Totals-needed      tables with another total over the set have no matching, whoever colludes
 --   Own-needed         nor have tables that differ for a colluder
 --   Collusion-needed   with one colluder more than T, some tables that are alike have no matching
+--   Bound-sharp        were all users to report one more than the bound, their total would pass the last element
 --   smallest           the plan with the least K, U, T and M
 --   Threshold-needed   with one reply fewer than U, some replies are explained by unknowns with other sums
 --   Explanation        unknowns that explain replies, with a given sum of the block's first item
@@ -11,21 +12,20 @@ use mathlib.Core.Path.{_≡_}
 use mathlib.Core.Logic.{_≢_}
 use mathlib.Core.Bool.{true}
 use mathlib.Core.List.{List}
-use Prim.Native.Nat.{ℕ, _+_, _^_, _≤_, _<_}
+use Prim.Native.Nat.{ℕ, _+_, _-_, _^_, _≤_, _<_}
 use lib.ListN.{getD}
 use Rattle.scheme.specs.Limits.{least-users, least-collusion, least-blocks}
-use Rattle.scheme.specs.Scheme.{Arithmetic, Plan, places, in-set, ones, usable, total-at}
-use Rattle.scheme.specs.Promise.{Table, admissible, Alike, Matching}
+use Rattle.scheme.specs.Scheme.{Arithmetic, Plan, places, figure-bound, in-set, ones, usable, total-at, whole-total}
+use Rattle.scheme.specs.Promise.{Table, element-rows, admissible, Alike, Matching}
 use Rattle.scheme.specs.Totals.{explains}
 
 unfoldable pub Totals-needed : Arithmetic → Plan → Type 0
 Totals-needed A p =
-    (v c : ℕ) (x y : Table) (i : ℕ) → usable p v ≡ true → admissible A p x → admissible A p y →
-    i < places p → total-at A p x v i ≢ total-at A p y v i → Matching A p v c x y → ⊥
+    (v c : ℕ) (x y : Table) (i : ℕ) → usable p v ≡ true → i < places p → total-at A p x v i ≢ total-at A p y v i → Matching A p v c x y → ⊥
 
 unfoldable pub Own-needed : Arithmetic → Plan → Type 0
 Own-needed A p =
-    (v c k : ℕ) (x y : Table) → admissible A p x → admissible A p y →
+    (v c k : ℕ) (x y : Table) → element-rows A p x → element-rows A p y →
     1 ≤ k → k ≤ p .users → in-set c k ≡ true → x k ≢ y k → Matching A p v c x y → ⊥
 
 -- a set, colluders and tables that meet every premise of demand 3 but the number of colluders
@@ -41,6 +41,11 @@ pub record Collusion-needed (A : Arithmetic) (p : Plan) : Type 0 where
   pub y-admissible : admissible A p y
   pub alike : Alike A p v c x y
   pub no-matching : Matching A p v c x y → ⊥
+
+unfoldable pub Bound-sharp : Arithmetic → Plan → Type 0
+Bound-sharp A p =
+    (x : Table) (v i : ℕ) → 1 ≤ p .users → ones (p .users) v ≡ p .users →
+    ((k : ℕ) → 1 ≤ k → k ≤ p .users → getD (x k) i 0 ≡ figure-bound A p + 1) → A .size - 1 < whole-total p x v i
 
 abbrev pub smallest : Plan
 smallest = record { users = least-users; threshold = least-collusion + 1; collusion = least-collusion; blocks = least-blocks }

@@ -1,10 +1,10 @@
 //! `long PROGRAM COUNT`: COUNT rounds in one process, with numbers that rise
 //! to 4294967295. Expects each line, the totals summed up plainly from the
-//! figures, and a peak of memory that stays where it was after the first
-//! tenth. Says what differs, with exit status 1.
+//! figures as whole numbers, and a peak of memory that stays where it was after
+//! the first tenth. Says what differs, with exit status 1.
 
-use reference::field::{add, Element};
-use reference::material::{first_records, reply_records};
+use reference::field::Element;
+use reference::material::{first_records, reply_records, table, whole_sums};
 use reference::random::Random;
 use reference::scheme::{first_message, holds, members, shares, Plan, RandomList, Set};
 use reference::stream::{spaced, to_bytes, Record};
@@ -134,7 +134,7 @@ struct Round {
 impl Round {
     fn draw(number: u32, plan: &Plan, random: &mut Random) -> Round {
         let list = random.elements(plan.list_length());
-        let figures = (0..plan.airfields()).map(|_| random.elements(plan.row_length())).collect();
+        let figures = table(plan, random);
         let survivors = random.pick(&SURVIVORS);
         let answering = random.pick(&SURVIVORS.map(|set| set & survivors));
         let answering = if plan.usable(answering) { answering } else { survivors };
@@ -179,14 +179,8 @@ impl Round {
             *offset += FIRST;
         }
         *offset += members(self.answering).count() * REPLY * plan.blocks() + BARE;
-        let totals: Vec<Element> = (0..plan.row_length()).map(|place| self.total(place)).collect();
+        let totals = whole_sums(plan, &self.figures, self.survivors);
         lines.push(format!("total {}{}", self.number, spaced(&totals)));
         lines
-    }
-
-    /// The survivors' figures of a place, added up.
-    fn total(&self, place: usize) -> Element {
-        let figure = |airfield: u8| self.figures[usize::from(airfield - 1)][place];
-        members(self.survivors).map(figure).fold(0, add)
     }
 }

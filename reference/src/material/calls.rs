@@ -3,12 +3,12 @@
 //! - `cases`: the text of `count` cases, by `vectors::Case`
 //!
 //! The plan of case i is that of seed + i, so 896 cases meet every plan. Of
-//! four cases, two have no fault, one has faults for the key maker, one for
-//! the end.
+//! four cases, one has no fault, one has figures around the bound, one has
+//! faults for the key maker, one for the end.
 
-use super::plan_by_seed;
 use super::vectors::Case;
-use crate::field::{Element, Q};
+use super::{plan_by_seed, row};
+use crate::field::{Element, LARGEST, Q};
 use crate::random::Random;
 use crate::scheme::{Plan, Set, MAX_AIRFIELDS, MAX_BLOCKS};
 
@@ -27,7 +27,8 @@ pub fn cases(seed: u64, count: u32) -> impl Iterator<Item = String> {
         let plan = plan_by_seed(seed.wrapping_add(u64::from(index)));
         let airfield = 1 + random.below(usize::from(plan.airfields())) as u8;
         match index % 4 {
-            0 | 1 => honest(&plan, airfield, &mut random),
+            0 => honest(&plan, airfield, &mut random),
+            1 => around_the_bound(&plan, airfield, &mut random),
             2 => key_maker_faults(&plan, airfield, &mut random),
             _ => walk(&plan, airfield, &mut random),
         }
@@ -38,10 +39,61 @@ pub fn cases(seed: u64, count: u32) -> impl Iterator<Item = String> {
 /// Nothing refused.
 fn honest(plan: &Plan, airfield: u8, random: &mut Random) -> Case {
     let mut case = key_and_start(plan, airfield, random);
-    case.first_message(&random.elements(plan.row_length()), plan.row_length());
+    case.first_message(&row(plan, random), plan.row_length());
     let sets: Vec<Set> = plan.usable_sets_holding(airfield).collect();
     case.reply(random.pick(&sets));
     case
+}
+
+/// Figures beyond the bound at either end of the row, between and everywhere,
+/// and with each fault that comes before them; then a row that reaches the
+/// bound, which the same end takes, and none behind it.
+fn around_the_bound(plan: &Plan, airfield: u8, random: &mut Random) -> Case {
+    let mut case = key_and_start(plan, airfield, random);
+    let length = plan.row_length();
+    let bound = plan.figure_bound();
+    let beyond = bound + 1;
+    for place in [0, length - 1, random.below(length)] {
+        case.first_message(&with(row(plan, random), place, beyond), length);
+    }
+    case.first_message(&with(row(plan, random), random.below(length), LARGEST), length);
+    case.first_message(&vec![beyond; length], length);
+    beyond_with_earlier_faults(&mut case, plan, random);
+    case.first_message(&with(row(plan, random), random.below(length), bound), length);
+    case.first_message(&vec![beyond; length], length);
+    case.reply((1 << plan.airfields()) - 1);
+    case
+}
+
+/// A figure beyond the bound before one that is no element, and behind it,
+/// where there are two places; with a number in the key that is no element, in
+/// S or in the shares; and in a row or for a buffer of another length.
+fn beyond_with_earlier_faults(case: &mut Case, plan: &Plan, random: &mut Random) {
+    let length = plan.row_length();
+    let beyond = random.pick(&[plan.figure_bound() + 1, LARGEST]);
+    if length > 1 {
+        let left = random.below(length - 1);
+        let right = left + 1 + random.below(length - 1 - left);
+        for (place, other) in [(left, right), (right, left)] {
+            let figures = with(row(plan, random), place, beyond);
+            case.first_message(&with(figures, other, no_element(random)), length);
+        }
+    }
+    let figures = with(row(plan, random), random.below(length), beyond);
+    let key = case.key().to_vec();
+    for place in [random.below(length), length + random.below(key.len() - length)] {
+        case.lend_key(with(key.clone(), place, no_element(random)));
+        case.first_message(&figures, length);
+    }
+    case.lend_key(key);
+    case.first_message(&vec![beyond; length + 1], length);
+    case.first_message(&figures, wrong_length(length, random));
+}
+
+/// The list with another number at a place.
+fn with(mut list: Vec<Element>, place: usize, number: u16) -> Vec<Element> {
+    list[place] = number;
+    list
 }
 
 /// The key maker with any of its faults together, then a start with the same
@@ -85,7 +137,11 @@ fn walk(plan: &Plan, airfield: u8, random: &mut Random) -> Case {
 }
 
 fn faulty_first(case: &mut Case, plan: &Plan, random: &mut Random) {
-    let mut figures = random.elements(plan.row_length());
+    let mut figures = row(plan, random);
+    if random.chance(END_FAULT) {
+        let place = random.below(figures.len());
+        figures[place] = random.pick(&[plan.figure_bound() + 1, LARGEST]);
+    }
     wrong_list(&mut figures, END_FAULT, random);
     let mut room = plan.row_length();
     if random.chance(END_FAULT) {
@@ -113,16 +169,20 @@ fn key_and_start(plan: &Plan, airfield: u8, random: &mut Random) -> Case {
     case
 }
 
-/// Puts in a number past the bound, at either end or between, this many times
-/// in a hundred, and changes the length half as often.
+/// Puts in a number that is no element, at either end or between, this many
+/// times in a hundred, and changes the length half as often.
 fn wrong_list(list: &mut Vec<Element>, percent: usize, random: &mut Random) {
     if random.chance(percent) {
         let places = [0, list.len() - 1, random.below(list.len())];
-        list[random.pick(&places)] = random.pick(&[Q, u16::MAX]);
+        list[random.pick(&places)] = no_element(random);
     }
     if random.chance(percent / 2) {
         list.resize(wrong_length(list.len(), random), 0);
     }
+}
+
+fn no_element(random: &mut Random) -> u16 {
+    random.pick(&[Q, u16::MAX])
 }
 
 fn wrong_length(right: usize, random: &mut Random) -> usize {

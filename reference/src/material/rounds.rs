@@ -2,15 +2,15 @@
 //!
 //! - `records`: the plan, `count` rounds, then opens that must be refused
 //!
-//! Each round draws fresh figures and a fresh random list. It may have
-//! airfields that drop out before or after the close, unfinished rows, rows
-//! and replies in any order, places sent twice, a close or finish asked too
-//! early, first messages after the close, replies of others than survivors,
+//! Each round draws fresh figures within the bound and a fresh random list. It
+//! may have airfields that drop out before or after the close, unfinished rows,
+//! rows and replies in any order, places sent twice, a close or finish asked
+//! too early, first messages after the close, replies of others than survivors,
 //! partial replies, more replies than needed, one garbled reply, and it may be
 //! left before its finish. Round numbers start at 1, or spread over all
 //! numbers, or run up to 4294967295.
 
-use super::{first_records, plan_by_seed, reply_records};
+use super::{first_records, plan_by_seed, reply_records, table};
 use crate::field::{add, Element, LARGEST};
 use crate::random::Random;
 use crate::scheme::{first_message, holds, set_of, shares, Plan, RandomList, Set};
@@ -61,7 +61,8 @@ impl Round<'_> {
         let list = random.elements(plan.list_length());
         let s = RandomList { plan, elements: &list };
         let messages = (1..=plan.airfields())
-            .map(|airfield| first_message(s.s(airfield), &random.elements(plan.row_length())))
+            .zip(table(plan, random))
+            .map(|(airfield, figures)| first_message(s.s(airfield), &figures))
             .collect();
         let everyone: Vec<u8> = (1..=plan.airfields()).collect();
         let senders = some_of(&everyone, plan.least(), random);

@@ -149,11 +149,13 @@ impl Case {
         self.runs('a', airfield, block.into(), elements, &numbers);
     }
 
-    pub fn finish(&mut self) {
+    /// Gives the totals, none if it is refused.
+    pub fn finish(&mut self) -> Vec<Element> {
         let result = self.service.finish();
         let number = number_of(&result);
         let totals = result.map_or(vec![], |(_, totals)| totals);
         self.line('t', &[&[number], &totals[..]].concat());
+        totals
     }
 
     /// A line for each run of elements with the same answer.

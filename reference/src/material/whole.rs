@@ -7,13 +7,16 @@
 //! makes its calls; then the service is given what it sends. Airfields may
 //! drop out before or after the close, leave rows and replies unfinished, come
 //! late, send twice, reply though they are no survivors, and one reply may be
-//! garbled; close and finish may be asked too early, or once too often.
+//! garbled; close and finish may be asked too early, or once too often. Figures
+//! lie within the bound, and where no reply is garbled the totals are held
+//! against the whole-number sums of the survivors' figures.
 
 use super::rounds::some_of;
 use super::vectors::Case;
 use super::{
     plan_by_seed,
     rounds::{GARBLED, OFTEN, RARE},
+    table, whole_sums,
 };
 use crate::field::{add, Element, LARGEST, Q};
 use crate::random::Random;
@@ -45,8 +48,11 @@ fn round(case: &mut Case, plan: &Plan, number: u16, random: &mut Random) {
     let repliers = some_of(&senders, plan.least(), random);
     let survivors = set_of(senders.iter().copied());
     case.lend_list(random.elements(plan.list_length()));
-    let sent: Vec<Sent> =
-        everyone.iter().map(|&airfield| calls(case, plan, airfield, survivors, random)).collect();
+    let figures = table(plan, random);
+    let sent: Vec<Sent> = (1..)
+        .zip(&figures)
+        .map(|(airfield, row)| calls(case, plan, airfield, row, survivors, random))
+        .collect();
     let of = |airfields: &[u8]| -> Vec<&Sent> {
         airfields.iter().map(|&airfield| &sent[usize::from(airfield - 1)]).collect()
     };
@@ -54,7 +60,8 @@ fn round(case: &mut Case, plan: &Plan, number: u16, random: &mut Random) {
     let silent = without(&senders, &repliers);
     case.open(number);
     gathering(case, plan, &of(&senders), &of(&others), random);
-    replying(case, plan, &of(&repliers), &of(&silent), &of(&others), random);
+    let totals = replying(case, plan, &of(&repliers), &of(&silent), &of(&others), random);
+    assert!(totals.is_empty() || totals == whole_sums(plan, &figures, survivors));
     if random.chance(RARE) {
         case.finish();
     }
@@ -69,10 +76,17 @@ fn without(airfields: &[u8], some: &[u8]) -> Vec<u8> {
 
 /// Key, first message and reply of one airfield; now and then it is asked
 /// again, for the same set or for another.
-fn calls(case: &mut Case, plan: &Plan, airfield: u8, survivors: Set, random: &mut Random) -> Sent {
+fn calls(
+    case: &mut Case,
+    plan: &Plan,
+    airfield: u8,
+    figures: &[Element],
+    survivors: Set,
+    random: &mut Random,
+) -> Sent {
     case.make_key(airfield, plan.key_length(airfield));
     case.start(airfield);
-    let message = case.first_message(&random.elements(plan.row_length()), plan.row_length());
+    let message = case.first_message(figures, plan.row_length());
     let reply = case.reply(survivors);
     if random.chance(GARBLED) {
         case.reply(random.pick(&[survivors, (1 << plan.airfields()) - 1]));
@@ -121,7 +135,8 @@ fn gathering(
 
 /// Unfinished replies, replies of others than survivors, then whole replies,
 /// perhaps one garbled, perhaps with a finish before the last one that is
-/// needed; then the finish.
+/// needed; then the finish. Gives its totals, none if it is refused or a reply
+/// is garbled.
 fn replying(
     case: &mut Case,
     plan: &Plan,
@@ -129,7 +144,7 @@ fn replying(
     silent: &[&Sent],
     others: &[&Sent],
     random: &mut Random,
-) {
+) -> Vec<Element> {
     for sent in silent {
         if random.chance(OFTEN) && !sent.reply.is_empty() {
             let end = random.below(sent.reply.len());
@@ -157,5 +172,10 @@ fn replying(
         case.reply_elements(plan.airfields() + 1, 0, &[0]);
         case.reply_elements(1, plan.blocks() as u8, &[0]);
     }
-    case.finish();
+    let totals = case.finish();
+    if garbled.is_none() {
+        totals
+    } else {
+        vec![]
+    }
 }

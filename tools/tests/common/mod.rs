@@ -157,8 +157,15 @@ impl Folder {
 
     /// The lines that the one figure of an end under plan 3 2 1 1 gives, by its key.
     pub fn message(&self, end: &str, figure: u32) -> String {
-        let (mask, airfield) = (self.numbers(end, "key")[0], self.numbers(end, "airfield")[0]);
-        format!("{}first {airfield} 0 {}\n", self.comment(end), (figure + mask) % Q)
+        self.row(end, &[figure])
+    }
+
+    /// The lines that an end's row of figures gives, by its key.
+    pub fn row(&self, end: &str, figures: &[u32]) -> String {
+        let (key, airfield) = (self.numbers(end, "key"), self.numbers(end, "airfield")[0]);
+        let masked = figures.iter().zip(key).map(|(figure, mask)| (figure + mask) % Q);
+        let lines = masked.enumerate().map(|(place, element)| format!("first {airfield} {place} {element}\n"));
+        self.comment(end) + &lines.collect::<String>()
     }
 
     /// The line that leads a message.

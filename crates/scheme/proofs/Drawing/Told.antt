@@ -1,5 +1,5 @@
 -- Demand 3 from raw bytes.
---   nothing-told-of-bytes    for one plan, from demand 3 for it
+--   nothing-told-of-bytes    for one plan and the tables of a kind, from demand 3 for them
 --   demand-3-of-bytes        THE THIRD DEMAND FROM RAW BYTES, modulo 65521
 -- Assumes nothing.
 use mathlib.Core.Path.{_≡_}
@@ -8,7 +8,7 @@ use mathlib.Core.List.{List}
 use Prim.Native.Nat.{ℕ, _*_, _≤_}
 use native.Mathlib.Omega.{arith}
 use Rattle.scheme.specs.Scheme.{Arithmetic, sixteen, Plan}
-use Rattle.scheme.specs.Promise.{Table, list-good, Matching, Nothing-told, Demand-3}
+use Rattle.scheme.specs.Promise.{Table, admissible, list-good, Matching, Nothing-told, Demand-3}
 use Rattle.scheme.specs.Drawn.{byte}
 use Rattle.scheme.specs.Evenly.{Matched, Draws, Nothing-told-of-bytes, Demand-3-of-bytes}
 use Rattle.scheme.proofs.Privacy.Demand.{demand-3}
@@ -36,9 +36,10 @@ module _ (A : Arithmetic) (p : Plan) where
     back-there = λ xs h. m .one-to-one xs h .1;
   }
 
-pub nothing-told-of-bytes : (A : Arithmetic) → A .size ≤ byte * byte → (p : Plan) → Nothing-told A p → Nothing-told-of-bytes A p
+pub nothing-told-of-bytes : (A : Arithmetic) → A .size ≤ byte * byte → (p : Plan) (kind : Table → Type 0) → Nothing-told A p kind
+    → Nothing-told-of-bytes A p kind
 unfolding Nothing-told Nothing-told-of-bytes
-nothing-told-of-bytes A two p told n v c x y ok lt few good-x good-y alike =
+nothing-told-of-bytes A two p kind told n v c x y ok lt few good-x good-y alike =
     let m = told v c x y ok lt few good-x good-y alike in
     let l = lists-matched A p m in
     let f = draws-from A p n in
@@ -51,4 +52,4 @@ nothing-told-of-bytes A two p told n v c x y ok lt few good-x good-y alike =
 
 pub demand-3-of-bytes : Demand-3-of-bytes
 unfolding Demand-3-of-bytes Demand-3
-demand-3-of-bytes p h = nothing-told-of-bytes sixteen (omega arith) p (demand-3 p h)
+demand-3-of-bytes p h = nothing-told-of-bytes sixteen (omega arith) p (admissible sixteen p) (demand-3 p h)

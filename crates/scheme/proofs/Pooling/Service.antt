@@ -1,7 +1,8 @@
 -- The pooling service keeps its promises, over an arithmetic that has the laws at every good plan.
 --   refused-unchanged, as-new                    a refused record changes nothing; a round begins as that of a new service
 --   sixteen-exactly, never-sixteen               when 16 is answered
---   one-answer, always-answers, finish-right     each record has one answer, and a finish of replies by the rules the total
+--   one-answer, always-answers                   each record has one answer
+--   finish-right, finish-residues                a finish of replies by the rules has the total
 --   demand-2                                     THE SECOND DEMAND
 -- Assumes nothing.
 use mathlib.Core.Path.{_≡_, refl, sym, ap, _∙_, subst}
@@ -14,16 +15,17 @@ use lib.Dec.{eqb}
 use borrow.Author.Tests.{lt-ltb, ltb-true, eqb-false}
 use Rattle.scheme.specs.Lists.{span}
 use Rattle.scheme.specs.Scheme.{Arithmetic, sixteen, Plan, plan-good, places, total-at, _then_, unless}
-use Rattle.scheme.specs.Totals.{One-choice, Some-choice, Rules-explain, Totals-right}
+use Rattle.scheme.specs.Totals.{One-choice, Some-choice, Rules-explain, Residues-right}
 use Rattle.scheme.specs.Service.{has-plan, plan-missing, second-plan, not-gathering, not-replying, State, replied, Record, plan-record, open-record, first-record, close-record, reply-record, finish-record, Answer, opened, totalled, refused, element-refusal, refusal, planned-state, opened-state, next-state, answer-of, is-finish, values, explained-by, totals-by, Steps, refuses, accepts, totals-up, disagrees, Runs, more, Well}
-use Rattle.scheme.specs.ServicePromise.{One-answer, Answered, Always-answers, Refused-unchanged, As-new, Finish-right, Unexplained, Sixteen-exactly, Never-sixteen, Demand-2}
-use Rattle.scheme.specs.Laws.{Laws}
+use Rattle.scheme.specs.ServicePromise.{One-answer, Answered, Always-answers, Refused-unchanged, As-new, Finish-right, Finish-residues, Unexplained, Sixteen-exactly, Never-sixteen, Demand-2}
+use Rattle.scheme.specs.Laws.{Laws, Adds-whole}
 use Rattle.scheme.proofs.Tests.{holds}
 use Rattle.scheme.proofs.Refusals.{then-taken, then-zero, unless-held, unless-zero}
 use Rattle.scheme.proofs.Pooling.Well.{finishing, steps-well, stays-well}
 use Rattle.scheme.proofs.Pooling.Choices.{totals-same, decided}
 use Rattle.scheme.proofs.Modular.{sixteen-laws}
-use Rattle.scheme.proofs.Pooling.Totals.{one-choice, some-choice, rules-explain, totals-right}
+use Rattle.scheme.proofs.Whole.{sixteen-whole, total-fits, totals-whole}
+use Rattle.scheme.proofs.Pooling.Totals.{one-choice, some-choice, rules-explain, residues-right}
 
 answer-not-refused : (r : Record) (s : State) (n : ℕ) → answer-of r s ≡ refused n → ⊥
 unfolding answer-of
@@ -147,9 +149,9 @@ module _ (A : Arithmetic) where
         taken (reply-record k b x) e = answered _ s _ _ w (accepts (reply-record k b x) s refl e)
         taken finish-record e = finished s w e
 
-    pub finish-right : Finish-right A
-    unfolding Finish-right Rules-explain Totals-right explained-by totals-by is-finish
-    finish-right s t a xs x w e ok ax rules h = told t a h
+    pub finish-residues : Finish-residues A
+    unfolding Finish-residues Rules-explain Residues-right explained-by totals-by is-finish
+    finish-residues s t a xs x w e ok rules h = told t a h
       where
         told : (t : State) (a : Answer) → Steps A finish-record s a t
             → a ≡ totalled (s .round) (map (total-at A (s .plan) x (s .survivors)) (span (places (s .plan)) 0))
@@ -158,10 +160,17 @@ module _ (A : Arithmetic) where
         told _ _ (totals-up _ f d h) =
             let g = finishing A s e in
             ap (totalled (s .round))
-            (totals-right A (s .plan) (laws-here s w e) xs x (s .survivors) (replied s) _ _ f ok ax (w .survive (g .replying)) (g .many) rules h)
+            (residues-right A (s .plan) (laws-here s w e) xs x (s .survivors) (replied s) _ _ f ok (w .survive (g .replying)) (g .many) rules h)
         told _ _ (disagrees _ d h) =
             let c = rules-explain A (s .plan) (laws-here s w e) xs x (s .survivors) (replied s) _ _ ok (w .survive (finishing A s e .replying)) rules in
             absurd (h (c .choice) (c .right))
+
+    pub finish-right : Adds-whole A → Finish-right A
+    unfolding Finish-right Finish-residues
+    finish-right adds s t a xs x w e ok ax rules h = (
+      finish-residues s t a xs x w e ok rules h ∙ ap (totalled (s .round)) (totals-whole A (s .plan) x ax (s .survivors) adds),
+      total-fits A (s .plan) x ax (s .survivors),
+    )
 
     pub never-sixteen : Never-sixteen A
     unfolding Never-sixteen Some-choice explained-by
@@ -178,7 +187,8 @@ demand-2 = record {
   always-answers = always-answers sixteen sixteen-laws;
   refused-unchanged = refused-unchanged sixteen;
   as-new = as-new sixteen;
-  finish-right = finish-right sixteen sixteen-laws;
+  finish-right = finish-right sixteen sixteen-laws sixteen-whole;
+  finish-residues = finish-residues sixteen sixteen-laws;
   sixteen-exactly = sixteen-exactly sixteen;
   never-sixteen = never-sixteen sixteen sixteen-laws;
 }

@@ -7,7 +7,8 @@
 --   columns-known, one-explained       U rows settle U columns
 --   one-choice, some-choice            at least U replies leave at most one choice; U leave one
 --   settled                            what explains the first U replies is what explains all, if anything does
---   rules-explain, totals-right        replies that follow the rules are explained, and what explains them gives the survivors' total
+--   rules-explain                      replies that follow the rules are explained
+--   residues-right, totals-right       and what explains them gives the survivors' total, in the arithmetic and as a whole number
 -- Assumes nothing.
 use mathlib.Core.Path.{_≡_, refl, sym, ap, ap₂, _∙_}
 use mathlib.Core.Logic.{_≢_, inl, inr}
@@ -29,13 +30,14 @@ use Rattle.algebra.proofs.Cauchy.{solves, unique}
 use Rattle.scheme.specs.Lists.{span, all-of}
 use Rattle.scheme.specs.Scheme.{Arithmetic, elements, sum, Plan, items, places, in-set, ones, usable, users-in, mask, noise, column, row-value, share, shares, key, first-message, total-at}
 use Rattle.scheme.specs.Promise.{Table, list-good}
-use Rattle.scheme.specs.Totals.{explains, explains-all, total-of, totals, Follows, One-choice, Totals-right, Some-choice, Rules-explain}
-use Rattle.scheme.specs.Laws.{Laws}
+use Rattle.scheme.specs.Totals.{explains, explains-all, total-of, totals, Follows, One-choice, Residues-right, Totals-right, Some-choice, Rules-explain}
+use Rattle.scheme.specs.Laws.{Laws, Adds-whole}
 use Rattle.scheme.proofs.Tests.{and-both, and-joined, same-test}
 use Rattle.scheme.proofs.Lists.{span-in, in-span, span-once, span-length, span-more, span-end, map-below-same, map-span-length, map-span-at, map-below-at, members-once}
 use Rattle.scheme.proofs.Sums.{el-same, zero-small, sum-same, sum-el, sum-small, row-value-el, row-value-small}
 use Rattle.scheme.proofs.Sets.{users-in-in, user-in, users-in-size}
 use Rattle.scheme.proofs.Laws.{system-of}
+use Rattle.scheme.proofs.Whole.{total-fits, totals-whole}
 use Rattle.scheme.proofs.Keys.{each-at, key-mask, key-reply, elements-at, elements-map, list-elements}
 
 pub all-of-in : (t : ℕ → Bool) (l : List ℕ) → all-of t l ≡ true → (k : ℕ) → In k l → t k ≡ true
@@ -250,7 +252,14 @@ module _ (A : Arithmetic) (p : Plan) (L : Laws A (p .users) (p .threshold)) wher
         (sum-el A _ _ L l _ ∙ field-sum-same K l _ _ (λ k m. L .el-add _ _) ∙ sum-add K l (λ k. el (getD (x k) i 0)) (λ k. el (mask p xs k i)))
         (sum-el A _ _ L l (λ k. mask p xs k i)) ∙ sub-is K (K .add-comm _ _) ∙ sym (sum-el A _ _ L l (λ k. getD (x k) i 0)))
 
-  pub totals-right : Totals-right A p
-  unfolding Totals-right totals
-  totals-right xs x v r firsts replies f ok ax u many rules h =
+  pub residues-right : Residues-right A p
+  unfolding Residues-right totals
+  residues-right xs x v r firsts replies f ok u many rules h =
       map-below-same _ _ (places p) (total-right xs x v r firsts replies f ok u many rules h)
+
+  pub totals-right : Adds-whole A → Totals-right A p
+  unfolding Totals-right Residues-right
+  totals-right adds xs x v r firsts replies f ok ax u many rules h = (
+    residues-right xs x v r firsts replies f ok u many rules h ∙ totals-whole A p x ax v adds,
+    total-fits A p x ax v,
+  )

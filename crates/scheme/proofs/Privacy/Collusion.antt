@@ -1,4 +1,5 @@
--- The premises of demand 3 on the colluders are sharp at every good plan, in every arithmetic with the laws.
+-- The premises of demand 3 on the colluders are sharp at every good plan, in every arithmetic with the laws, the second one where there are
+-- more elements than users.
 --   own-needed          tables that differ for a colluder: no matching
 --   collusion-needed    T + 1 colluders: no matching. Users 1 to T + 1 collude, all users but the last one are the set, and the last one
 --                       has the figure 0 or 1 as the last item of block 0
@@ -8,8 +9,8 @@ use mathlib.Core.Path.{_≡_, refl, sym, ap, _∙_}
 use mathlib.Core.Logic.{_≢_}
 use mathlib.Core.Bool.{Bool, true, false, cond}
 use mathlib.Core.List.{map}
-use Prim.Native.Nat.{ℕ, _+_, _*_, _-_, _<_}
-use native.Mathlib.Decide.{decLt}
+use Prim.Native.Nat.{ℕ, _+_, _*_, _-_, _≤_, _<_}
+use native.Mathlib.Nat.{le-div-iff-mul-le}
 use native.Mathlib.Omega.{arith}
 use lib.Dec.{eqb}
 use lib.ListN.{getD}
@@ -17,15 +18,15 @@ use borrow.Author.Tests.{eq-eqb, ne-eqb}
 use Rattle.algebra.specs.Sums.{In}
 use Rattle.algebra.proofs.Sums.{sum-same as field-sum-same, sum-pick}
 use Rattle.scheme.specs.Lists.{span}
-use Rattle.scheme.specs.Scheme.{Arithmetic, sixteen, Plan, plan-good, items, places, in-set, users-in, total-at}
-use Rattle.scheme.specs.Promise.{Table, admissible}
+use Rattle.scheme.specs.Scheme.{Arithmetic, sixteen, Plan, plan-good, items, places, figure-bound, in-set, users-in, total-at}
+use Rattle.scheme.specs.Promise.{Table, rows-good, admissible}
 use Rattle.scheme.specs.Good.{Good}
 use Rattle.scheme.specs.Laws.{Laws}
 use Rattle.scheme.specs.Sharp.{Own-needed, Collusion-needed}
 use Rattle.scheme.proofs.Lists.{map-same, map-span-length, map-below-at, members-once}
 use Rattle.scheme.proofs.Sums.{el-same, sum-same, sum-el}
 use Rattle.scheme.proofs.Sets.{users-in-in, place-lt}
-use Rattle.scheme.proofs.Keys.{elements-map}
+use Rattle.scheme.proofs.Elements.{within-map}
 use Rattle.scheme.proofs.Good.{good}
 use Rattle.scheme.proofs.Modular.{sixteen-laws}
 use Rattle.scheme.proofs.Privacy.Sharp.{in-users, zeros, zeros-good}
@@ -40,16 +41,10 @@ own-needed A p L v c k x y ax ay lo hi e ne m =
 pub own-needed-sixteen : (p : Plan) → plan-good p ≡ true → Own-needed sixteen p
 own-needed-sixteen p h = own-needed sixteen p (sixteen-laws p h)
 
-module _ (A : Arithmetic) (p : Plan) (L : Laws A (p .users) (p .threshold)) (g : Good p) where
-  -- users 1 and 2 have different rows, so 0 is not the only element
-  two : 1 < A .size
-  two = elim (decLt 1 (A .size)) [
-    | yes h ↦ h
-    | no h ↦
-        let e : L .val (L .row 1) ≡ L .val (L .row 2) = omega (arith, L .val-small (L .row 1), L .val-small (L .row 2)) in
-        absurd (L .rows-apart 1 2 (omega arith, omega arith) (omega arith, omega arith) (λ d. omega arith)
-        (sym (L .el-val (L .row 1)) ∙ ap (L .el) e ∙ L .el-val (L .row 2)))
-  ]
+module _ (A : Arithmetic) (p : Plan) (L : Laws A (p .users) (p .threshold)) (g : Good p) (large : p .users < A .size) where
+  one-within : 1 ≤ figure-bound A p
+  unfolding figure-bound
+  one-within = le-div-iff-mul-le {k = p .users} {x = 1} {y = A .size - 1} (omega arith) .1 (omega arith)
 
   -- the last item of block 0
   last : ℕ
@@ -69,16 +64,17 @@ module _ (A : Arithmetic) (p : Plan) (L : Laws A (p .users) (p .threshold)) (g :
   unfolding table
   table-at n k i h = map-below-at (figure n k) (places p) i h
 
-  figure-small : (n k i : ℕ) → n < A .size → figure n k i < A .size
+  figure-small : (n k i most : ℕ) → n ≤ most → figure n k i ≤ most
   unfolding figure
-  figure-small n k i h = elim (eqb i last) as (λ s. cond s (cond (eqb k (p .users)) n 0) 0 < A .size) [
-    | true ↦ elim (eqb k (p .users)) as (λ t. cond t n 0 < A .size) [ true ↦ h | false ↦ omega arith ]
+  figure-small n k i most h = elim (eqb i last) as (λ s. cond s (cond (eqb k (p .users)) n 0) 0 ≤ most) [
+    | true ↦ elim (eqb k (p .users)) as (λ t. cond t n 0 ≤ most) [ true ↦ h | false ↦ omega arith ]
     | false ↦ omega arith
   ]
 
-  table-good : (n : ℕ) → n < A .size → admissible A p (table n)
-  unfolding admissible table
-  table-good n h k lo hi = (map-span-length (figure n k) (places p) 0, elements-map A (figure n k) (span (places p) 0) (λ i m. figure-small n k i h))
+  table-good : (n : ℕ) → n ≤ figure-bound A p → admissible A p (table n)
+  unfolding rows-good table
+  table-good n h k lo hi =
+      (map-span-length (figure n k) (places p) 0, within-map (figure-bound A p) (figure n k) (span (places p) 0) (λ i m. figure-small n k i _ h))
 
   -- only the last user has another figure, and only there
   user-same : (k i : ℕ) → k ≢ p .users → figure 0 k i ≡ figure 1 k i
@@ -116,8 +112,8 @@ module _ (A : Arithmetic) (p : Plan) (L : Laws A (p .users) (p .threshold)) (g :
     usable-set = first-usable p (p .users - 1) (omega arith) (omega arith);
     below = first-below (p .users) (p .collusion + 1) (omega arith);
     one-more = first-size (p .users) (p .collusion + 1) (omega arith);
-    x-admissible = table-good 0 (omega (arith, two));
-    y-admissible = table-good 1 two;
+    x-admissible = table-good 0 (omega arith);
+    y-admissible = table-good 1 one-within;
     alike = record {
       own = λ k lo hi e. map-same (figure 0 k) (figure 1 k) (span (places p) 0)
           (λ i m. user-same k i (λ d. omega (arith, first-out (p .collusion + 1) k e)));
@@ -130,9 +126,9 @@ module _ (A : Arithmetic) (p : Plan) (L : Laws A (p .users) (p .threshold)) (g :
         (first (p .users)) 0 (first-usable p (p .users) (omega arith) (omega arith))
         (λ k n. let s = users-in-in p (first (p .collusion + 1)) k n in first-in (p .users) k (s .0) (s .1)) (omega arith)
         (λ j lo hi. totals-same (first (p .users)) _ (place-lt p 0 j (omega arith) lo (omega arith)) (λ k n. place-same k _ (λ d. omega arith))) in
-        let e : _≡_ {A = ℕ} 0 1 = el-same A _ _ L (omega (arith, two)) two (sym (total-all 0) ∙ ap (L .el) settled ∙ total-all 1) in
+        let e : _≡_ {A = ℕ} 0 1 = el-same A _ _ L (omega arith) (omega arith) (sym (total-all 0) ∙ ap (L .el) settled ∙ total-all 1) in
         omega arith;
   }
 
 pub collusion-needed-sixteen : (p : Plan) → plan-good p ≡ true → Collusion-needed sixteen p
-collusion-needed-sixteen p h = collusion-needed sixteen p (sixteen-laws p h) (good p h)
+collusion-needed-sixteen p h = let g = good p h in collusion-needed sixteen p (sixteen-laws p h) g (omega arith)

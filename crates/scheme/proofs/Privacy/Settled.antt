@@ -20,7 +20,7 @@ use Rattle.algebra.proofs.Sums.{sum-same as field-sum-same, sum-add, sum-append
 use Rattle.algebra.proofs.Cauchy.{unique}
 use Rattle.scheme.specs.Lists.{span}
 use Rattle.scheme.specs.Scheme.{Arithmetic, sum, Plan, items, places, in-set, ones, usable, users-in, mask, noise, column, share, shares, key, first-message, reply, total-at}
-use Rattle.scheme.specs.Promise.{Table, Shown, admissible, shown}
+use Rattle.scheme.specs.Promise.{Table, Shown, rows-good, element-rows, shown}
 use Rattle.scheme.specs.Laws.{Laws}
 use Rattle.scheme.proofs.Lists.{span-append, span-in, in-span, map-below-at, members-once}
 use Rattle.scheme.proofs.Sums.{el-same, zero-small, sum-el, sum-small, row-value-el}
@@ -65,8 +65,8 @@ module _ (A : Arithmetic) (p : Plan) (L : Laws A (p .users) (p .threshold)) (v c
   unfolding shown
   key-same = map-back (key A p xs) (key A p ys) (users-in p c) (ap (λ (s : Shown). s .keys) same)
 
-  pub own-same : admissible A p x → admissible A p y → (k : ℕ) → In k (users-in p c) → x k ≡ y k
-  unfolding admissible
+  pub own-same : element-rows A p x → element-rows A p y → (k : ℕ) → In k (users-in p c) → x k ≡ y k
+  unfolding rows-good
   own-same ax ay k m =
       let s = users-in-in p c k m in
       let a = ax k (s .0) (s .1) in

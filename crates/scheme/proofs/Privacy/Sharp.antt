@@ -17,8 +17,8 @@ use borrow.Author.Tests.{eq-eqb}
 use Rattle.algebra.specs.Sums.{In}
 use Rattle.scheme.specs.Lists.{span}
 use Rattle.scheme.specs.Scheme.{Arithmetic, sixteen, Plan, plan-good, places, in-set, usable, users-in, list-length, key, first-message, reply, total-at}
-use Rattle.scheme.specs.Promise.{Table, Shown, admissible, list-good, shown}
-use Rattle.scheme.specs.Totals.{Follows, Totals-right, Choice, Rules-explain}
+use Rattle.scheme.specs.Promise.{Table, Shown, list-good, shown}
+use Rattle.scheme.specs.Totals.{Follows, Residues-right, Choice, Rules-explain}
 use Rattle.scheme.specs.Laws.{Laws}
 use Rattle.scheme.specs.Sharp.{Totals-needed}
 use Rattle.scheme.proofs.Tests.{and-joined}
@@ -27,7 +27,7 @@ use Rattle.scheme.proofs.Sums.{zero-small}
 use Rattle.scheme.proofs.Sets.{usable-size}
 use Rattle.scheme.proofs.Keys.{elements-map}
 use Rattle.scheme.proofs.Modular.{sixteen-laws}
-use Rattle.scheme.proofs.Pooling.Totals.{rules-explain, totals-right}
+use Rattle.scheme.proofs.Pooling.Totals.{rules-explain, residues-right}
 
 pub map-back : {B : Type 0} (f g : ℕ → B) (l : List ℕ) → map f l ≡ map g l → (k : ℕ) → In k l → f k ≡ g k
 map-back f g [] e k m = absurd m
@@ -46,14 +46,14 @@ unfolding list-good zeros
 zeros-good A p L = and-joined (eq-eqb _ _ (map-span-length (λ i. 0) (list-length p) 0))
     (elements-map A (λ i. 0) (span (list-length p) 0) (λ i h. zero-small A _ _ L))
 
-module _ (A : Arithmetic) (p : Plan) (L : Laws A (p .users) (p .threshold)) (v c : ℕ) (x y : Table) (ax : admissible A p x) (ay : admissible A p y)
+module _ (A : Arithmetic) (p : Plan) (L : Laws A (p .users) (p .threshold)) (v c : ℕ) (x y : Table)
     (u : usable p v ≡ true) where
   pub totals-told : (xs ys : List ℕ) → list-good A p xs ≡ true → list-good A p ys ≡ true → shown A p v c xs x ≡ shown A p v c ys y
       → (i : ℕ) → i < places p → total-at A p x v i ≡ total-at A p y v i
-  unfolding shown Totals-right Rules-explain
+  unfolding shown Residues-right Rules-explain
   totals-told xs ys ok good same i h = sym (at x) ∙ ap (λ (l : List ℕ). getD l i 0)
-      (sym (totals-right A p L xs x v v firsts replies (found .choice) ok ax u (usable-size p v u) first (found .right))
-      ∙ totals-right A p L ys y v v firsts replies (found .choice) good ay u (usable-size p v u) second (found .right)) ∙ at y
+      (sym (residues-right A p L xs x v v firsts replies (found .choice) ok u (usable-size p v u) first (found .right))
+      ∙ residues-right A p L ys y v v firsts replies (found .choice) good u (usable-size p v u) second (found .right)) ∙ at y
     where
       firsts : (k place : ℕ) → ℕ
       firsts k i = getD (first-message A p (key A p xs k) (x k)) i 0
@@ -85,9 +85,9 @@ module _ (A : Arithmetic) (p : Plan) (L : Laws A (p .users) (p .threshold)) (v c
 
 pub totals-needed : (A : Arithmetic) (p : Plan) → Laws A (p .users) (p .threshold) → Totals-needed A p
 unfolding Totals-needed
-totals-needed A p L v c x y i u ax ay h ne m =
+totals-needed A p L v c x y i u h ne m =
     let fine = zeros-good A p L in
-    ne (totals-told A p L v c x y ax ay u (zeros p) (m .partner (zeros p)) fine (m .stays (zeros p) fine .0) (m .same (zeros p) fine) i h)
+    ne (totals-told A p L v c x y u (zeros p) (m .partner (zeros p)) fine (m .stays (zeros p) fine .0) (m .same (zeros p) fine) i h)
 
 pub totals-needed-sixteen : (p : Plan) → plan-good p ≡ true → Totals-needed sixteen p
 totals-needed-sixteen p h = totals-needed sixteen p (sixteen-laws p h)

@@ -153,10 +153,10 @@ module _ (A : Arithmetic) (p : Plan) (L : Laws A (p .users) (p .threshold)) wher
             let s = users-in-in p c k m in key-same k (s .0) (s .1) (s .2)) i;
       }
 
-  -- for every plan with no more colluders than threshold; the figures need not be admissible
-  pub nothing-told : p .collusion ≤ p .threshold → Nothing-told A p
+  -- for every plan with no more colluders than threshold, and tables of any kind
+  pub nothing-told : p .collusion ≤ p .threshold → (kind : Table → Type 0) → Nothing-told A p kind
   unfolding Nothing-told partner back
-  nothing-told more v c x y u below few ax ay al = let Δ : List ℕ = table-delta A p L c x y in record {
+  nothing-told more kind v c x y u below few ax ay al = let Δ : List ℕ = table-delta A p L c x y in record {
     partner = partner A p L c x y;
     back = back A p L c x y;
     stays = λ xs ok. (each-good A p (A .add) (L .add-small) xs Δ, each-good A p (A .subtract) (L .subtract-small) xs Δ);

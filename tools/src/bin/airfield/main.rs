@@ -147,11 +147,17 @@ fn first(file: &Path, figures: Figures) -> Result<String, String> {
     match kept.end.message() {
         Some(sent) if masked.as_ref().map_or(false, |message| message == sent) => kept.held.sync()?,
         Some(_) => {
-            let why = format!("{} has given its first message with other figures, and a key never sends twice", shown(file));
+            // figures beyond the bound may be those sent, under an earlier build
+            let how = match masked {
+                Err(Refusal::FigureBeyond) => ", which `airfield again` prints",
+                _ => " with other figures",
+            };
+            let why = format!("{} has given its first message{how}, and a key never sends twice", shown(file));
             return Err(refused(Refusal::OutOfTurn, &why));
         }
         None => {
-            kept.end.stage = Stage::Sent { message: masked? };
+            let message = masked.map_err(|refusal| figures_refused(refusal, kept.end.plan, &figures))?;
+            kept.end.stage = Stage::Sent { message };
             kept.replace()?;
         }
     }
@@ -171,20 +177,29 @@ fn nothing_sent(file: &Path) -> String {
 }
 
 /// The first message of a fresh end with this key.
-fn masked(end: &End, figures: &[Number]) -> Result<Vec<u16>, String> {
+fn masked(end: &End, figures: &[Number]) -> Result<Vec<u16>, Refusal> {
     // a figure too large for 16 bits is refused as the largest of 16 bits is
     let row: Vec<u16> = figures.iter().map(|figure| u16::try_from(figure.value).unwrap_or(u16::MAX)).collect();
     let mut message = vec![0; end.plan.row_len()];
     let fresh = cutawheno::End::start(end.plan, end.airfield);
     let sent = fresh.and_then(|mut fresh| fresh.first_message(&end.key, &row, &mut message));
-    sent.map(|()| message).map_err(|refusal| {
-        let large = figures.iter().enumerate().find(|(_, figure)| figure.value > LARGEST);
-        match (refusal, large) {
-            (Refusal::BadLength, _) => refused(refusal, &format!("figures wanted {}, given {}", end.plan.row_len(), row.len())),
-            (Refusal::BadElement, Some((at, figure))) => refused(refusal, &format!("figure {} is {figure}, above {LARGEST}", at + 1)),
-            _ => refusal.to_string(),
-        }
-    })
+    sent.map(|()| message)
+}
+
+/// Of figures that are too large the first is named, and what the largest may be.
+fn figures_refused(refusal: Refusal, plan: Plan, figures: &[Number]) -> String {
+    let (airfields, bound) = (plan.users, plan.figure_bound().into());
+    let above = |limit: u32| {
+        let large = figures.iter().enumerate().find(|(_, figure)| figure.value > limit);
+        large.map(|(at, figure)| format!("figure {} is {figure}, above {limit}", at + 1))
+    };
+    let why = match refusal {
+        Refusal::BadLength => Some(format!("figures wanted {}, given {}", plan.row_len(), figures.len())),
+        Refusal::BadElement => above(LARGEST).map(|why| format!("{why}; the largest for {airfields} airfields is {bound}")),
+        Refusal::FigureBeyond => above(bound).map(|why| format!("{why}, the largest for {airfields} airfields")),
+        _ => None,
+    };
+    why.map_or_else(|| refusal.to_string(), |why| refused(refusal, &why))
 }
 
 fn figures_from_input() -> Result<Vec<Number>, String> {
@@ -282,10 +297,10 @@ fn status_of_end(end: &End) -> String {
 
 fn status_of_plan(plan: &Plan) -> String {
     let Plan { users, threshold, collusion, blocks } = plan;
+    let figures = format!("figures in a row {}, each at most {}", plan.row_len(), plan.figure_bound());
     format!(
-        "plan {}\nairfields {users}, of which {threshold} must answer and {collusion} may collude; blocks {blocks}; figures in a row {}\n",
-        numbers(plan),
-        plan.row_len()
+        "plan {}\nairfields {users}, of which {threshold} must answer and {collusion} may collude; blocks {blocks}; {figures}\n",
+        numbers(plan)
     )
 }
 

@@ -27,7 +27,8 @@ airfield: the key office and an airfield's end, over the proved library
   airfield --help, --version
 
 K airfields (3 to 8), U of them must answer at least (above T, below K), T may collude at most (from 1), M blocks (1 to 16).
-A row has M x (U - T) figures, whole numbers from 0 to 65520. Bit k - 1 of a set's number stands for airfield k.
+A row has M x (U - T) figures, whole numbers from 0 to 65520 / K, rounded down; `airfield status` tells both numbers.
+Bit k - 1 of a set's number stands for airfield k.
 An end sends one first message and answers one set. The same figures, or the same set, asked again give the same bytes.
 `records encode` makes bytes of the records in words.
 

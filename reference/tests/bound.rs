@@ -1,0 +1,93 @@
+//! Figures that add up to a count: item 2 of document 02, its words one by one.
+
+use reference::client::{make_key, End, Stage};
+use reference::field::Element;
+use reference::material::{all_plans, table, whole_sums};
+use reference::random::Random;
+use reference::scheme::Plan;
+
+/// Two places: L = 2.
+const PLAN: [u8; 4] = [3, 2, 1, 2];
+const BOUND: Element = 21840;
+const BEFORE: [Element; 2] = [7, 9];
+
+/// A fresh end of airfield 1 with its key, which is all zero.
+fn fresh() -> (End, Vec<Element>) {
+    let plan = Plan::new(PLAN).unwrap();
+    let mut key = vec![1; plan.key_length(1)];
+    make_key(PLAN, 1, &vec![0; plan.list_length()], &mut key).unwrap();
+    (End::start(PLAN, 1).unwrap(), key)
+}
+
+/// The call is refused, and leaves buffer and stage as they were, so that the
+/// bound is then taken.
+fn refused(number: u8, key: &[Element], figures: [Element; 2]) {
+    let (mut end, good_key) = fresh();
+    let mut message = BEFORE;
+    let refusal = end.first_message(key, &figures, &mut message).unwrap_err();
+    assert_eq!((refusal.number(), message, end.stage()), (number, BEFORE, Stage::Fresh));
+    end.first_message(&good_key, &[BOUND, 0], &mut message).unwrap();
+    assert_eq!((message, end.stage()), ([BOUND, 0], Stage::Sent));
+}
+
+#[test]
+fn bounds_of_all_plans() {
+    let bounds = [21840, 16380, 13104, 10920, 9360, 8190];
+    for plan in all_plans() {
+        assert_eq!(plan.figure_bound(), bounds[usize::from(plan.airfields() - 3)]);
+    }
+}
+
+#[test]
+fn larger_figures_are_refused_by_32() {
+    let key = fresh().1;
+    for figure in [BOUND + 1, 65520] {
+        refused(32, &key, [figure, 0]);
+        refused(32, &key, [BOUND, figure]);
+        refused(32, &key, [figure, figure]);
+    }
+}
+
+#[test]
+fn three_comes_first_wherever_it_stands() {
+    let key = fresh().1;
+    for no_element in [65521, 65535] {
+        refused(3, &key, [BOUND + 1, no_element]);
+        refused(3, &key, [no_element, BOUND + 1]);
+        for place in 0..key.len() {
+            let mut key = key.clone();
+            key[place] = no_element;
+            refused(3, &key, [BOUND + 1, 65520]);
+        }
+    }
+}
+
+#[test]
+fn eighteen_and_two_come_first() {
+    let (mut end, key) = fresh();
+    let mut number = |key: &[Element], figures: &[Element], message: &mut [Element]| {
+        end.first_message(key, figures, message).map_or_else(|refusal| refusal.number(), |()| 0)
+    };
+    let beyond = [BOUND + 1; 3];
+    assert_eq!(number(&key[1..], &beyond[..2], &mut [0; 2]), 2);
+    assert_eq!(number(&key, &beyond, &mut [0; 2]), 2);
+    assert_eq!(number(&key, &beyond[..2], &mut [0; 3]), 2);
+    assert_eq!(number(&key, &[BOUND; 2], &mut [0; 2]), 0);
+    assert_eq!(number(&key, &beyond[..2], &mut [0; 2]), 18);
+}
+
+/// Tables reach both ends of the bound, and totals both ends of a count.
+#[test]
+fn tables_reach_both_ends() {
+    let mut random = Random::new(1);
+    let everyone = (1 << PLAN[0]) - 1;
+    let plan = Plan::new(PLAN).unwrap();
+    let tables: Vec<_> = (0..1000).map(|_| table(&plan, &mut random)).collect();
+    let figures: Vec<Element> = tables.iter().flatten().flatten().copied().collect();
+    let sums: Vec<Element> =
+        tables.iter().flat_map(|table| whole_sums(&plan, table, everyone)).collect();
+    for (numbers, largest) in [(figures, BOUND), (sums, 65520)] {
+        assert_eq!(numbers.iter().min(), Some(&0));
+        assert_eq!(numbers.iter().max(), Some(&largest));
+    }
+}
