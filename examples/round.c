@@ -1,6 +1,6 @@
 /* Document 01's example round through the library, from C: the random list from raw bytes, keys, first messages, the service, the
- * replies to set 5, the total 40, the largest figure, and a call for each refusal. Prints what it gets on standard error; exit status 1
- * where anything is not as expected. */
+ * replies to set 5, the total 40, the largest figure, a call for each refusal, and a round of signed figures. Prints what it gets on
+ * standard error; exit status 1 where anything is not as expected. */
 #include <inttypes.h>
 #include <stdio.h>
 #include <string.h>
@@ -8,7 +8,7 @@
 #include "cutawheno.h"
 
 enum { USERS = 3, THRESHOLD = 2, COLLUSION = 1, BLOCKS = 1, SET = 5, TOTAL = 40, ROUND = 7, LIST_LEN = 7, KEY_LEN = 4, PLACES = 1 };
-enum { BOUND = 21840 };
+enum { BOUND = 21840, SIGNED_BOUND = 10920 };
 
 #define PLAN USERS, THRESHOLD, COLLUSION, BLOCKS
 
@@ -106,10 +106,10 @@ static Airfield report(uint32_t user)
 
     expect("make_key", cutawheno_make_key(list, LIST_LEN, a.key, KEY_LEN, PLAN, user), CUTAWHENO_TAKEN);
     expect_row("key", a.key, expected_keys[row], KEY_LEN);
-    expect("end_start", cutawheno_end_start(a.end, PLAN, user), CUTAWHENO_TAKEN);
-    expect_numbers("fresh", a.end, (uint32_t[]){PLAN, user, CUTAWHENO_FRESH, 0, 0});
+    expect("end_start", cutawheno_end_start(a.end, PLAN, user, CUTAWHENO_COUNTS), CUTAWHENO_TAKEN);
+    expect_numbers("fresh", a.end, (uint32_t[]){PLAN, user, CUTAWHENO_FRESH, CUTAWHENO_COUNTS, 0});
     expect("first_message", cutawheno_end_first_message(a.key, KEY_LEN, figures[row], PLACES, a.message, PLACES, a.end), CUTAWHENO_TAKEN);
-    expect_numbers("sent", a.end, (uint32_t[]){PLAN, user, CUTAWHENO_SENT, 0, 0});
+    expect_numbers("sent", a.end, (uint32_t[]){PLAN, user, CUTAWHENO_SENT, CUTAWHENO_COUNTS, 0});
     expect_row("first message", a.message, expected_messages[row], PLACES);
     return a;
 }
@@ -122,14 +122,14 @@ static uint16_t answer(Airfield *a, uint32_t user, uint32_t set)
     CutawhenoPart part = cutawheno_end_reply(a->key, KEY_LEN, a->end, set);
     if (user == 2) {
         expect_part("reply of user 2", part, (CutawhenoPart){CUTAWHENO_NOT_IN_SET, 0, 0});
-        expect_numbers("end of user 2", a->end, (uint32_t[]){PLAN, user, CUTAWHENO_SENT, 0, 0});
+        expect_numbers("end of user 2", a->end, (uint32_t[]){PLAN, user, CUTAWHENO_SENT, CUTAWHENO_COUNTS, 0});
         return 0;
     }
     expect_part("reply", part, (CutawhenoPart){CUTAWHENO_TAKEN, expected_starts[row], BLOCKS});
     expect_row("reply", a->key + part.start, &expected_replies[row], BLOCKS);
     expect_part("reply again", cutawheno_end_reply(a->key, KEY_LEN, a->end, set), part);
     expect_part("other set", cutawheno_end_reply(a->key, KEY_LEN, a->end, 7), (CutawhenoPart){CUTAWHENO_OTHER_SET, 0, 0});
-    expect_numbers("answered", a->end, (uint32_t[]){PLAN, user, CUTAWHENO_ANSWERED + set, 0, 0});
+    expect_numbers("answered", a->end, (uint32_t[]){PLAN, user, CUTAWHENO_ANSWERED + set, CUTAWHENO_COUNTS, 0});
     return a->key[part.start];
 }
 
@@ -184,8 +184,9 @@ static void run_key_refusals(void)
     expect_row("key buffer", made, untouched, KEY_LEN);
 }
 
-/* An end of user 1 at a stage, with two numbers that no call reads. */
-#define END_AT(stage) {PLAN, 1, stage, 8, 9}
+/* An end of user 1 of a use and at a stage, with a last number that no call reads. */
+#define END_OF(use, stage) {PLAN, 1, stage, use, 9}
+#define END_AT(stage) END_OF(CUTAWHENO_COUNTS, stage)
 
 /* What an end refuses leaves buffer and array as they came, whatever stands there. */
 static void run_end_refusals(void)
@@ -197,9 +198,9 @@ static void run_end_refusals(void)
     uint32_t last[CUTAWHENO_END] = END_AT(UINT32_MAX), no_plan[CUTAWHENO_END] = {3, 3, 1, 1, 1, CUTAWHENO_SENT, 0, 0};
     uint16_t message[PLACES] = {7};
 
-    expect("start, plan", cutawheno_end_start(last, 3, 2, 1, 17, 1), CUTAWHENO_BAD_PLAN);
-    expect("start, user 0", cutawheno_end_start(last, PLAN, 0), CUTAWHENO_BAD_USER);
-    expect("start, user 4", cutawheno_end_start(last, PLAN, 4), CUTAWHENO_BAD_USER);
+    expect("start, plan", cutawheno_end_start(last, 3, 2, 1, 17, 1, CUTAWHENO_SIGNED), CUTAWHENO_BAD_PLAN);
+    expect("start, user 0", cutawheno_end_start(last, PLAN, 0, CUTAWHENO_SIGNED), CUTAWHENO_BAD_USER);
+    expect("start, user 4", cutawheno_end_start(last, PLAN, 4, CUTAWHENO_COUNTS), CUTAWHENO_BAD_USER);
     expect("sent twice", cutawheno_end_first_message(key, KEY_LEN, figures[0], PLACES, message, PLACES, sent), CUTAWHENO_OUT_OF_TURN);
     expect("any stage", cutawheno_end_first_message(key, KEY_LEN, figures[0], PLACES, message, PLACES, last), CUTAWHENO_OUT_OF_TURN);
     expect("any plan", cutawheno_end_first_message(key, KEY_LEN, figures[0], PLACES, message, PLACES, no_plan), CUTAWHENO_BAD_PLAN);
@@ -225,21 +226,26 @@ static void run_end_refusals(void)
     expect_numbers("end under any plan", no_plan, was_bad);
 
     expect("first_message", cutawheno_end_first_message(key, KEY_LEN, figures[0], PLACES, message, PLACES, fresh), CUTAWHENO_TAKEN);
-    expect_numbers("the last two stay", fresh, was_sent);
+    expect_numbers("use and last number stay", fresh, was_sent);
     expect_part("reply", cutawheno_end_reply(key, KEY_LEN, fresh, SET), (CutawhenoPart){CUTAWHENO_TAKEN, expected_starts[0], BLOCKS});
-    expect_numbers("the last two stay", fresh, (uint32_t[])END_AT(CUTAWHENO_ANSWERED + SET));
+    expect_numbers("use and last number stay", fresh, (uint32_t[])END_AT(CUTAWHENO_ANSWERED + SET));
 }
 
 /* What a fresh end of user 1 answers to a figure, and what is then in the buffer: the element sent, or 7 after a refusal, which leaves
  * the end fresh. */
-static void expect_figure(const char *what, const uint16_t key[KEY_LEN], uint16_t figure, uint32_t number, uint16_t sent)
+static void expect_figure_of(uint32_t use, const char *what, const uint16_t key[KEY_LEN], uint16_t figure, uint32_t number, uint16_t sent)
 {
-    uint32_t end[CUTAWHENO_END] = END_AT(CUTAWHENO_FRESH);
+    uint32_t end[CUTAWHENO_END] = END_OF(use, CUTAWHENO_FRESH);
     uint16_t message[PLACES] = {7};
 
     expect(what, cutawheno_end_first_message(key, KEY_LEN, &figure, PLACES, message, PLACES, end), number);
     expect_row(what, message, &sent, PLACES);
-    expect_numbers(what, end, (uint32_t[])END_AT(number == CUTAWHENO_TAKEN ? CUTAWHENO_SENT : CUTAWHENO_FRESH));
+    expect_numbers(what, end, (uint32_t[])END_OF(use, number == CUTAWHENO_TAKEN ? CUTAWHENO_SENT : CUTAWHENO_FRESH));
+}
+
+static void expect_figure(const char *what, const uint16_t key[KEY_LEN], uint16_t figure, uint32_t number, uint16_t sent)
+{
+    expect_figure_of(CUTAWHENO_COUNTS, what, key, figure, number, sent);
 }
 
 /* The largest figure and the next; what is no element, in figures or key, is refused as such. */
@@ -253,6 +259,72 @@ static void run_figures(void)
     expect_figure("no element", key, CUTAWHENO_Q, CUTAWHENO_BAD_ELEMENT, 7);
     expect_figure("larger figure, bad key", bad, BOUND + 1, CUTAWHENO_BAD_ELEMENT, 7);
     expect_figure("figure 10 with mask 65511", near_q, 10, CUTAWHENO_TAKEN, 0);
+}
+
+static void expect_reading(const char *what, CutawhenoReading got, uint32_t number, int32_t value)
+{
+    expect(what, got.number, number);
+    expect(what, (uint32_t)got.value, (uint32_t)value);
+}
+
+static void expect_residue(const char *what, CutawhenoResidue got, uint32_t number, uint16_t element)
+{
+    expect(what, got.number, number);
+    expect(what, got.element, element);
+}
+
+/* Both ends of the bound, as lent and as read. Any number but 0 is signed. */
+static void run_signed_figures(void)
+{
+    const uint16_t *key = expected_keys[0], far_below = CUTAWHENO_Q - SIGNED_BOUND;
+
+    expect_residue("furthest above", cutawheno_residue(SIGNED_BOUND, PLAN), CUTAWHENO_TAKEN, SIGNED_BOUND);
+    expect_residue("furthest below", cutawheno_residue(-SIGNED_BOUND, PLAN), CUTAWHENO_TAKEN, far_below);
+    expect_residue("above that", cutawheno_residue(SIGNED_BOUND + 1, PLAN), CUTAWHENO_FIGURE_BEYOND, 0);
+    expect_residue("below that", cutawheno_residue(-SIGNED_BOUND - 1, PLAN), CUTAWHENO_FIGURE_BEYOND, 0);
+    expect_residue("of bad plan", cutawheno_residue(INT32_MIN, 3, 3, 1, 1), CUTAWHENO_BAD_PLAN, 0);
+    expect_figure("-1, of counts", key, CUTAWHENO_Q - 1, CUTAWHENO_FIGURE_BEYOND, 7);
+    for (uint32_t use = CUTAWHENO_SIGNED; use != 0; use *= 256) {
+        expect_figure_of(use, "-1", key, CUTAWHENO_Q - 1, CUTAWHENO_TAKEN, 99);
+        expect_figure_of(use, "furthest above", key, SIGNED_BOUND, CUTAWHENO_TAKEN, 11020);
+        expect_figure_of(use, "furthest below", key, far_below, CUTAWHENO_TAKEN, 54701);
+        expect_figure_of(use, "above that", key, SIGNED_BOUND + 1, CUTAWHENO_FIGURE_BEYOND, 7);
+        expect_figure_of(use, "below that", key, far_below - 1, CUTAWHENO_FIGURE_BEYOND, 7);
+        expect_figure_of(use, "no element", key, CUTAWHENO_Q, CUTAWHENO_BAD_ELEMENT, 7);
+        expect_reading("zero", cutawheno_read_total(0, use), CUTAWHENO_TAKEN, 0);
+        expect_reading("largest", cutawheno_read_total(CUTAWHENO_SIGNED_REACH, use), CUTAWHENO_TAKEN, 32760);
+        expect_reading("smallest", cutawheno_read_total(CUTAWHENO_SIGNED_REACH + 1, use), CUTAWHENO_TAKEN, -32760);
+        expect_reading("no total", cutawheno_read_total(CUTAWHENO_Q, use), CUTAWHENO_BAD_ELEMENT, 0);
+    }
+    expect_reading("largest of counts", cutawheno_read_total(CUTAWHENO_Q - 1, CUTAWHENO_COUNTS), CUTAWHENO_TAKEN, 65520);
+    expect_reading("no total of counts", cutawheno_read_total(UINT32_MAX, CUTAWHENO_COUNTS), CUTAWHENO_BAD_ELEMENT, 0);
+}
+
+/* Changes of -14 at airfield 1 and 5 at airfield 3, 2 is silent: in as residues, and out as -9. */
+static void run_signed_round(void)
+{
+    const int32_t changes[USERS] = {-14, 0, 5};
+    uint16_t totals[CUTAWHENO_MOST_PLACES], message[PLACES];
+    Service s = {{0}, {0}, {0}};
+
+    expect("plan", cutawheno_service_plan(LEND(s), PLAN), CUTAWHENO_TAKEN);
+    expect("open", cutawheno_service_open(LEND(s), ROUND), CUTAWHENO_TAKEN);
+    for (uint32_t user = 1; user <= USERS; user += 2) {
+        uint32_t end[CUTAWHENO_END];
+        CutawhenoResidue lent = cutawheno_residue(changes[user - 1], PLAN);
+        expect("residue", lent.number, CUTAWHENO_TAKEN);
+        expect("end_start", cutawheno_end_start(end, PLAN, user, CUTAWHENO_SIGNED), CUTAWHENO_TAKEN);
+        expect("its use", end[CUTAWHENO_END_AT_USE], CUTAWHENO_SIGNED);
+        expect("first_message", cutawheno_end_first_message(expected_keys[user - 1], KEY_LEN, &lent.element, PLACES, message, PLACES, end),
+               CUTAWHENO_TAKEN);
+        expect("first", cutawheno_service_first_element(s.head, s.first, user, 0, message[0]), CUTAWHENO_TAKEN);
+    }
+    expect("set", cutawheno_service_close(LEND(s)).set, SET);
+    for (uint32_t user = 1; user <= USERS; user += 2)
+        expect("reply", cutawheno_service_reply_element(s.head, s.reply, user, 0, expected_replies[user - 1]), CUTAWHENO_TAKEN);
+    expect("finish", cutawheno_service_finish(LEND(s), totals), CUTAWHENO_TAKEN);
+    expect("total", totals[0], 65512);
+    expect_reading("total, as it is meant", cutawheno_read_total(totals[0], CUTAWHENO_SIGNED), CUTAWHENO_TAKEN, -9);
 }
 
 /* The three report; then what is refused leaves every array as it came. */
@@ -318,21 +390,26 @@ int main(void)
     expect("list_len", cutawheno_list_len(PLAN), LIST_LEN);
     expect("key_len", cutawheno_key_len(PLAN), KEY_LEN);
     expect("figure_bound", cutawheno_figure_bound(PLAN), BOUND);
+    expect("signed_bound", cutawheno_signed_bound(PLAN), SIGNED_BOUND);
     expect("list_len of 8 2 1 16", cutawheno_list_len(8, 2, 1, 16), 4080);
     expect("longest row", cutawheno_row_len(8, 7, 1, 16), CUTAWHENO_MOST_PLACES);
     expect("longest list", cutawheno_list_len(8, 4, 3, 16), CUTAWHENO_LONGEST_LIST);
     expect("longest key", cutawheno_key_len(8, 2, 1, 16), CUTAWHENO_LONGEST_KEY);
     expect("figure_bound of 8 2 1 16", cutawheno_figure_bound(8, 2, 1, 16), 8190);
+    expect("signed_bound of 8 2 1 16", cutawheno_signed_bound(8, 2, 1, 16), 4095);
     expect("row_len of 3 2 2 1", cutawheno_row_len(3, 2, 2, 1), 0);
     expect("list_len of 3 3 1 1", cutawheno_list_len(3, 3, 1, 1), 0);
     expect("key_len of 3 2 1 17", cutawheno_key_len(3, 2, 1, 17), 0);
     expect("figure_bound of 3 3 1 1", cutawheno_figure_bound(3, 3, 1, 1), 0);
+    expect("signed_bound of 3 3 1 1", cutawheno_signed_bound(3, 3, 1, 1), 0);
     expect("version", CUTAWHENO_VERSION, 900);
     run_list();
     run_round();
     run_key_refusals();
     run_end_refusals();
     run_figures();
+    run_signed_figures();
+    run_signed_round();
     run_service_refusals();
     printf("C: %s\n", failures == 0 ? "the example round, as expected" : "NOT as expected");
     return failures != 0;

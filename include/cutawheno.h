@@ -1,10 +1,14 @@
-/* Key maker, airfield end and pooling service of document 01, and of document 02 the random list from raw bytes and the bound of figures,
- * for C: the functions that crates/capi exports (rt staticlib capi gives libcapi.a).
+/* Key maker, airfield end and pooling service of document 01, and of document 02 the random list from raw bytes, the bound of figures and
+ * signed figures, for C: the functions that crates/capi exports (rt staticlib capi gives libcapi.a).
  *
  * A plan is four numbers: users (K), threshold (U), collusion (T) and blocks (M). A user is an airfield's number, 1 to K; a set of
  * users is a number whose bit k - 1 stands for user k. An element is a number below CUTAWHENO_Q. A row of figures, and a first
- * message, has blocks * (threshold - collusion) elements. A figure is at most 65520 / users, rounded down, so that the figures of all
- * users at one place add up to an element.
+ * message, has blocks * (threshold - collusion) elements.
+ *
+ * The use of an end, chosen at its start, says what its figures are. Counts are from 0 to 65520 / users, rounded down. Signed figures lie
+ * within 32760 / users of zero, rounded down, and are lent as their residues: -14 as CUTAWHENO_Q - 14 (cutawheno_residue). Where the
+ * survivors of a round are all of one use, a total read by that use (cutawheno_read_total) is the whole-number sum of their figures. The
+ * service is told no use, and a total says none: whoever reads it must know.
  *
  * An end is an array of CUTAWHENO_END numbers that the caller keeps and lends to each call: cutawheno_end_start makes it, whatever
  * stood there, and the other calls move its stage themselves. The array may be read and stored at any time: store it after each call
@@ -47,27 +51,35 @@ extern "C" {
 #endif
 
 enum {
-    CUTAWHENO_Q = 65521,           /* elements are below it */
+    CUTAWHENO_Q = 65521,            /* elements are below it */
+    CUTAWHENO_SIGNED_REACH = 32760, /* a total of signed figures up to it is read as itself, above it as itself less CUTAWHENO_Q */
     CUTAWHENO_LEAST_USERS = 3,
     CUTAWHENO_MOST_USERS = 8,
     CUTAWHENO_MOST_BLOCKS = 16,
-    CUTAWHENO_MOST_PLACES = 96,    /* of a row of figures: plan 8 7 1 16 */
-    CUTAWHENO_LONGEST_LIST = 7952, /* of all plans' random lists: plan 8 4 3 16 */
-    CUTAWHENO_LONGEST_KEY = 2048,  /* of all plans' keys: plan 8 2 1 16 */
-    CUTAWHENO_END = 8,             /* length of an end's array */
-    CUTAWHENO_HEAD = 8,            /* lengths of a service's arrays */
+    CUTAWHENO_MOST_PLACES = 96,     /* of a row of figures: plan 8 7 1 16 */
+    CUTAWHENO_LONGEST_LIST = 7952,  /* of all plans' random lists: plan 8 4 3 16 */
+    CUTAWHENO_LONGEST_KEY = 2048,   /* of all plans' keys: plan 8 2 1 16 */
+    CUTAWHENO_END = 8,              /* length of an end's array */
+    CUTAWHENO_HEAD = 8,             /* lengths of a service's arrays */
     CUTAWHENO_FIRSTS = 768,
     CUTAWHENO_REPLIES = 128
 };
 
-/* What stands where in an end. The two numbers behind the stage are kept for later: start writes 0 there, and no call reads them. */
+/* What stands where in an end. The last number is kept for later: start writes 0 there, and no call reads it. */
 enum {
     CUTAWHENO_END_AT_USERS = 0,
     CUTAWHENO_END_AT_THRESHOLD = 1,
     CUTAWHENO_END_AT_COLLUSION = 2,
     CUTAWHENO_END_AT_BLOCKS = 3,
     CUTAWHENO_END_AT_USER = 4,
-    CUTAWHENO_END_AT_STAGE = 5
+    CUTAWHENO_END_AT_STAGE = 5,
+    CUTAWHENO_END_AT_USE = 6 /* as it was given at the start; 0 in an array of a version that had counts alone */
+};
+
+/* The use of an end, and of a total; a number above 1 is read as signed. */
+enum {
+    CUTAWHENO_COUNTS = 0,
+    CUTAWHENO_SIGNED = 1
 };
 
 /* The stage of an end; one that has answered the set v is at CUTAWHENO_ANSWERED + v. */
@@ -103,7 +115,7 @@ enum {
     CUTAWHENO_TAKEN = 0,
     CUTAWHENO_BAD_PLAN = 1,       /* plan outside its ranges */
     CUTAWHENO_BAD_LENGTH = 2,     /* a lent list or buffer is not of the plan's length */
-    CUTAWHENO_BAD_ELEMENT = 3,    /* an element above 65520 */
+    CUTAWHENO_BAD_ELEMENT = 3,    /* an element, or a total to be read, above 65520 */
     CUTAWHENO_BAD_USER = 4,       /* user 0 or above the plan's users */
     CUTAWHENO_SET_UNUSABLE = 5,   /* fewer than the threshold in the set, or a user that the plan has not */
     CUTAWHENO_NOT_IN_SET = 6,     /* the user is not in the set */
@@ -118,7 +130,7 @@ enum {
     CUTAWHENO_OUT_OF_TURN = 18,   /* first message already given, or a reply asked of a fresh end */
     CUTAWHENO_OTHER_SET = 19,     /* a set other than the one answered */
     CUTAWHENO_BYTES_RUN_OUT = 31, /* the bytes run out before the list is full */
-    CUTAWHENO_FIGURE_BEYOND = 32  /* a figure above 65520 / users, rounded down */
+    CUTAWHENO_FIGURE_BEYOND = 32  /* a count above 65520 / users, or a signed figure further from zero than 32760 / users, rounded down */
 };
 
 /* What a reply answers: the refusal or 0; the shares, which are the `count` elements of the key from `start` on (none after a
@@ -135,6 +147,18 @@ typedef struct {
     uint32_t set;
 } CutawhenoClosed;
 
+/* What reading a total answers: the refusal or 0; the whole number that the total stands for, 0 after a refusal. */
+typedef struct {
+    uint32_t number;
+    int32_t value;
+} CutawhenoReading;
+
+/* What the residue of a signed figure answers: the refusal or 0; the element to lend, 0 after a refusal. */
+typedef struct {
+    uint32_t number;
+    uint16_t element;
+} CutawhenoResidue;
+
 /* The length of a row of figures of a plan, and of a first message; 0 for a plan outside its ranges. */
 CUTAWHENO_ANSWER
 uint32_t cutawheno_row_len(uint32_t users, uint32_t threshold, uint32_t collusion, uint32_t blocks);
@@ -147,9 +171,13 @@ uint32_t cutawheno_list_len(uint32_t users, uint32_t threshold, uint32_t collusi
 CUTAWHENO_ANSWER
 uint32_t cutawheno_key_len(uint32_t users, uint32_t threshold, uint32_t collusion, uint32_t blocks);
 
-/* The largest figure of a plan, the same for every user and place: 65520 / users, rounded down; 0 for a plan outside its ranges. */
+/* The largest count of a plan, the same for every user and place: 65520 / users, rounded down; 0 for a plan outside its ranges. */
 CUTAWHENO_ANSWER
 uint32_t cutawheno_figure_bound(uint32_t users, uint32_t threshold, uint32_t collusion, uint32_t blocks);
+
+/* How far from zero, below and above, a signed figure of a plan may lie: 32760 / users, rounded down; 0 for a plan outside its ranges. */
+CUTAWHENO_ANSWER
+uint32_t cutawheno_signed_bound(uint32_t users, uint32_t threshold, uint32_t collusion, uint32_t blocks);
 
 /* Fills the random list of a plan from raw random bytes: two bytes are a number, low byte first, each number above 65520 is skipped, and
  * bytes behind the last element of the list are unused, as is a byte that stands alone. The list has cutawheno_list_len elements; the
@@ -165,13 +193,20 @@ CUTAWHENO_ANSWER
 uint32_t cutawheno_make_key(const uint16_t *list, size_t list_len, uint16_t *key, size_t key_len,
                             uint32_t users, uint32_t threshold, uint32_t collusion, uint32_t blocks, uint32_t user);
 
-/* Starts a fresh end of a user under a plan. Refusals, the earliest: BAD_PLAN, BAD_USER. */
+/* Starts a fresh end of a user under a plan, for counts or, where is_signed is not 0, for signed figures.
+ * Refusals, the earliest: BAD_PLAN, BAD_USER. */
 CUTAWHENO_ANSWER
 uint32_t cutawheno_end_start(uint32_t end[CUTAWHENO_END],
-                             uint32_t users, uint32_t threshold, uint32_t collusion, uint32_t blocks, uint32_t user);
+                             uint32_t users, uint32_t threshold, uint32_t collusion, uint32_t blocks, uint32_t user, uint32_t is_signed);
 
-/* Writes the first message: figures plus masks, place by place. Figures and message have cutawheno_row_len elements, and no figure is
- * above cutawheno_figure_bound. The end must be fresh, and has then sent.
+/* The element as which a signed figure is lent to the end of any user: itself from 0 on, and below 0 itself plus CUTAWHENO_Q.
+ * Refusals, the earliest: BAD_PLAN, FIGURE_BEYOND. */
+CUTAWHENO_ANSWER
+CutawhenoResidue cutawheno_residue(int32_t value, uint32_t users, uint32_t threshold, uint32_t collusion, uint32_t blocks);
+
+/* Writes the first message: figures plus masks, place by place. Figures and message have cutawheno_row_len elements. No count is above
+ * cutawheno_figure_bound; a signed figure is at most cutawheno_signed_bound, or at least CUTAWHENO_Q less that. The end must be fresh, and
+ * has then sent.
  * Refusals, the earliest: BAD_PLAN, BAD_USER, OUT_OF_TURN, BAD_LENGTH, BAD_ELEMENT (in key or figures), FIGURE_BEYOND. */
 CUTAWHENO_ANSWER
 uint32_t cutawheno_end_first_message(const uint16_t *key, size_t key_len, const uint16_t *figures, size_t figures_len,
@@ -213,11 +248,17 @@ uint32_t cutawheno_service_reply_element(const uint32_t head[CUTAWHENO_HEAD], ui
 
 /* Writes the survivors' total, place by place, and 0 behind the places of the plan; the service is idle then, and holds nothing. Where
  * all that is held of the survivors is what cutawheno_end_first_message wrote and cutawheno_end_reply told for their set, each under its
- * user's key of one random list, this is the whole-number sum of their figures.
+ * user's key of one random list, this is the sum of their figures modulo CUTAWHENO_Q: of counts the whole-number sum, of signed figures
+ * its residue, which cutawheno_read_total reads.
  * Refusals, the earliest: PLAN_ORDER, OTHER_PHASE, TOO_FEW, UNEXPLAINED. */
 CUTAWHENO_ANSWER
 uint32_t cutawheno_service_finish(uint32_t head[CUTAWHENO_HEAD], uint16_t first[CUTAWHENO_FIRSTS], uint16_t reply[CUTAWHENO_REPLIES],
                                   uint16_t totals[CUTAWHENO_MOST_PLACES]);
+
+/* Reads a total of counts, which is itself, or, where is_signed is not 0, of signed figures: up to CUTAWHENO_SIGNED_REACH it is itself,
+ * above it itself less CUTAWHENO_Q. Refusal: BAD_ELEMENT (the total, in either use). */
+CUTAWHENO_ANSWER
+CutawhenoReading cutawheno_read_total(uint32_t total, uint32_t is_signed);
 
 #ifdef __cplusplus
 }

@@ -1,7 +1,7 @@
 //! The calls: ours through the static library, beside plain Rust, and for solving beside FLINT. Function pointers hide Rust's from the
 //! compiler, so that each is called as ours are.
 use crate::cutawheno;
-use crate::fast::{self, Client, Plan, Service, Stage, MOST_PLACES};
+use crate::fast::{self, Client, Plan, Service, Stage, Use, MOST_PLACES};
 use crate::rounds::{named, Random, Round};
 use crate::timing::{duel, duel_over};
 use std::hint::black_box;
@@ -44,19 +44,27 @@ pub fn measure_keys(p: Plan) -> [f64; 2] {
     all_users.map(|time| time / p.users as f64)
 }
 
+fn our_use(usage: Use) -> cutawheno::Use {
+    match usage {
+        Use::Counts => cutawheno::Use::Counts,
+        Use::Signed => cutawheno::Use::Signed,
+    }
+}
+
 /// The first message of user 3.
-pub fn measure_first(p: Plan) -> [f64; 2] {
-    let round = Round::new(p, &mut Random(4));
+pub fn measure_first(p: Plan, usage: Use) -> [f64; 2] {
+    let round = Round::of_use(p, usage, &mut Random(4));
     let (key, figures) = (&round.keys[2], &round.figures[2]);
     let mut message = vec![0; p.places()];
     let mut rust_message = message.clone();
-    let fresh = cutawheno::End::start(ours(p), 3).unwrap().numbers();
+    let fresh = cutawheno::End::start(ours(p), 3, our_use(usage)).unwrap().numbers();
     cutawheno::End::resume(fresh).first_message(key, figures, &mut message).unwrap();
     assert!(message == round.messages[2], "first message under {}", named(p));
+    let rust_fresh = Client { plan: p, user: 3, usage, stage: Stage::Fresh };
     let rust = black_box(Client::first_message as fn(&mut Client, &[u16], &[u16], &mut [u16]) -> u32);
     duel(
         || cutawheno::End::resume(fresh).first_message(key, figures, &mut message).unwrap(),
-        || assert_eq!(rust(&mut Client { plan: p, user: 3, stage: Stage::Fresh }, key, figures, &mut rust_message), 0),
+        || assert_eq!(rust(&mut { rust_fresh }, key, figures, &mut rust_message), 0),
     )
 }
 
@@ -64,10 +72,10 @@ pub fn measure_first(p: Plan) -> [f64; 2] {
 pub fn measure_reply(p: Plan) -> [f64; 2] {
     let round = Round::new(p, &mut Random(5));
     let key = &round.keys[2];
-    let mut end = cutawheno::End::start(ours(p), 3).unwrap();
+    let mut end = cutawheno::End::start(ours(p), 3, cutawheno::Use::Counts).unwrap();
     end.first_message(key, &round.figures[2], &mut vec![0; p.places()]).unwrap();
     assert!(end.reply(key, round.everyone).unwrap() == round.replies[2], "reply under {}", named(p));
-    let mut rust_end = Client { plan: p, user: 3, stage: Stage::Sent };
+    let mut rust_end = Client { plan: p, user: 3, usage: Use::Counts, stage: Stage::Sent };
     let rust = black_box(Client::reply as for<'a> fn(&mut Client, &'a [u16], u32) -> Result<&'a [u16], u32>);
     duel(
         || assert_eq!(end.reply(key, round.everyone).unwrap().len(), p.blocks as usize),

@@ -1,4 +1,4 @@
-//! Document 01, and items 1 and 2 of document 02, in plain Rust, written for speed: the algorithms, tests and order of refusals of the
+//! Document 01, and items 1 to 3 of document 02, in plain Rust, written for speed: the algorithms, tests and order of refusals of the
 //! proved crates. Every call answers 0, or the number of its refusal, and then changes nothing.
 #![allow(dead_code)] // each program uses its part
 
@@ -17,8 +17,11 @@ const INVERSES: [u16; 16] =
 const GAPS: [u16; 16] =
     [9360, 10920, 13104, 16380, 21840, 32760, 65520, 1, 1, 32761, 43681, 49141, 52417, 54601, 56161, 57331];
 
-/// The largest figures, by K.
-const BOUNDS: [u16; 16] = [0, 0, 0, 21840, 16380, 13104, 10920, 9360, 8190, 0, 0, 0, 0, 0, 0, 0];
+/// How far from zero figures may lie, by use and K.
+const BOUNDS: [[u16; 16]; 2] = [
+    [0, 0, 0, 21840, 16380, 13104, 10920, 9360, 8190, 0, 0, 0, 0, 0, 0, 0],
+    [0, 0, 0, 10920, 8190, 6552, 5460, 4680, 4095, 0, 0, 0, 0, 0, 0, 0],
+];
 
 /// How many sets of K users have at least U members, and how many of these hold a given user: by K and U.
 const USABLE: [[u16; 8]; 16] = counts(0);
@@ -59,6 +62,20 @@ fn all_elements(list: &[u16]) -> bool {
     all_within(list, Q as u16 - 1)
 }
 
+/// Whether all are elements, no further than `most` from zero; the same way. From `most` + 1 on as many numbers are too far as `wide`.
+fn all_near(list: &[u16], most: u16) -> bool {
+    let wide = Q as u16 - 1 - 2 * most;
+    let past = |x: u16| wide.saturating_sub(x.wrapping_sub(most + 1)) | x.saturating_sub(Q as u16 - 1);
+    list.iter().fold(0, |far, &x| far | past(x)) == 0
+}
+
+/// Counts, or signed figures, which are lent as their residues.
+#[derive(Clone, Copy, PartialEq)]
+pub enum Use {
+    Counts,
+    Signed,
+}
+
 /// K, U, T and M of document 01.
 #[derive(Clone, Copy, Default)]
 pub struct Plan {
@@ -89,9 +106,9 @@ impl Plan {
         self.blocks as usize * self.items()
     }
 
-    /// The largest figure.
-    pub fn bound(self) -> u16 {
-        BOUNDS[self.users as usize & 15]
+    /// How far from zero a figure may lie.
+    pub fn bound(self, usage: Use) -> u16 {
+        BOUNDS[usage as usize][self.users as usize & 15]
     }
 
     fn is_usable(self, set: u32) -> bool {
@@ -293,10 +310,19 @@ pub enum Stage {
 pub struct Client {
     pub plan: Plan,
     pub user: u32,
+    pub usage: Use,
     pub stage: Stage,
 }
 
 impl Client {
+    fn figures_good(&self, figures: &[u16]) -> bool {
+        let bound = self.plan.bound(self.usage);
+        match self.usage {
+            Use::Counts => all_within(figures, bound),
+            Use::Signed => all_near(figures, bound),
+        }
+    }
+
     /// Figures within the bound are elements, so that one look at them tells of 3 and 32 where nothing is refused.
     fn first_refusal(&self, key: &[u16], figures: &[u16], room: usize) -> u32 {
         let places = || self.plan.places();
@@ -304,7 +330,7 @@ impl Client {
             0 if !matches!(self.stage, Stage::Fresh) => 18,
             0 if key.len() != self.plan.key_len() => 2,
             0 if figures.len() != places() || room != places() => 2,
-            0 if all_within(figures, self.plan.bound()) && all_elements(key) => 0,
+            0 if self.figures_good(figures) && all_elements(key) => 0,
             0 if !all_elements(key) || !all_elements(figures) => 3,
             0 => 32,
             number => number,

@@ -10,6 +10,7 @@ mod report;
 mod rounds;
 mod timing;
 
+use fast::Use;
 use report::Report;
 use rounds::{named, plan, Random, Round};
 use std::fs;
@@ -31,8 +32,10 @@ fn main() {
         report.call("key maker", p, calls::measure_keys(p));
     }
     let plans = [plan(8, 2, 1, 16), plan(8, 7, 1, 16)];
-    for p in plans {
-        report.call("first message", p, calls::measure_first(p));
+    for (name, usage) in [("first message", Use::Counts), ("signed first message", Use::Signed)] {
+        for p in plans {
+            report.call(name, p, calls::measure_first(p, usage));
+        }
     }
     for p in plans {
         report.call("reply", p, calls::measure_reply(p));

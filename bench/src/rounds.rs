@@ -1,5 +1,5 @@
 //! What is measured on: a plan's random list, keys, messages and replies, and streams of records.
-use crate::fast::{make_key, Client, Plan, Stage, Q};
+use crate::fast::{make_key, Client, Plan, Stage, Use, Q};
 
 /// Numbers that look random, the same in every run.
 pub struct Random(pub u64);
@@ -16,6 +16,18 @@ impl Random {
     pub fn within(&mut self, n: usize, most: u16) -> Vec<u16> {
         (0..n).map(|_| self.below(most as u32 + 1) as u16).collect()
     }
+
+    /// A row within the bound of the use, as it is lent.
+    fn figures(&mut self, plan: Plan, usage: Use) -> Vec<u16> {
+        let bound = plan.bound(usage);
+        match usage {
+            Use::Counts => self.within(plan.places(), bound),
+            Use::Signed => {
+                let shifted = self.within(plan.places(), 2 * bound);
+                shifted.iter().map(|&x| ((x as u32 + Q - bound as u32) % Q) as u16).collect()
+            }
+        }
+    }
 }
 
 pub const fn plan(users: u32, threshold: u32, collusion: u32, blocks: u32) -> Plan {
@@ -26,7 +38,7 @@ pub fn named(p: Plan) -> String {
     format!("{} {} {} {}", p.users, p.threshold, p.collusion, p.blocks)
 }
 
-/// A round in which all users send, survive and reply; row k - 1 is user k's.
+/// A round in which all users send, survive and reply; row k - 1 is user k's. All have one use.
 pub struct Round {
     pub plan: Plan,
     pub everyone: u32,
@@ -39,6 +51,10 @@ pub struct Round {
 
 impl Round {
     pub fn new(plan: Plan, random: &mut Random) -> Round {
+        Round::of_use(plan, Use::Counts, random)
+    }
+
+    pub fn of_use(plan: Plan, usage: Use, random: &mut Random) -> Round {
         let everyone = (1 << plan.users) - 1;
         let list = random.within(plan.list_len(), Q as u16 - 1);
         let mut round =
@@ -46,8 +62,8 @@ impl Round {
         for user in 1..=plan.users {
             let mut key = vec![0; plan.key_len()];
             let mut message = vec![0; plan.places()];
-            let figures = random.within(plan.places(), plan.bound());
-            let mut end = Client { plan, user, stage: Stage::Fresh };
+            let figures = random.figures(plan, usage);
+            let mut end = Client { plan, user, usage, stage: Stage::Fresh };
             assert_eq!(make_key(plan, user, &round.list, &mut key), 0);
             assert_eq!(end.first_message(&key, &figures, &mut message), 0);
             round.replies.push(end.reply(&key, everyone).unwrap().to_vec());
@@ -110,7 +126,7 @@ impl Records {
     /// Round upon round, with nothing refused; each figure is one more than in the round before, and 0 behind the bound.
     pub fn accepted(size: usize) -> Records {
         let round = Round::new(plan(8, 2, 1, 16), &mut Random(1));
-        let figures = round.plan.bound() as u32 + 1;
+        let figures = round.plan.bound(Use::Counts) as u32 + 1;
         let mut records = Records::plan(round.plan);
         let mut number = 0;
         while records.0.len() < size {

@@ -4,15 +4,16 @@
 //! - `list_from_bytes`: a random list from raw bytes, which document 02 adds as
 //!   item 1, refusals 1, 2, 31
 //! - `make_key`: the key maker, refusals 1, 4, 2, 3
-//! - `End`, `Stage`: an airfield end, its plan, number and stage
+//! - `End`, `Stage`: an airfield end, its plan, number, use and stage
 //! - `End::start`: a fresh end, refusals 1, 4
 //! - `End::first_message`: refusals 18, 2, 3, and 32, which document 02 adds as
-//!   item 2
+//!   items 2 and 3
 //! - `End::reply`: refusals 18, 2, 3, 5, 6, 19
 
 use crate::field::{is_element, Element};
+use crate::reading::value_of;
 use crate::refusal::{refuse_if, Refusal};
-use crate::scheme::{self, holds, Plan, RandomList, Set};
+use crate::scheme::{self, holds, Plan, RandomList, Set, Use};
 
 /// Fills a lent random list: two bytes are a number, low byte first, and a
 /// number that is no element is skipped. A lone last byte is no number, and
@@ -55,14 +56,15 @@ pub enum Stage {
 pub struct End {
     plan: Plan,
     airfield: u8,
+    usage: Use,
     stage: Stage,
 }
 
 impl End {
-    pub fn start(plan: [u8; 4], airfield: u8) -> Result<End, Refusal> {
+    pub fn start(plan: [u8; 4], airfield: u8, usage: Use) -> Result<End, Refusal> {
         let plan = Plan::new(plan)?;
         refuse_if(!plan.has_airfield(airfield), Refusal::AirfieldNumber)?;
-        Ok(End { plan, airfield, stage: Stage::Fresh })
+        Ok(End { plan, airfield, usage, stage: Stage::Fresh })
     }
 
     /// Writes figures plus S into a lent buffer of L elements. The key is lent
@@ -80,8 +82,9 @@ impl End {
             self.key_fits(key) && figures.len() == row_length && message.len() == row_length;
         refuse_if(!lengths_fit, Refusal::Length)?;
         refuse_if(!all_elements(key) || !all_elements(figures), Refusal::NotElement)?;
-        let bound = self.plan.figure_bound();
-        refuse_if(figures.iter().any(|&figure| figure > bound), Refusal::FigureBeyond)?;
+        let bound = u32::from(self.plan.figure_bound(self.usage));
+        let beyond = |&figure: &Element| value_of(self.usage, figure).unsigned_abs() > bound;
+        refuse_if(figures.iter().any(beyond), Refusal::FigureBeyond)?;
         message.copy_from_slice(&scheme::first_message(key, figures));
         self.stage = Stage::Sent;
         Ok(())

@@ -4,6 +4,7 @@
 //! - `Random`: the generator
 //! - `Random::draw`, `below`, `chance`, `pick`, `shuffle`: plain draws
 //! - `Random::up_to`: from 0 to a largest number, both ends drawn often
+//! - `Random::around`: from either side of zero, both ends and zero drawn often
 //! - `Random::element`, `elements`: elements, drawn so
 
 use crate::field::{Element, LARGEST};
@@ -55,6 +56,11 @@ impl Random {
             1 => largest,
             _ => self.below(usize::from(largest) + 1) as Element,
         }
+    }
+
+    pub fn around(&mut self, largest: Element) -> i32 {
+        let size = i32::from(self.up_to(largest));
+        self.pick(&[size, -size])
     }
 
     pub fn element(&mut self) -> Element {

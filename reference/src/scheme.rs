@@ -3,8 +3,10 @@
 //! callers.
 //!
 //! - `Set`, `members`, `holds`, `set_of`: sets as numbers, bit k - 1 for k
-//! - `Plan`: K, U, T, M within their ranges, the lengths they fix, and the
-//!   largest figure (document 02, item 2)
+//! - `Use`: what an airfield's figures are, counts or signed ones (document 02,
+//!   item 3)
+//! - `Plan`: K, U, T, M within their ranges, the lengths they fix, and how far
+//!   from zero a figure may lie (document 02, items 2 and 3)
 //! - `RandomList`: the layout of the random list
 //! - `coefficient`: the Cauchy matrix
 //! - `share`, `key`: what airfield k gets from a random list
@@ -36,6 +38,23 @@ pub fn members(set: Set) -> impl Iterator<Item = u8> {
 
 pub fn set_of(airfields: impl Iterator<Item = u8>) -> Set {
     airfields.fold(0, |set, airfield| set | 1 << (airfield - 1))
+}
+
+/// A count is lent as itself, a signed figure as its residue.
+#[derive(Clone, Copy, Debug, PartialEq, Eq)]
+pub enum Use {
+    Counts,
+    Signed,
+}
+
+impl Use {
+    /// How far from zero a total may lie.
+    pub fn reach(self) -> Element {
+        match self {
+            Use::Counts => LARGEST,
+            Use::Signed => LARGEST / 2,
+        }
+    }
 }
 
 /// A plan within its ranges: K, U, T and M of document 01 in this order.
@@ -97,9 +116,9 @@ impl Plan {
         block * self.items() + (item - 1)
     }
 
-    /// The largest figure, so that K figures add up to an element.
-    pub fn figure_bound(&self) -> Element {
-        LARGEST / Element::from(self.airfields)
+    /// How far from zero a figure may lie, so that K of them stay within reach.
+    pub fn figure_bound(&self, usage: Use) -> Element {
+        usage.reach() / Element::from(self.airfields)
     }
 
     pub fn has_airfield(&self, airfield: u8) -> bool {

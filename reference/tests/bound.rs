@@ -1,10 +1,11 @@
 //! Figures that add up to a count: item 2 of document 02, its words one by one.
+//! Those of item 3 are in signed.rs.
 
 use reference::client::{make_key, End, Stage};
 use reference::field::Element;
-use reference::material::{all_plans, table, whole_sums};
+use reference::material::{all_plans, common_use, table, whole_sums};
 use reference::random::Random;
-use reference::scheme::Plan;
+use reference::scheme::{Plan, Use};
 
 /// Two places: L = 2.
 const PLAN: [u8; 4] = [3, 2, 1, 2];
@@ -16,7 +17,7 @@ fn fresh() -> (End, Vec<Element>) {
     let plan = Plan::new(PLAN).unwrap();
     let mut key = vec![1; plan.key_length(1)];
     make_key(PLAN, 1, &vec![0; plan.list_length()], &mut key).unwrap();
-    (End::start(PLAN, 1).unwrap(), key)
+    (End::start(PLAN, 1, Use::Counts).unwrap(), key)
 }
 
 /// The call is refused, and leaves buffer and stage as they were, so that the
@@ -34,7 +35,7 @@ fn refused(number: u8, key: &[Element], figures: [Element; 2]) {
 fn bounds_of_all_plans() {
     let bounds = [21840, 16380, 13104, 10920, 9360, 8190];
     for plan in all_plans() {
-        assert_eq!(plan.figure_bound(), bounds[usize::from(plan.airfields() - 3)]);
+        assert_eq!(plan.figure_bound(Use::Counts), bounds[usize::from(plan.airfields() - 3)]);
     }
 }
 
@@ -76,18 +77,26 @@ fn eighteen_and_two_come_first() {
     assert_eq!(number(&key, &beyond[..2], &mut [0; 2]), 18);
 }
 
-/// Tables reach both ends of the bound, and totals both ends of a count.
+/// Tables of each use reach both ends of the bound, and their sums both ends
+/// of what can be told; and there are tables of both uses.
 #[test]
 fn tables_reach_both_ends() {
     let mut random = Random::new(1);
     let everyone = (1 << PLAN[0]) - 1;
     let plan = Plan::new(PLAN).unwrap();
-    let tables: Vec<_> = (0..1000).map(|_| table(&plan, &mut random)).collect();
-    let figures: Vec<Element> = tables.iter().flatten().flatten().copied().collect();
-    let sums: Vec<Element> =
-        tables.iter().flat_map(|table| whole_sums(&plan, table, everyone)).collect();
-    for (numbers, largest) in [(figures, BOUND), (sums, 65520)] {
-        assert_eq!(numbers.iter().min(), Some(&0));
-        assert_eq!(numbers.iter().max(), Some(&largest));
+    let tables: Vec<_> = (0..3000).map(|_| table(&plan, &mut random)).collect();
+    let of_use = |usage| tables.iter().filter(move |table| common_use(table, everyone) == usage);
+    for (usage, figure_ends, sum_ends) in [
+        (Use::Counts, (0, BOUND.into()), (0, 65520)),
+        (Use::Signed, (-10920, 10920), (-32760, 32760)),
+    ] {
+        let rows = of_use(Some(usage)).flatten();
+        let figures: Vec<i32> = rows.flat_map(|row| row.figures.clone()).collect();
+        let sums = of_use(Some(usage)).flat_map(|table| whole_sums(&plan, table, everyone));
+        for (numbers, (least, largest)) in [(figures, figure_ends), (sums.collect(), sum_ends)] {
+            assert_eq!(numbers.iter().min(), Some(&least), "{usage:?}");
+            assert_eq!(numbers.iter().max(), Some(&largest), "{usage:?}");
+        }
     }
+    assert!(of_use(None).count() > 0);
 }

@@ -3,7 +3,7 @@
 use reference::client::{make_key, End, Stage};
 use reference::field::{inverse, Element};
 use reference::refusal::Refusal;
-use reference::scheme::{self, Plan, RandomList, Set};
+use reference::scheme::{self, Plan, RandomList, Set, Use};
 use reference::service::Service;
 use reference::stream;
 
@@ -26,7 +26,7 @@ fn key(list: &[Element], airfield: u8) -> [Element; 4] {
 
 /// An end that has sent, and what it sent.
 fn sent(key: &[Element], airfield: u8, figure: Element) -> (End, Element) {
-    let mut end = End::start(PLAN, airfield).unwrap();
+    let mut end = End::start(PLAN, airfield, Use::Counts).unwrap();
     let mut message = [0];
     end.first_message(key, &[figure], &mut message).unwrap();
     (end, message[0])
@@ -123,7 +123,7 @@ fn elements_at_the_bound() {
     key[0] = 65511;
     assert_eq!(sent(&key, 1, 10).1, 0);
     key[0] = 1;
-    let mut end = End::start(PLAN, 1).unwrap();
+    let mut end = End::start(PLAN, 1, Use::Counts).unwrap();
     let mut message = [9];
     for (figure, refusal) in [(65521, Refusal::NotElement), (65520, Refusal::FigureBeyond)] {
         let refused = end.first_message(&key, &[figure], &mut message);
@@ -185,7 +185,7 @@ fn sets_refused() {
 
 #[test]
 fn turns_refused() {
-    let mut end = End::start(PLAN, 1).unwrap();
+    let mut end = End::start(PLAN, 1, Use::Counts).unwrap();
     assert_eq!(end.reply(&KEYS[0], SET_5), Err(Refusal::SentOrFresh));
     let (mut end, _) = sent(&KEYS[0], 1, 10);
     assert_eq!(end.first_message(&KEYS[0], &[10], &mut [0]), Err(Refusal::SentOrFresh));
@@ -207,8 +207,8 @@ fn key_maker_refuses_in_order() {
     assert_eq!(refused(PLAN, 1, &bad_list, 4), 2);
     assert_eq!(refused(PLAN, 1, &bad_element, 5), 2);
     assert_eq!(refused(PLAN, 1, &bad_element, 4), 3);
-    assert_eq!(End::start([3, 3, 1, 1], 0), Err(Refusal::PlanRange));
-    assert_eq!(End::start(PLAN, 4), Err(Refusal::AirfieldNumber));
+    assert_eq!(End::start([3, 3, 1, 1], 0, Use::Counts), Err(Refusal::PlanRange));
+    assert_eq!(End::start(PLAN, 4, Use::Counts), Err(Refusal::AirfieldNumber));
 }
 
 #[test]

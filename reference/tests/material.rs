@@ -1,12 +1,12 @@
 //! The generated material is repeatable and reaches what it is meant to reach.
 
-use reference::material::{calls, damaged, drawn, plan_by_seed, rounds, whole};
+use reference::material::{calls, damaged, drawn, plan_by_seed, read, rounds, whole};
 use reference::stream::{run, to_bytes, Records};
 use std::collections::BTreeSet;
 
 const ROUNDS: u32 = 20;
 const STEPS: u32 = 100;
-const CASES: u32 = 160;
+const CASES: u32 = 896;
 const SEEDS: u64 = 24;
 
 /// The first words of all lines, with the number for refusals.
@@ -94,8 +94,8 @@ fn answers(text: &str, at: fn(&str) -> usize) -> BTreeSet<String> {
 fn number_at(letter: &str) -> usize {
     match letter {
         "p" => 5,
-        "k" | "e" | "a" => 3,
-        "d" | "s" | "f" | "r" | "o" => 2,
+        "k" | "s" | "e" | "a" | "v" | "x" => 3,
+        "d" | "f" | "r" | "o" => 2,
         _ => 1,
     }
 }
@@ -111,11 +111,14 @@ fn calls_reach_every_answer() {
 }
 
 /// Where a row leaves the bound, and what comes first if it leaves 65520 too.
-fn outside(figures: &[u16], bound: u16) -> &'static str {
-    let beyond = figures.iter().position(|&figure| figure > bound && figure <= 65520);
+/// Signed figures below zero are the elements from `least` on.
+fn outside(figures: &[u16], bound: u16, least: u16) -> &'static str {
+    let is_beyond = |&figure: &u16| figure > bound && figure < least && figure <= 65520;
+    let beyond = figures.iter().position(is_beyond);
     let no_element = figures.iter().position(|&figure| figure > 65520);
     match (beyond, no_element) {
         (None, None) if figures.contains(&bound) => "nowhere, and reaches it",
+        (None, None) if figures.contains(&least) => "nowhere, and reaches it below zero",
         (None, None) => "nowhere",
         (None, Some(_)) => "by no element",
         (Some(beyond), Some(no_element)) if beyond < no_element => "before no element",
@@ -129,20 +132,26 @@ fn outside(figures: &[u16], bound: u16) -> &'static str {
 /// First messages refused by 18 or 2 are left aside.
 #[test]
 fn first_messages_meet_the_bound() {
-    let mut bound = 0;
-    let mut met = BTreeSet::new();
+    let (mut airfields, mut bound, mut least) = (0, 0, 0);
+    let mut met = [BTreeSet::new(), BTreeSet::new()];
+    let mut usage = 0;
     for line in calls::cases(0, CASES).collect::<String>().lines() {
         let numbers: Vec<u16> = line.split(' ').skip(1).map(|word| word.parse().unwrap()).collect();
         match (&line[..1], &numbers[..]) {
-            ("p", [airfields, ..]) if *airfields > 0 => bound = 65520 / airfields,
+            ("p", [k, ..]) => airfields = *k,
+            ("s", [_, signed, 0]) => {
+                usage = usize::from(*signed);
+                bound = [65520, 32760][usage] / airfields;
+                least = [u16::MAX, 65521 - bound][usage];
+            }
             ("f", [_, number, _, count, rest @ ..]) if ![18, 2].contains(number) => {
                 let figures = &rest[..usize::from(*count)];
-                met.insert(format!("{number} {}", outside(figures, bound)));
+                met[usage].insert(format!("{number} {}", outside(figures, bound, least)));
             }
             _ => {}
         }
     }
-    let expected = [
+    let either = [
         "0 nowhere",
         "0 nowhere, and reaches it",
         "3 nowhere",
@@ -157,13 +166,23 @@ fn first_messages_meet_the_bound() {
         "32 at the end",
         "32 between",
     ];
-    assert_eq!(met, set(&expected));
+    let below_zero =
+        ["0 nowhere, and reaches it below zero", "3 nowhere, and reaches it below zero"];
+    assert_eq!(met[0], set(&either));
+    assert_eq!(met[1], set(&[&either[..], &below_zero].concat()));
 }
 
 #[test]
 fn drawn_lists_reach_every_answer() {
     let text: String = drawn::cases(0, CASES).collect();
     let expected = ["p 0", "p 1", "d 0", "d 1", "d 2", "d 31", "k 0", "k 1", "k 2"];
+    assert_eq!(answers(&text, number_at), set(&expected));
+}
+
+#[test]
+fn readings_reach_every_answer() {
+    let text: String = read::cases(0, CASES).collect();
+    let expected = ["p 0", "p 1", "v 0", "v 3", "x 0", "x 1", "x 32"];
     assert_eq!(answers(&text, number_at), set(&expected));
 }
 
@@ -184,10 +203,12 @@ fn whole_rounds_reach_every_answer_they_can() {
     let expected = [
         "p 0", "k 0", "s 0", "f 0", "r 0", "r 5", "r 6", "r 19", "o 0", "o 17", "e 0", "e 3",
         "e 4", "e 8", "e 12", "e 13", "c 0", "c 15", "a 0", "a 4", "a 8", "a 12", "a 14", "t 0",
-        "t 12", "t 15", "t 16",
+        "t 12", "t 15", "t 16", "v 0",
     ];
     assert_eq!(answers(&text, number_at), set(&expected));
-    assert!(text.lines().any(|line| line.starts_with("t 0 ") && line.ends_with(" 65520")));
+    for read in ["v 0 65520 0 0 65520", "v 1 32760 0 0 32760", "v 1 32761 0 1 32760"] {
+        assert!(text.lines().any(|line| line == read), "no line {read}");
+    }
 }
 
 #[test]
@@ -196,5 +217,6 @@ fn the_same_seed_gives_the_same_material() {
     assert_eq!(damaged::bytes(9, STEPS), damaged::bytes(9, STEPS));
     assert!(calls::cases(9, 4).eq(calls::cases(9, 4)));
     assert!(drawn::cases(9, 4).eq(drawn::cases(9, 4)));
+    assert!(read::cases(9, 4).eq(read::cases(9, 4)));
     assert!(whole::cases(9, 4).eq(whole::cases(9, 4)));
 }

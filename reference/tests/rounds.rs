@@ -3,10 +3,11 @@
 
 use reference::client::{make_key, End};
 use reference::field::{add, Element};
-use reference::material::{all_plans, table, whole_sums};
+use reference::material::{all_plans, common_use, table, totals, whole_sums, Row};
 use reference::random::Random;
+use reference::reading::read_total;
 use reference::refusal::Refusal;
-use reference::scheme::{members, Plan, Set};
+use reference::scheme::{members, Plan, Set, Use};
 use reference::service::Service;
 
 const SEED: u64 = 1;
@@ -14,7 +15,7 @@ const PLANS: usize = 896;
 
 struct Round {
     plan: Plan,
-    table: Vec<Vec<Element>>,
+    table: Vec<Row>,
     survivors: Set,
     /// The reply of each survivor, in rising number.
     replies: Vec<(u8, Vec<Element>)>,
@@ -22,22 +23,27 @@ struct Round {
     service: Service,
 }
 
-/// A round of this plan with survivors drawn at random.
+/// A round of this plan with figures and survivors drawn at random.
 fn round(plan: Plan, random: &mut Random) -> Round {
-    let list = random.elements(plan.list_length());
     let sets: Vec<Set> = plan.usable_sets().collect();
     let survivors = random.pick(&sets);
+    let table = table(&plan, random);
+    round_of(plan, table, survivors, random)
+}
+
+fn round_of(plan: Plan, table: Vec<Row>, survivors: Set, random: &mut Random) -> Round {
+    let list = random.elements(plan.list_length());
     let mut service = Service::default();
     service.plan(plan.numbers()).unwrap();
     service.open(1).unwrap();
-    let table = table(&plan, random);
     let mut replies = Vec::new();
     for airfield in members(survivors) {
         let mut key = vec![0; plan.key_length(airfield)];
         make_key(plan.numbers(), airfield, &list, &mut key).unwrap();
         let mut message = vec![0; plan.row_length()];
-        let mut end = End::start(plan.numbers(), airfield).unwrap();
-        end.first_message(&key, &table[usize::from(airfield - 1)], &mut message).unwrap();
+        let row = &table[usize::from(airfield - 1)];
+        let mut end = End::start(plan.numbers(), airfield, row.usage).unwrap();
+        end.first_message(&key, &row.lent(), &mut message).unwrap();
         for (place, &element) in (0..).zip(&message) {
             service.first_element(airfield, place, element).unwrap();
         }
@@ -55,9 +61,12 @@ fn give(service: &mut Service, replies: &[(u8, Vec<Element>)]) {
     }
 }
 
+/// The residue of the whole-number sum, whatever the uses; and the sum itself,
+/// as read, where the survivors have one use.
 #[test]
 fn totals_are_the_survivors_sums() {
     let mut random = Random::new(SEED);
+    let mut met = [0; 3];
     assert_eq!(all_plans().len(), PLANS);
     for plan in all_plans() {
         let mut round = round(plan, &mut random);
@@ -65,8 +74,31 @@ fn totals_are_the_survivors_sums() {
         let spare = round.replies.len() - plan.least();
         let used = plan.least() + random.below(spare + 1);
         give(&mut round.service, &round.replies[..used]);
-        let expected = whole_sums(&plan, &round.table, round.survivors);
-        assert_eq!(round.service.finish(), Ok((1, expected)));
+        let given = totals(&plan, &round.table, round.survivors);
+        assert_eq!(round.service.finish(), Ok((1, given.clone())));
+        let usage = common_use(&round.table, round.survivors);
+        met[usage.map_or(2, |usage| usage as usize)] += 1;
+        if let Some(usage) = usage {
+            let read: Vec<i32> =
+                given.iter().map(|&total| read_total(usage, total.into()).unwrap()).collect();
+            assert_eq!(read, whole_sums(&plan, &round.table, round.survivors));
+        }
+    }
+    assert!(met.iter().all(|&rounds| rounds > PLANS / 10), "counts, signed, both: {met:?}");
+}
+
+/// All airfields at one end of the bound: counts, and signed figures at either.
+#[test]
+fn whole_rounds_reach_the_ends() {
+    let ends = [(Use::Counts, 1, 65520), (Use::Signed, 1, 32760), (Use::Signed, -1, -32760)];
+    for (usage, sign, reach) in ends {
+        let plan = Plan::new([8, 2, 1, 1]).unwrap();
+        let figure = sign * i32::from(plan.figure_bound(usage));
+        let table = vec![Row { usage, figures: vec![figure] }; 8];
+        let mut round = round_of(plan, table, 255, &mut Random::new(SEED));
+        give(&mut round.service, &round.replies);
+        let (_, given) = round.service.finish().unwrap();
+        assert_eq!(read_total(usage, given[0].into()), Ok(reach));
     }
 }
 

@@ -1,6 +1,6 @@
 //! Document 01's example round through the library, from Rust: the random list from raw bytes, keys, first messages, the service, the
-//! replies to set 5, the total 40, the largest figure, and some refusals. Exit status 101 where anything is not as expected.
-use cutawheno::{End, Plan, Refusal, Service, LONGEST_KEY, LONGEST_LIST, MOST_PLACES};
+//! replies to set 5, the total 40, the largest figure, signed figures, and some refusals. Exit status 101 where anything is not as expected.
+use cutawheno::{read_total, End, Plan, Refusal, Service, Use, LONGEST_KEY, LONGEST_LIST, MOST_PLACES};
 
 const PLAN: Plan = Plan { users: 3, threshold: 2, collusion: 1, blocks: 1 };
 const BAD: Plan = Plan { threshold: 3, ..PLAN };
@@ -24,7 +24,7 @@ fn airfield(user: u32) -> Airfield {
     let row = user as usize - 1;
     let mut key = vec![0; PLAN.key_len()];
     let mut message = [0];
-    let mut end = End::start(PLAN, user).unwrap();
+    let mut end = End::start(PLAN, user, Use::Counts).unwrap();
     assert_eq!(PLAN.make_key(user, &LIST, &mut key), Ok(()));
     assert_eq!(key, KEYS[row]);
     assert_eq!(end.reply(&key, 5), Err(Refusal::OutOfTurn));
@@ -79,23 +79,48 @@ fn run_list() {
 }
 
 /// A first message of airfield 1 from a fresh end: the element, or the refusal, which leaves buffer and end as they were.
-fn sent(key: &[u16], figure: u16) -> Result<u16, Refusal> {
-    let mut end = End::start(PLAN, 1).unwrap();
+fn sent_by(usage: Use, key: &[u16], figure: u16) -> Result<u16, Refusal> {
+    let mut end = End::start(PLAN, 1, usage).unwrap();
     let mut message = [7];
     let answer = end.first_message(key, &[figure], &mut message);
-    assert!(answer.is_ok() || (end.numbers(), message) == ([3, 2, 1, 1, 1, 0, 0, 0], [7]));
+    assert!(answer.is_ok() || (end.numbers(), message) == ([3, 2, 1, 1, 1, 0, usage as u32, 0], [7]));
     answer.map(|()| message[0])
 }
 
-/// A figure of three airfields is at most 21840; one that is no element at all is refused as such, and so is a key.
+/// A count of three airfields is at most 21840; one that is no element at all is refused as such, and so is a key.
 fn run_figures() {
-    assert_eq!((PLAN.figure_bound(), BAD.figure_bound()), (21840, 0));
+    let sent = |key: &[u16], figure| sent_by(Use::Counts, key, figure);
+    assert_eq!((PLAN.figure_bound(Use::Counts), BAD.figure_bound(Use::Counts)), (21840, 0));
     assert_eq!(sent(&KEYS[0], 21840), Ok(21940));
     assert_eq!(sent(&KEYS[0], 21841), Err(Refusal::FigureBeyond));
     assert_eq!(sent(&KEYS[0], 65520), Err(Refusal::FigureBeyond));
     assert_eq!(sent(&KEYS[0], 65521), Err(Refusal::BadElement));
     assert_eq!(sent(&[100, 154, 220, 65521], 21841), Err(Refusal::BadElement));
     assert_eq!(sent(&[65511, 154, 220, 340], 10), Ok(0));
+}
+
+/// Changes of -14 at airfield 1 and 5 at airfield 3: in as residues, and out as -9.
+fn run_signed(service: &mut Service) {
+    assert_eq!((PLAN.figure_bound(Use::Signed), BAD.figure_bound(Use::Signed)), (10920, 0));
+    assert_eq!((PLAN.residue(-10921), BAD.residue(-10921)), (Err(Refusal::FigureBeyond), Err(Refusal::BadPlan)));
+    assert_eq!((sent_by(Use::Signed, &KEYS[0], 54601), sent_by(Use::Signed, &KEYS[0], 54600)), (Ok(54701), Err(Refusal::FigureBeyond)));
+    assert_eq!(service.open(8), Ok(()));
+    let mut ends = [(1, -14), (3, 5)].map(|(user, change)| {
+        let (key, mut message) = (&KEYS[user as usize - 1], [0]);
+        let mut end = End::start(PLAN, user, Use::Signed).unwrap();
+        assert_eq!(end.first_message(key, &[PLAN.residue(change).unwrap()], &mut message), Ok(()));
+        assert_eq!(service.first_element(user, 0, message[0].into()), Ok(()));
+        (user, key, end)
+    });
+    assert_eq!(service.close(), Ok(5));
+    for (user, key, end) in &mut ends {
+        assert_eq!(service.reply_element(*user, 0, end.reply(*key, 5).unwrap()[0].into()), Ok(()));
+    }
+    let mut totals = [7; MOST_PLACES];
+    assert_eq!(service.finish(&mut totals), Ok(&[65512][..]));
+    assert_eq!(read_total(Use::Signed, totals[0].into()), Ok(-9));
+    assert_eq!(read_total(Use::Counts, totals[0].into()), Ok(65512));
+    assert_eq!([Use::Counts, Use::Signed].map(|usage| read_total(usage, 65521)), [Err(Refusal::BadElement); 2]);
 }
 
 /// What is refused changes nothing.
@@ -105,8 +130,8 @@ fn run_refusals() {
     assert_eq!(PLAN.make_key(4, &LIST, &mut key), Err(Refusal::BadUser));
     assert_eq!(PLAN.make_key(1, &[65521; 7], &mut key), Err(Refusal::BadElement));
     assert_eq!(key, [7; 4]);
-    assert_eq!(End::start(BAD, 1), Err(Refusal::BadPlan));
-    assert_eq!(End::start(PLAN, 4), Err(Refusal::BadUser));
+    assert_eq!(End::start(BAD, 1, Use::Signed), Err(Refusal::BadPlan));
+    assert_eq!(End::start(PLAN, 4, Use::Signed), Err(Refusal::BadUser));
     let mut any = End::resume([u32::MAX; 8]);
     assert_eq!(any.reply(&KEYS[0], 5), Err(Refusal::BadPlan));
     assert_eq!(any.numbers(), [u32::MAX; 8]);
@@ -146,6 +171,7 @@ fn main() {
     run_list();
     run_round(&mut service);
     run_figures();
+    run_signed(&mut service);
     run_refusals();
     println!("Rust: the example round, as expected");
 }

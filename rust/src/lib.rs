@@ -5,9 +5,9 @@
 //! Every call answers or refuses with the specification's number, and a refusal changes neither state nor lent memory.
 //!
 //! ```
-//! use cutawheno::{End, Plan, Refusal};
+//! use cutawheno::{read_total, End, Plan, Refusal, Use};
 //! let plan = Plan { users: 3, threshold: 2, collusion: 1, blocks: 1 };
-//! assert_eq!(plan.figure_bound(), 21840);
+//! assert_eq!(plan.figure_bound(Use::Counts), 21840);
 //! let mut list = vec![0; plan.list_len()];
 //! // from a noise source; 65535 is skipped
 //! plan.list_from_bytes(&[100, 0, 200, 0, 44, 1, 255, 255, 12, 0, 60, 0, 40, 0, 120, 0], &mut list)?;
@@ -15,12 +15,15 @@
 //! let mut key = vec![0; plan.key_len()];
 //! plan.make_key(1, &list, &mut key)?;
 //! assert_eq!(key, [100, 154, 220, 340]);
-//! let mut end = End::start(plan, 1)?;
+//! let mut end = End::start(plan, 1, Use::Counts)?;
 //! let mut message = [0];
 //! end.first_message(&key, &[10], &mut message)?;
 //! assert_eq!(message, [110]);
 //! assert_eq!(end.reply(&key, 5)?, [220]);
 //! assert_eq!(end.reply(&key, 7), Err(Refusal::OtherSet));
+//!
+//! // a change of -14 goes in, and comes out, as its residue
+//! assert_eq!((plan.residue(-14)?, read_total(Use::Signed, 65507)?), (65507, -14));
 //! # Ok::<(), Refusal>(())
 //! ```
 //!
@@ -40,6 +43,15 @@ pub struct Plan {
     pub collusion: u32,
     /// M, the blocks of a row: 1 to 16.
     pub blocks: u32,
+}
+
+/// What an airfield's figures are. The survivors' total is read by the use that they have in common.
+#[derive(Clone, Copy, Debug, PartialEq, Eq)]
+pub enum Use {
+    /// From 0 to 65520 / K, rounded down.
+    Counts = 0,
+    /// Within 32760 / K of zero, rounded down, and lent as residues: see [`Plan::residue`].
+    Signed = 1,
 }
 
 /// Why a call is refused, by the numbers of documents 01 and 02.
@@ -79,7 +91,7 @@ pub enum Refusal {
     OtherSet = 19,
     /// The bytes run out before the list is full.
     BytesRunOut = 31,
-    /// A figure is above 65520 / K, rounded down.
+    /// A count is above 65520 / K, or a signed figure further from zero than 32760 / K, rounded down.
     FigureBeyond = 32,
 }
 
@@ -109,7 +121,7 @@ impl Refusal {
             Refusal::OutOfTurn => "the first message was given already, or a reply is asked of a fresh end",
             Refusal::OtherSet => "another set was answered",
             Refusal::BytesRunOut => "the bytes run out before the list is full",
-            Refusal::FigureBeyond => "a figure is above 65520 / K, rounded down",
+            Refusal::FigureBeyond => "a count is above 65520 / K, or a signed figure further from zero than 32760 / K, rounded down",
         }
     }
 }
@@ -165,6 +177,18 @@ struct Closed {
     set: u32,
 }
 
+#[repr(C)]
+struct Reading {
+    number: u32,
+    value: i32,
+}
+
+#[repr(C)]
+struct Residue {
+    number: u32,
+    element: u16,
+}
+
 #[rustfmt::skip]
 #[link(name = "capi", kind = "static")]
 extern "C" {
@@ -172,6 +196,7 @@ extern "C" {
     fn cutawheno_list_len(users: u32, threshold: u32, collusion: u32, blocks: u32) -> u32;
     fn cutawheno_key_len(users: u32, threshold: u32, collusion: u32, blocks: u32) -> u32;
     fn cutawheno_figure_bound(users: u32, threshold: u32, collusion: u32, blocks: u32) -> u32;
+    fn cutawheno_signed_bound(users: u32, threshold: u32, collusion: u32, blocks: u32) -> u32;
     fn cutawheno_list_from_bytes(
         bytes: *const u8, bytes_len: usize, list: *mut u16, list_len: usize,
         users: u32, threshold: u32, collusion: u32, blocks: u32,
@@ -180,7 +205,10 @@ extern "C" {
         list: *const u16, list_len: usize, key: *mut u16, key_len: usize,
         users: u32, threshold: u32, collusion: u32, blocks: u32, user: u32,
     ) -> u32;
-    fn cutawheno_end_start(end: &mut [u32; END], users: u32, threshold: u32, collusion: u32, blocks: u32, user: u32) -> u32;
+    fn cutawheno_end_start(
+        end: &mut [u32; END], users: u32, threshold: u32, collusion: u32, blocks: u32, user: u32, is_signed: u32,
+    ) -> u32;
+    fn cutawheno_residue(value: i32, users: u32, threshold: u32, collusion: u32, blocks: u32) -> Residue;
     fn cutawheno_end_first_message(
         key: *const u16, key_len: usize, figures: *const u16, figures_len: usize, message: *mut u16, message_len: usize,
         end: &mut [u32; END],
@@ -197,6 +225,7 @@ extern "C" {
     fn cutawheno_service_finish(
         head: &mut [u32; HEAD], first: &mut [u16; FIRSTS], reply: &mut [u16; REPLIES], totals: &mut [u16; MOST_PLACES],
     ) -> u32;
+    fn cutawheno_read_total(total: u32, is_signed: u32) -> Reading;
 }
 
 fn outcome(number: u32) -> Result<(), Refusal> {
@@ -231,6 +260,15 @@ fn refusal(number: u32) -> Refusal {
     }
 }
 
+/// The whole number that a total of such figures stands for: itself, but for a signed one above 32760, which is itself less 65521. One
+/// above 65520 is refused.
+pub fn read_total(usage: Use, total: u32) -> Result<i32, Refusal> {
+    // SAFETY: numbers alone.
+    let reading = unsafe { cutawheno_read_total(total, usage as u32) };
+    outcome(reading.number)?;
+    Ok(reading.value)
+}
+
 impl Plan {
     /// The length of a row of figures, and of a first message; 0 for a plan outside its ranges.
     pub fn row_len(self) -> usize {
@@ -250,10 +288,23 @@ impl Plan {
         unsafe { cutawheno_key_len(self.users, self.threshold, self.collusion, self.blocks) as usize }
     }
 
-    /// The largest figure, the same for every user and place: 65520 / K, rounded down; 0 for a plan outside its ranges.
-    pub fn figure_bound(self) -> u16 {
+    /// The largest figure of a use, the same for every user and place, 65520 / K for counts and 32760 / K for signed figures, rounded
+    /// down; signed figures may lie as far below zero. 0 for a plan outside its ranges.
+    pub fn figure_bound(self, usage: Use) -> u16 {
+        let bound = match usage {
+            Use::Counts => cutawheno_figure_bound,
+            Use::Signed => cutawheno_signed_bound,
+        };
         // SAFETY: numbers alone.
-        unsafe { cutawheno_figure_bound(self.users, self.threshold, self.collusion, self.blocks) as u16 }
+        unsafe { bound(self.users, self.threshold, self.collusion, self.blocks) as u16 }
+    }
+
+    /// The element as which a signed figure is lent: itself from 0 on, and below 0 itself plus 65521.
+    pub fn residue(self, value: i32) -> Result<u16, Refusal> {
+        // SAFETY: numbers alone.
+        let residue = unsafe { cutawheno_residue(value, self.users, self.threshold, self.collusion, self.blocks) };
+        outcome(residue.number)?;
+        Ok(residue.element)
     }
 
     /// Fills the random list from raw random bytes: two bytes are a number, low byte first, and each number above 65520 is skipped.
@@ -293,11 +344,12 @@ impl Plan {
 }
 
 impl End {
-    /// A fresh end.
-    pub fn start(plan: Plan, user: u32) -> Result<End, Refusal> {
+    /// A fresh end, for figures of this use.
+    pub fn start(plan: Plan, user: u32, usage: Use) -> Result<End, Refusal> {
         let mut numbers = [0; END];
+        let Plan { users, threshold, collusion, blocks } = plan;
         // SAFETY: a reference to an array leads to its length, and is borrowed alone.
-        outcome(unsafe { cutawheno_end_start(&mut numbers, plan.users, plan.threshold, plan.collusion, plan.blocks, user) })?;
+        outcome(unsafe { cutawheno_end_start(&mut numbers, users, threshold, collusion, blocks, user, usage as u32) })?;
         Ok(End { numbers })
     }
 
@@ -311,7 +363,8 @@ impl End {
         self.numbers
     }
 
-    /// Writes the first message: figures plus masks, place by place. No figure may be above the plan's bound.
+    /// Writes the first message: figures plus masks, place by place. Figures lie within the bound that the plan has for the end's use, and
+    /// signed ones are lent as their residues.
     pub fn first_message(&mut self, key: &[u16], figures: &[u16], message: &mut [u16]) -> Result<(), Refusal> {
         // SAFETY: pointers and lengths are those of slices, of which the written one is borrowed alone, as the array is.
         outcome(unsafe {
@@ -379,8 +432,8 @@ impl Service {
     }
 
     /// Finishes the round: the survivors' total, one number for each place of a row, written into the lent buffer. Where all that is held
-    /// of the survivors came from their ends, with keys of one random list and replies to their set, it is the whole-number sum of their
-    /// figures.
+    /// of the survivors came from their ends, with keys of one random list and replies to their set, and their use is the same,
+    /// [`read_total`] by this use gives the whole-number sum of their figures.
     pub fn finish<'a>(&mut self, totals: &'a mut [u16; MOST_PLACES]) -> Result<&'a [u16], Refusal> {
         outcome(unsafe { cutawheno_service_finish(&mut self.head, &mut self.first, &mut self.reply, totals) })?;
         Ok(&totals[..self.head[PLACES] as usize])

@@ -1,6 +1,6 @@
 //! The package's calls on every plan, and on numbers that fit none.
 
-use cutawheno::{End, Plan, Refusal, Service, LONGEST_KEY, LONGEST_LIST, MOST_PLACES};
+use cutawheno::{read_total, End, Plan, Refusal, Service, Use, LONGEST_KEY, LONGEST_LIST, MOST_PLACES};
 
 const Q: u32 = 65521;
 
@@ -60,21 +60,31 @@ fn largest_figure(plan: Plan) -> u16 {
     (65520 / plan.users) as u16
 }
 
+/// Document 02's rule: 32760 / K, rounded down.
+fn furthest_signed(plan: Plan) -> i32 {
+    32760 / plan.users as i32
+}
+
+/// Modulo q.
+fn residue_of(value: i32) -> u16 {
+    value.rem_euclid(Q as i32) as u16
+}
+
 fn key_of(plan: Plan, user: u32, list: &[u16]) -> Vec<u16> {
     let mut key = vec![0; plan.key_len()];
     plan.make_key(user, list, &mut key).unwrap();
     key
 }
 
-/// A whole round in which the set survives, with a row for each member: the totals.
-fn pooled(plan: Plan, list: &[u16], survivors: u32, rows: &[Vec<u16>]) -> Vec<u32> {
+/// A whole round in which the set survives, with a row for each member, whose end is of the use that its number gives: the totals.
+fn pooled(plan: Plan, list: &[u16], survivors: u32, rows: &[Vec<u16>], usage: fn(u32) -> Use) -> Vec<u32> {
     let mut service = Service::new();
     service.plan(plan).unwrap();
     service.open(1).unwrap();
     let mut ends = Vec::new();
     for (user, figures) in (1..=plan.users).filter(|&user| holds(survivors, user)).zip(rows) {
         let (key, mut message) = (key_of(plan, user, list), vec![0; plan.row_len()]);
-        let mut end = End::start(plan, user).unwrap();
+        let mut end = End::start(plan, user, usage(user)).unwrap();
         end.first_message(&key, figures, &mut message).unwrap();
         for (place, &element) in (0..).zip(&message) {
             service.first_element(user, place, element.into()).unwrap();
@@ -101,7 +111,7 @@ fn every_plan_gives_the_survivors_total() {
         let (list, survivors) = (random.elements(plan.list_len()), random.usable_set(plan));
         let rows: Vec<Vec<u16>> = (0..survivors.count_ones()).map(|_| random.figures(plan, largest_figure(plan))).collect();
         let total: Vec<u32> = (0..plan.row_len()).map(|place| rows.iter().map(|row| u32::from(row[place])).sum()).collect();
-        assert_eq!(pooled(plan, &list, survivors, &rows), total);
+        assert_eq!(pooled(plan, &list, survivors, &rows, |_| Use::Counts), total);
     }
 }
 
@@ -112,17 +122,90 @@ fn the_largest_total_is_a_whole_number_sum() {
     for users in 3..=8 {
         let plan = Plan { users, threshold: 2, collusion: 1, blocks: 3 };
         let rows = vec![vec![largest_figure(plan); 3]; users as usize];
-        assert_eq!(pooled(plan, &random.elements(plan.list_len()), (1 << users) - 1, &rows), [65520; 3]);
+        assert_eq!(pooled(plan, &random.elements(plan.list_len()), (1 << users) - 1, &rows, |_| Use::Counts), [65520; 3]);
     }
+}
+
+/// As the reader reads it, the total of signed figures is their whole-number sum; now and then airfields are silent.
+#[test]
+fn every_plan_gives_the_survivors_signed_total() {
+    let mut random = Random(8);
+    for plan in plans() {
+        let (list, survivors, furthest) = (random.elements(plan.list_len()), random.usable_set(plan), furthest_signed(plan));
+        let mut row = || -> Vec<i32> { (0..plan.row_len()).map(|_| random.below(2 * furthest as u32 + 1) as i32 - furthest).collect() };
+        let rows: Vec<Vec<i32>> = (0..survivors.count_ones()).map(|_| row()).collect();
+        let lent: Vec<Vec<u16>> = rows.iter().map(|row| row.iter().map(|&figure| plan.residue(figure).unwrap()).collect()).collect();
+        let sums: Vec<i32> = (0..plan.row_len()).map(|place| rows.iter().map(|row| row[place]).sum()).collect();
+        let totals = pooled(plan, &list, survivors, &lent, |_| Use::Signed);
+        assert_eq!(totals, sums.iter().map(|&sum| residue_of(sum).into()).collect::<Vec<u32>>());
+        assert_eq!(totals.iter().map(|&total| read_total(Use::Signed, total).unwrap()).collect::<Vec<_>>(), sums);
+    }
+}
+
+/// All airfields at the far end, below zero, at zero and above: each K divides 32760.
+#[test]
+fn the_furthest_signed_totals_are_whole_number_sums() {
+    let mut random = Random(9);
+    for users in 3..=8 {
+        let plan = Plan { users, threshold: 2, collusion: 1, blocks: 3 };
+        let furthest = furthest_signed(plan);
+        let rows = vec![[-furthest, 0, furthest].map(residue_of).to_vec(); users as usize];
+        let totals = pooled(plan, &random.elements(plan.list_len()), (1 << users) - 1, &rows, |_| Use::Signed);
+        assert_eq!(totals, [32761, 0, 32760]);
+        assert_eq!(totals.iter().map(|&total| read_total(Use::Signed, total)).collect::<Vec<_>>(), [Ok(-32760), Ok(0), Ok(32760)]);
+    }
+}
+
+/// Each end goes by its own use, whatever the others are; the total is the sum modulo q.
+#[test]
+fn uses_may_differ_in_one_round() {
+    let plan = Plan { users: 3, threshold: 2, collusion: 1, blocks: 1 };
+    let usage = |user| if user == 2 { Use::Signed } else { Use::Counts };
+    let list = [100, 200, 300, 12, 60, 40, 120];
+    assert_eq!(pooled(plan, &list, 7, &[vec![3], vec![65507], vec![2]], usage), [65512]);
+    assert_eq!(pooled(plan, &list, 7, &[vec![21840], vec![54601], vec![21840]], usage), [32760]);
+    assert_eq!(pooled(plan, &list, 3, &[vec![10], vec![65507]], usage), [65517]);
+}
+
+/// Every sum of signed figures is read back from its residue, and every count is itself.
+#[test]
+fn totals_are_read_by_their_use() {
+    assert!((-32760..=32760).all(|sum| read_total(Use::Signed, residue_of(sum).into()) == Ok(sum)));
+    assert!((0..=65520).all(|total| read_total(Use::Counts, total as u32) == Ok(total)));
+    let read = |total| read_total(Use::Signed, total).unwrap();
+    assert_eq!([0, 1, 32760, 32761, 65507, 65520].map(read), [0, 1, 32760, -32760, -14, -1]);
+    for total in [65521, 65522, 65535, 65536, 1 << 31, u32::MAX] {
+        assert_eq!([Use::Counts, Use::Signed].map(|usage| read_total(usage, total)), [Err(Refusal::BadElement); 2]);
+    }
+}
+
+/// Every signed figure of a plan has its residue; what lies further, and every figure of no plan, is refused.
+#[test]
+fn residues_go_by_the_plan() {
+    for plan in plans() {
+        let furthest = furthest_signed(plan);
+        assert!((-furthest..=furthest).all(|figure| plan.residue(figure) == Ok(residue_of(figure))));
+        for beyond in [furthest + 1, -furthest - 1, 32760, -32760, 65507, 65521, -65521, i32::MAX, i32::MIN] {
+            assert_eq!(plan.residue(beyond), Err(Refusal::FigureBeyond));
+        }
+        let bad = Plan { threshold: plan.users, ..plan };
+        assert_eq!([0, -14, i32::MIN].map(|figure| bad.residue(figure)), [Err(Refusal::BadPlan); 3]);
+    }
+    let residue = |users, figure| Plan { users, threshold: 2, collusion: 1, blocks: 1 }.residue(figure);
+    assert_eq!([-4095, -14, -1, 0, 1, 4095].map(|figure| residue(8, figure)), [61426, 65507, 65520, 0, 1, 4095].map(Ok));
+    assert_eq!([-10920, 10920].map(|figure| residue(3, figure)), [54601, 10920].map(Ok));
 }
 
 #[test]
 fn the_largest_figure_goes_by_the_number_of_airfields() {
-    let bound = |users, threshold, collusion, blocks| Plan { users, threshold, collusion, blocks }.figure_bound();
-    assert_eq!((bound(8, 2, 1, 16), bound(3, 2, 1, 16)), (8190, 21840));
-    assert!(plans().all(|plan| plan.figure_bound() == largest_figure(plan)));
-    assert_eq!([bound(2, 2, 1, 1), bound(9, 2, 1, 1), bound(8, 8, 1, 1), bound(8, 2, 2, 1), bound(8, 2, 0, 1)], [0; 5]);
-    assert_eq!([bound(8, 2, 1, 0), bound(8, 2, 1, 17), bound(0, 0, 0, 0), bound(u32::MAX, 2, 1, 1)], [0; 4]);
+    let bound = |users, threshold, collusion, blocks| {
+        [Use::Counts, Use::Signed].map(|usage| Plan { users, threshold, collusion, blocks }.figure_bound(usage))
+    };
+    assert_eq!([bound(8, 2, 1, 16), bound(3, 2, 1, 16)], [[8190, 4095], [21840, 10920]]);
+    assert!(plans().all(|plan| plan.figure_bound(Use::Counts) == largest_figure(plan)));
+    assert!(plans().all(|plan| i32::from(plan.figure_bound(Use::Signed)) == furthest_signed(plan)));
+    assert_eq!([bound(2, 2, 1, 1), bound(9, 2, 1, 1), bound(8, 8, 1, 1), bound(8, 2, 2, 1), bound(8, 2, 0, 1)], [[0; 2]; 5]);
+    assert_eq!([bound(8, 2, 1, 0), bound(8, 2, 1, 17), bound(0, 0, 0, 0), bound(u32::MAX, 2, 1, 1)], [[0; 2]; 4]);
 }
 
 /// Wherever it stands, and the end sends the largest figure afterwards.
@@ -132,7 +215,7 @@ fn a_larger_figure_is_refused() {
     for plan in plans() {
         let (user, largest) = (1 + random.below(plan.users), largest_figure(plan));
         let key = key_of(plan, user, &random.elements(plan.list_len()));
-        let mut end = End::start(plan, user).unwrap();
+        let mut end = End::start(plan, user, Use::Counts).unwrap();
         let (fresh, mut message) = (end.numbers(), vec![7; plan.row_len()]);
         for (place, larger) in [0, plan.row_len() - 1].into_iter().flat_map(|place| [largest + 1, 65520].map(|larger| (place, larger))) {
             let mut figures = random.figures(plan, largest);
@@ -151,7 +234,7 @@ fn a_larger_figure_is_refused() {
 fn a_larger_figure_is_refused_last() {
     let plan = Plan { users: 4, threshold: 3, collusion: 1, blocks: 2 };
     let key = key_of(plan, 4, &Random(7).elements(plan.list_len()));
-    let mut end = End::start(plan, 4).unwrap();
+    let mut end = End::start(plan, 4, Use::Counts).unwrap();
     let mut message = [7; 4];
     let mut refused = |key: &[u16], figures: &[u16]| end.first_message(key, figures, &mut message).unwrap_err().number();
     let with = |at: usize, element: u16| [&key[..at], &[element], &key[at + 1..]].concat();
@@ -167,6 +250,84 @@ fn a_larger_figure_is_refused_last() {
     end.first_message(&with(3, 65511), &[0, 0, 0, 10], &mut message).unwrap();
     assert_eq!(message, [key[0], key[1], key[2], 0]);
     assert_eq!(end.first_message(&key, &[16381; 4], &mut message), Err(Refusal::OutOfTurn));
+}
+
+/// Both ends of the bound and what lies behind them, wherever it stands; the end sends afterwards.
+#[test]
+fn a_signed_figure_lies_within_the_bound() {
+    let mut random = Random(10);
+    for plan in plans() {
+        let (user, furthest, zeros) = (1 + random.below(plan.users), furthest_signed(plan) as u16, vec![0; plan.row_len()]);
+        let (key, smallest) = (key_of(plan, user, &random.elements(plan.list_len())), (65521 - u32::from(furthest)) as u16);
+        let with = |place: usize, element: u16| [&zeros[..place], &[element], &zeros[place + 1..]].concat();
+        for place in [0, plan.row_len() - 1] {
+            let mut end = End::start(plan, user, Use::Signed).unwrap();
+            let (fresh, mut message) = (end.numbers(), vec![7; plan.row_len()]);
+            for (element, refusal) in [
+                (furthest + 1, Refusal::FigureBeyond),
+                (smallest - 1, Refusal::FigureBeyond),
+                (32760, Refusal::FigureBeyond),
+                (32761, Refusal::FigureBeyond),
+                (65521, Refusal::BadElement),
+                (65535, Refusal::BadElement),
+            ] {
+                assert_eq!(end.first_message(&key, &with(place, element), &mut message), Err(refusal));
+                assert_eq!((end.numbers(), &message), (fresh, &vec![7; plan.row_len()]));
+            }
+            for element in [0, 1, furthest, smallest, 65507, 65520] {
+                let mut end = End::resume(fresh);
+                end.first_message(&key, &with(place, element), &mut message).unwrap();
+                let mask = u32::from(key[place]);
+                assert_eq!(u32::from(message[place]), (u32::from(element) + mask) % Q);
+            }
+        }
+    }
+}
+
+/// 18, 2, 3, 32 of a signed end too; the bounds of document 02 for three airfields and for eight.
+#[test]
+fn a_signed_figure_beyond_is_refused_last() {
+    for (users, furthest, smallest) in [(3, 10920, 54601), (8, 4095, 61426)] {
+        let plan = Plan { users, threshold: 2, collusion: 1, blocks: 3 };
+        let key = key_of(plan, 3, &Random(11).elements(plan.list_len()));
+        let mut end = End::start(plan, 3, Use::Signed).unwrap();
+        let mut message = [7; 3];
+        let mut refused = |key: &[u16], figures: &[u16]| end.first_message(key, figures, &mut message).unwrap_err().number();
+        assert_eq!(refused(&key, &[furthest + 1, 0, smallest]), 32);
+        assert_eq!(refused(&key, &[furthest, 0, smallest - 1]), 32);
+        assert_eq!(refused(&key, &[furthest + 1, 65521, 0]), 3);
+        assert_eq!(refused(&key, &[65535, 0, smallest - 1]), 3);
+        assert_eq!(refused(&[&key[..key.len() - 1], &[65521]].concat(), &[smallest - 1, 0, 0]), 3);
+        assert_eq!(refused(&key[1..], &[furthest + 1, 65521, 0]), 2);
+        assert_eq!(refused(&key, &[smallest - 1, 0]), 2);
+        assert_eq!((end.numbers(), message), ([users, 2, 1, 3, 3, 0, 1, 0], [7; 3]));
+        end.first_message(&key, &[furthest, 65507, smallest], &mut message).unwrap();
+        assert_eq!(end.first_message(&key, &[furthest + 1; 3], &mut message), Err(Refusal::OutOfTurn));
+        assert_eq!(end.numbers(), [users, 2, 1, 3, 3, 1, 1, 0]);
+    }
+}
+
+/// The seventh number is 0 for counts and anything else for signed figures, and stays as it is; the eighth says nothing.
+#[test]
+fn an_end_keeps_its_use() {
+    let (plan, mut message) = (Plan { users: 3, threshold: 2, collusion: 1, blocks: 1 }, [7]);
+    let key = key_of(plan, 1, &[100, 200, 300, 12, 60, 40, 120]);
+    let numbers = |usage| End::start(plan, 1, usage).unwrap().numbers();
+    assert_eq!([numbers(Use::Counts), numbers(Use::Signed)], [[3, 2, 1, 1, 1, 0, 0, 0], [3, 2, 1, 1, 1, 0, 1, 0]]);
+    for eighth in [0, 1] {
+        let mut counts = End::resume([3, 2, 1, 1, 1, 0, 0, eighth]);
+        assert_eq!(counts.first_message(&key, &[65520], &mut message), Err(Refusal::FigureBeyond));
+        assert_eq!(counts.first_message(&key, &[10921], &mut message), Ok(()));
+        assert_eq!((message, counts.numbers()), ([11021], [3, 2, 1, 1, 1, 1, 0, eighth]));
+        for seventh in [1, 2, 1 << 16, 1 << 31, u32::MAX] {
+            let mut signed = End::resume([3, 2, 1, 1, 1, 0, seventh, eighth]);
+            assert_eq!(signed.first_message(&key, &[10921], &mut message), Err(Refusal::FigureBeyond));
+            assert_eq!(signed.first_message(&key, &[65520], &mut message), Ok(()));
+            assert_eq!(message, [99]);
+            assert_eq!(signed.reply(&key, 5), Ok(&[220][..]));
+            assert_eq!(signed.numbers(), [3, 2, 1, 1, 1, 2 + 5, seventh, eighth]);
+        }
+    }
 }
 
 /// Bytes among which some numbers are skipped: one too few, just enough, and one to spare.
@@ -206,7 +367,8 @@ fn any_numbers_are_answered() {
     for _ in 0..20000 {
         let plan = random.any_plan();
         assert_eq!(plan.list_len() == 0, plan.key_len() == 0 || plan.row_len() == 0);
-        assert_eq!(plan.list_len() == 0, plan.figure_bound() == 0);
+        assert!([Use::Counts, Use::Signed].iter().all(|&usage| (plan.figure_bound(usage) == 0) == (plan.list_len() == 0)));
+        assert!(plan.residue(random.any() as i32).map_or(true, |element| u32::from(element) < Q));
         let count = random.below(9) as usize;
         let (list, mut written) = (random.elements(count), vec![7; random.below(9) as usize]);
         let before = written.clone();
@@ -255,7 +417,16 @@ fn any_calls_on_a_service_are_answered() {
 #[test]
 fn refusals_have_numbers_and_words() {
     assert_eq!(Refusal::NotInSet.to_string(), "refused 6: the airfield is not in the set");
-    assert_eq!(Refusal::FigureBeyond.to_string(), "refused 32: a figure is above 65520 / K, rounded down");
+    assert_eq!(
+        Refusal::FigureBeyond.to_string(),
+        "refused 32: a count is above 65520 / K, or a signed figure further from zero than 32760 / K, rounded down"
+    );
     assert_eq!((Refusal::BadPlan.number(), Refusal::OtherSet.number()), (1, 19));
-    assert_eq!(End::start(Plan { users: 3, threshold: 2, collusion: 1, blocks: 1 }, 4), Err(Refusal::BadUser));
+    let start = |users, user, usage| End::start(Plan { users, threshold: 2, collusion: 1, blocks: 1 }, user, usage);
+    for usage in [Use::Counts, Use::Signed] {
+        assert_eq!(
+            [start(3, 4, usage), start(3, 0, usage), start(9, 0, usage)],
+            [Err(Refusal::BadUser), Err(Refusal::BadUser), Err(Refusal::BadPlan)]
+        );
+    }
 }

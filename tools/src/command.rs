@@ -5,9 +5,11 @@
 //! - `Fault`: why a program stops, with its exit status
 //! - `start`: runs a program, and gives its outcome as its exit status, a fault told on standard error
 //! - `shown`: a word or file name as a message shows it
+//! - `use_of`: the use of figures that a word names
 
 use crate::standard::complain;
 use crate::system::guard;
+use cutawheno::Use;
 use std::ffi::OsStr;
 use std::os::unix::ffi::OsStrExt;
 use std::process::ExitCode;
@@ -59,5 +61,13 @@ pub fn shown(word: impl AsRef<OsStr>) -> String {
         format!("{}{rest}", String::from_utf8_lossy(start))
     } else {
         format!("\"{}\"{rest}", start.escape_ascii())
+    }
+}
+
+pub fn use_of(word: &OsStr) -> Option<Use> {
+    match word.to_str() {
+        Some("counts") => Some(Use::Counts),
+        Some("signed") => Some(Use::Signed),
+        _ => None,
     }
 }

@@ -17,12 +17,16 @@ fn refused(folder: &Folder, bytes: &[u8], told: &str) {
     assert!(!folder.names().contains(&"new".to_string()));
 }
 
-/// An end that has answered, and a list: every field occurs.
-fn files(name: &str) -> (Folder, [Vec<u8>; 2]) {
+/// An end that has answered, a list, and a signed end that has answered: every field occurs.
+fn files(name: &str) -> (Folder, [Vec<u8>; 3]) {
     let folder = Folder::with_ends(name);
-    folder.airfield(&["first", "end1", "10"]).done();
-    folder.airfield(&["reply", "end1", "5"]).done();
-    let files = ["end1", "list"].map(|name| folder.read(name));
+    folder.airfield(&["list", "3", "2", "1", "1", "other"]).done();
+    folder.airfield(&["key", "other", "1", "signed", "signed"]).done();
+    for end in ["end1", "signed"] {
+        folder.airfield(&["first", end, "10"]).done();
+        folder.airfield(&["reply", end, "5"]).done();
+    }
+    let files = ["end1", "list", "signed"].map(|name| folder.read(name));
     (folder, files)
 }
 
@@ -97,6 +101,18 @@ fn what_is_no_end_of_this_version_is_refused() {
     ] {
         assert!(body.contains(field));
         refused(&folder, &sealed(&body.replacen(field, other, 1)), "");
+    }
+    let text = String::from_utf8(files[2].clone()).unwrap();
+    let signed = &text[..text.rfind("checksum").unwrap()];
+    for other in ["use counts\n", "use other\n", "use\n", "use  signed\n", "use signed \n", "use signed\r\n", "use signed\nuse signed\n"] {
+        assert!(signed.contains("use signed\n"));
+        refused(&folder, &sealed(&signed.replacen("use signed\n", other, 1)), "");
+    }
+    for (before, after) in
+        [("airfield 1\nuse signed\n", "use signed\nairfield 1\n"), ("use signed\nstage answered 5\n", "stage answered 5\nuse signed\n")]
+    {
+        assert!(signed.contains(before));
+        refused(&folder, &sealed(&signed.replacen(before, after, 1)), "");
     }
     let text = String::from_utf8(files[1].clone()).unwrap();
     let list = &text[..text.rfind("checksum").unwrap()];

@@ -1,7 +1,7 @@
-//! Whole rounds through `airfield` and `records`, and what the tools say.
+//! Whole rounds of counts through `airfield` and `records`, and what the tools say.
 mod common;
 
-use common::{checksum, sealed, Folder, AIRFIELD, RECORDS};
+use common::{checksum, sealed, Folder, AIRFIELD, RECORDS, TOTALS};
 use reference::client::make_key;
 use reference::stream::run;
 use std::ffi::OsStr;
@@ -168,14 +168,17 @@ fn a_figure_beyond_the_bound_is_refused() {
         }
         assert_eq!((folder.read("end"), folder.names()), (fresh.clone(), vec!["end".to_string(), "list".to_string()]));
     };
-    refused("0 0 0 65520", "32: figure 4 is 65520, above 16380, the largest for 4 airfields");
-    refused("16381 0 0 0", "32: figure 1 is 16381, above 16380, the largest for 4 airfields");
-    refused("16380 20000 65520 016381", "32: figure 2 is 20000, above 16380, the largest for 4 airfields");
-    refused("0 0 0 016381", "32: figure 4 is 016381, above 16380, the largest for 4 airfields");
-    refused("16381 0 65521 65522", "3: figure 3 is 65521, above 65520; the largest for 4 airfields is 16380");
-    refused("65536 16381 0 0", "3: figure 1 is 65536, above 65520; the largest for 4 airfields is 16380");
-    refused("16381 0 0 99999999999", "3: figure 4 is 99999999999, above 65520; the largest for 4 airfields is 16380");
-    refused("16381 0 0", "2: figures wanted 4, given 3");
+    refused("0 0 0 65520", "32: figure 4 is 65520; wanted are counts from 0 to 16380 for 4 airfields");
+    refused("16381 0 0 0", "32: figure 1 is 16381; wanted are counts from 0 to 16380 for 4 airfields");
+    refused("16380 20000 65520 016381", "32: figure 2 is 20000; wanted are counts from 0 to 16380 for 4 airfields");
+    refused("0 0 0 016381", "32: figure 4 is 016381; wanted are counts from 0 to 16380 for 4 airfields");
+    refused("16381 0 65521 65522", "3: figure 3 is 65521, above 65520; wanted are counts from 0 to 16380 for 4 airfields");
+    refused("65536 16381 0 0", "3: figure 1 is 65536, above 65520; wanted are counts from 0 to 16380 for 4 airfields");
+    refused("16381 0 0 99999999999", "3: figure 4 is 99999999999, above 65520; wanted are counts from 0 to 16380 for 4 airfields");
+    refused("0 -1 16381 0", "32: figure 2 is -1; wanted are counts from 0 to 16380 for 4 airfields");
+    refused("-99999999999 0 0 0", "32: figure 1 is -99999999999; wanted are counts from 0 to 16380 for 4 airfields");
+    refused("-1 0 65521 0", "3: figure 3 is 65521, above 65520; wanted are counts from 0 to 16380 for 4 airfields");
+    refused("16381 -1 0", "2: figures wanted 4, given 3");
     assert_eq!(folder.airfield(&["first", "end", "16380", "0", "1", "16380"]).done(), folder.row("end", &[16380, 0, 1, 16380]));
 }
 
@@ -237,12 +240,9 @@ fn refusals_say_what_was_wanted() {
 fn status_tells_the_stage_and_nothing_secret() {
     let folder = Folder::with_ends("status");
     let list = String::from_utf8(folder.read("list")).unwrap().lines().nth(1).unwrap().to_string();
-    let figures = "figures in a row 1, each at most 21840";
-    let plan = format!("plan 3 2 1 1\nairfields 3, of which 2 must answer and 1 may collude; blocks 1; {figures}");
-    assert_eq!(
-        folder.airfield(&["status", "list"]).done(),
-        format!("random list of 7 elements\n{list}\n{plan}\nends made: airfields 1 2 3\n")
-    );
+    let plan = "plan 3 2 1 1\nairfields 3, of which 2 must answer and 1 may collude; blocks 1\nfigures in a row 1: counts from 0 to 21840";
+    let told = format!("random list of 7 elements\n{list}\n{plan}, or signed figures from -10920 to 10920\nends made: airfields 1 2 3\n");
+    assert_eq!(folder.airfield(&["status", "list"]).done(), told);
     let expect = |stage: &str| {
         let text = format!("end of airfield 2\n{list}\n{plan}\nstage {stage}\n");
         assert_eq!(folder.airfield(&["status", "end2"]).done(), text);
@@ -257,7 +257,7 @@ fn status_tells_the_stage_and_nothing_secret() {
 #[test]
 fn help_and_version_are_printed_and_other_words_are_not_understood() {
     let folder = Folder::new("usage");
-    for (program, name) in [(AIRFIELD, "airfield"), (RECORDS, "records")] {
+    for (program, name) in [(AIRFIELD, "airfield"), (RECORDS, "records"), (TOTALS, "totals")] {
         let said = |words: &[&str]| common::Said::from(folder.command(program, words).output().unwrap());
         assert!(said(&["--help"]).done().starts_with(&format!("{name}: ")));
         assert_eq!(said(&["--version"]).done(), format!("{name} {}\n", env!("CARGO_PKG_VERSION")));
@@ -270,7 +270,10 @@ fn help_and_version_are_printed_and_other_words_are_not_understood() {
     for words in [&["list", "3"][..], &["key", "a"], &["first"], &["reply", "a"], &["status"], &["destroy"]] {
         folder.airfield(words).ended(2, &["takes"]);
     }
-    folder.airfield(&["first", "end", "1", "-5"]).ended(2, &["figure 2", "-5 is found"]);
+    folder.airfield(&["first", "end", "1", "+5"]).ended(2, &["figure 2", "+5 is found"]);
+    folder.airfield(&["list", "3", "2", "1", "-1", "list"]).ended(2, &["M: a whole number from 0 on is wanted, and -1 is found"]);
+    folder.airfield(&["key", "list", "1", "end", "other"]).ended(2, &["counts or signed is wanted behind END, and other is found"]);
+    folder.airfield(&["key", "list", "1", "end", "signed", "x"]).ended(2, &["key takes LIST AIRFIELD END [counts|signed], and 5 words"]);
     folder.airfield(&["list", "3", "2", "1", "x", "list"]).ended(2, &["M: a whole number", "x is found"]);
     folder.airfield(&["reply", "end", ""]).ended(2, &["SET", "\"\" is found"]);
 }
@@ -290,12 +293,15 @@ fn strange_words_and_a_failing_standard_error() {
     folder.airfield(&["\u{feff}list"]).ended(2, &["no command is called \"\\xef\\xbb\\xbflist\";"]);
     folder.airfield(&["status", "a b\u{202e}"]).failed(&["\"a b\\xe2\\x80\\xae\": No such file"]);
     folder.with_input(RECORDS, &["encode"], "\u{feff}close\n".as_bytes()).failed(&["no kind is called \\u{feff}close"]);
-    folder.command(RECORDS, &[strange]).output().map(common::Said::from).unwrap().ended(2, &[]);
+    for program in [RECORDS, TOTALS] {
+        folder.command(program, &[strange]).output().map(common::Said::from).unwrap().ended(2, &[]);
+    }
     for error in ["/dev/full", "&-"] {
         assert_eq!(folder.shell(&format!("\"$AIRFIELD\" first end1 x 2>{error}")).status, Some(2));
         assert_eq!(folder.shell(&format!("\"$AIRFIELD\" first end1 1 2 2>{error}")).status, Some(1));
         assert_eq!(folder.shell(&format!("\"$AIRFIELD\" 2>{error}")).status, Some(2));
         assert_eq!(folder.shell(&format!("\"$RECORDS\" encode 2>{error} <<< x")).status, Some(1));
+        assert_eq!(folder.shell(&format!("\"$TOTALS\" counts 2>{error} <<< total")).status, Some(1));
     }
     let mut child = folder.command(AIRFIELD, &["first", "end1", "1"]).stderr(Stdio::null()).spawn().unwrap();
     assert!(child.wait().unwrap().success());

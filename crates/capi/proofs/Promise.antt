@@ -19,15 +19,15 @@ use Rattle.scheme.proofs.Tests.{and-both}
 use Rattle.scheme.proofs.Good.{good}
 use Rattle.scheme.proofs.Refusals.{after-taken, after-refused, start-passes}
 use Rattle.plan.specs.declared.Plan as code
-use Rattle.plan.specs.Plan.{plan-of}
+use Rattle.plan.specs.Plan.{plan-of, code-use}
 use Rattle.plan.proofs.Counts.{with-same}
 use Rattle.plan.specs.Lengths.{key-len}
 use Rattle.client.specs.declared.Stage.{Stage}
 use Rattle.client.specs.declared.Stage.the-variants.{Sent, Answered}
 use Rattle.client.specs.declared.Client.{Client}
-use Rattle.client.specs.Client.{stage-of, stage-of-number, stage-number, begun-with, moved, answer-refusal, reply-answer, part-of}
+use Rattle.client.specs.Client.{stage-of, stage-of-number, stage-number, begun-with, at-stage, moved, answer-refusal, reply-answer, part-of}
 use Rattle.client.proofs.Laws.{reply-answers, reply-taken}
-use Rattle.capi.specs.Ends.{end-length, code-stage, end-at, end-numbers, fresh-end, start-left, kept, part-by, part-answer}
+use Rattle.capi.specs.Ends.{end-length, code-stage, end-at, fresh-numbers, start-left, kept, part-by, part-answer}
 use Rattle.capi.specs.Promise.{Same-length, End-stands, Ends-stand, Part-is-reply, Same-part}
 use Rattle.capi.proofs.Laws.{stage-moved, kept-taken, part-taken, part-refused}
 
@@ -41,11 +41,11 @@ same-length p k g u =
 
 -- ---- the airfield end on its array
 module _ (e : List ℕ) (l : length e ≡ end-length) where
-  started-stands : (n : ℕ) (p : code.Plan) (k : ℕ) → let s = begun-with n p k in
-      s .number ≡ 0 → s .client ≡ some (end-at (after (s .number) (end-numbers (fresh-end p k)) e))
-  unfolding after end-at end-numbers code-stage stage-of-number stage-number stage-of
-  started-stands zero p k z = refl
-  started-stands (suc n) p k z = absurd (omega arith)
+  started-stands : (n : ℕ) (p : code.Plan) (k m : ℕ) → let s = begun-with n p k (code-use m) in
+      s .number ≡ 0 → s .client ≡ some (end-at (after (s .number) (fresh-numbers p k m) e))
+  unfolding after end-at code-stage stage-of-number
+  started-stands zero p k m z = refl
+  started-stands (suc n) p k m z = absurd (omega arith)
 
   moved-stands : (n : ℕ) (g : Stage) → let a = moved n (end-at e) g in end-at (kept a e) ≡ a .client
   unfolding kept after
@@ -56,7 +56,7 @@ module _ (e : List ℕ) (l : length e ≡ end-length) where
   unfolding start-left
   end-stands =
       record {
-        start-stands = λ p k. started-stands _ p k;
+        start-stands = λ p k n. started-stands _ p k n;
         first-stands = λ ks fs n. moved-stands _ Sent;
         reply-stands = λ ks v. moved-stands _ (Answered v);
       }
@@ -83,7 +83,7 @@ module _ (e ks : List ℕ) (v : ℕ) (l : length e ≡ end-length) (z : part-ans
   unfolding part-by
   taken = z
 
-  asked : end-at (kept (reply-answer sixteen (end-at e) ks v) e) ≡ record { plan = end-at e .plan; user = end-at e .user; stage = Answered v }
+  asked : end-at (kept (reply-answer sixteen (end-at e) ks v) e) ≡ at-stage (end-at e) (Answered v)
   asked = moved-stands e l _ (Answered v) ∙ after-taken taken _ _
 
   again : answer-refusal sixteen (end-at (kept (reply-answer sixteen (end-at e) ks v) e)) ks v ≡ 0

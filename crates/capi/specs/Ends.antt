@@ -1,7 +1,8 @@
 -- The airfield end where it stands in an array that the caller lends.
 --   end-length                         how many numbers the array has
---   code-stage, end-at, end-numbers    what the array stands for: an end of crate client; and the array of an end
---   fresh-end, start-left              a new end; what starting one leaves in the array
+--   code-stage, end-at                 what the array stands for: an end of crate client
+--   fresh-end, fresh-numbers           a new end, and its array
+--   start-left                         what starting one leaves in the array
 --   kept                               the array with the stage of the end that a call hands back, or after a refusal as it came
 --   part-by, part-answer               the refusal's number, and where in the key the shares for a set lie
 -- Assumes nothing: these are definitions.
@@ -11,7 +12,8 @@ use lib.ListN.{getD, set}
 use Rattle.scheme.specs.Scheme as scheme
 use Rattle.scheme.specs.Scheme.{sixteen, reply-start, after}
 use Rattle.plan.specs.declared.Plan.{Plan}
-use Rattle.plan.specs.Plan.{plan-of, code-plan}
+use Rattle.plan.specs.declared.Use.{Use}
+use Rattle.plan.specs.Plan.{plan-of, code-plan, code-use}
 use Rattle.client.specs.declared.Stage.{Stage}
 use Rattle.client.specs.declared.Stage.the-variants.{Fresh, Sent, Answered}
 use Rattle.client.specs.declared.Client.{Client}
@@ -27,24 +29,25 @@ code-stage scheme.fresh = Fresh
 code-stage scheme.sent = Sent
 code-stage (scheme.answered v) = Answered v
 
--- users, threshold, collusion, blocks, user, stage; what stands behind them is not read
+-- users, threshold, collusion, blocks, user, stage, use; what stands behind them is not read
 unfoldable pub end-at : List ℕ → Client
 end-at e =
     record {
       plan = code-plan (getD e 0 0) (getD e 1 0) (getD e 2 0) (getD e 3 0);
       user = getD e 4 0;
+      usage = code-use (getD e 6 0);
       stage = code-stage (stage-of-number (getD e 5 0));
     }
 
-unfoldable pub end-numbers : Client → List ℕ
-end-numbers c =
-    c .plan .users ∷ c .plan .threshold ∷ c .plan .collusion ∷ c .plan .blocks ∷ c .user ∷ stage-number (stage-of (c .stage)) ∷ 0 ∷ 0 ∷ []
+abbrev pub fresh-end : Plan → (user : ℕ) → Use → Client
+fresh-end p k u = record { plan = p; user = k; usage = u; stage = Fresh }
 
-abbrev pub fresh-end : Plan → (user : ℕ) → Client
-fresh-end p k = record { plan = p; user = k; stage = Fresh }
+-- the use stands as the number that was given
+abbrev pub fresh-numbers : Plan → (user is-signed : ℕ) → List ℕ
+fresh-numbers p k n = p .users ∷ p .threshold ∷ p .collusion ∷ p .blocks ∷ k ∷ 0 ∷ n ∷ 0 ∷ []
 
-unfoldable pub start-left : Plan → (user : ℕ) → (end : List ℕ) → List ℕ
-start-left p k e = after (begun p k .number) (end-numbers (fresh-end p k)) e
+unfoldable pub start-left : Plan → (user is-signed : ℕ) → (end : List ℕ) → List ℕ
+start-left p k n e = after (begun p k (code-use n) .number) (fresh-numbers p k n) e
 
 unfoldable pub kept : Moved → (end : List ℕ) → List ℕ
 kept a e = after (a .number) (set e 5 (stage-number (stage-of (a .client .stage)))) e

@@ -17,6 +17,7 @@ use lib.ListN.{length, take, drop}
 use Rattle.scheme.specs.Scheme.{sixteen, Plan, plan-good, is-user, key-length}
 use Rattle.solve.specs.Solve.{laws16}
 use Rattle.plan.specs.declared.Plan as code
+use Rattle.plan.specs.Plan.{code-use}
 use Rattle.plan.specs.Lengths.{key-len}
 use Rattle.client.specs.declared.Client.{Client}
 use Rattle.client.specs.Client.{begun, first-answer, reply-answer, part-of}
@@ -30,7 +31,7 @@ Same-length = (p : Plan) (k : ℕ) → plan-good p ≡ true → is-user p k ≡ 
 
 -- an end that stands in an array: start from any content, and the stage moved by the calls
 pub record End-stands (e : List ℕ) : Type 0 where
-  pub start-stands : (p : code.Plan) (k : ℕ) → begun p k .number ≡ 0 → begun p k .client ≡ some (end-at (start-left p k e))
+  pub start-stands : (p : code.Plan) (k n : ℕ) → let b = begun p k (code-use n) in b .number ≡ 0 → b .client ≡ some (end-at (start-left p k n e))
   pub first-stands : (ks fs : List ℕ) (n : ℕ) → let a = first-answer sixteen (end-at e) ks fs n in end-at (kept a e) ≡ a .client
   pub reply-stands : (ks : List ℕ) (v : ℕ) → let a = reply-answer sixteen (end-at e) ks v in end-at (kept a e) ≡ a .client
 

@@ -3,16 +3,17 @@
 //   cutawheno_end_first_message         figures plus masks
 //   cutawheno_end_reply, CutawhenoPart  where in the key the shares for a set lie
 //   END, end_at                         the length of `end`, and what its numbers stand for
-// `end` has users, threshold, collusion, blocks, user and stage (0 fresh, 1 sent, 2 + v has answered the set v); behind them two numbers
-// that no call reads, 0 from the start. The calls move the stage themselves. Any numbers are an end, so 1 and 4 are tested at each call,
-// ahead of the others. A refused call hands back its number and leaves the array and every buffer as they came.
+// `end` has users, threshold, collusion, blocks, user, stage (0 fresh, 1 sent, 2 + v has answered the set v) and use (0 counts, anything
+// else signed); behind them a number that no call reads, 0 from the start. The calls move the stage themselves. Any numbers are an end,
+// so 1 and 4 are tested at each call, ahead of the others. A refused call hands back its number and leaves the array and every buffer
+// as they came.
 // Lists come first: they are pointer and length in registers, as C passes them.
 ghost use mathlib.Core.Path.{_≡_};
 ghost use Prim.Native.Nat.{_+_, _≤_};
 ghost use lib.ListN.{length};
 ghost use Rattle.scheme.specs.Scheme.{sixteen};
 ghost use Rattle.client.specs.Client.{begun, first-answer, message-left, reply-answer};
-ghost use Rattle.plan.specs.Plan.{code-plan};
+ghost use Rattle.plan.specs.Plan.{code-plan, code-use};
 ghost use Rattle.capi.specs.Ends.{end-at, start-left, kept, part-answer};
 use client::Client;
 use plan::Plan;
@@ -32,6 +33,7 @@ fn end_at(end: &[u32; END]) -> Client
     ensures { λ r. ⌜ r ≡ end-at (now (end .entry)) ⌝ }
 {
     let stage = client::stage_of_number(end[5]);
+    let usage = plan::use_of_number(end[6]);
     let plan = Plan {
         users: end[0],
         threshold: end[1],
@@ -41,6 +43,7 @@ fn end_at(end: &[u32; END]) -> Client
     Client {
         plan,
         user: end[4],
+        usage,
         stage,
     }
 }
@@ -54,9 +57,10 @@ pub extern "C" fn cutawheno_end_start(
     collusion: u32,
     blocks: u32,
     user: u32,
+    is_signed: u32,
 ) -> u32
-    ensures number { λ r. ⌜ r ≡ begun (code-plan users threshold collusion blocks) user .number ⌝ }
-    ensures left { λ r. ⌜ now (end .exit) ≡ start-left (code-plan users threshold collusion blocks) user (now (end .entry)) ⌝ }
+    ensures number { λ r. ⌜ r ≡ begun (code-plan users threshold collusion blocks) user (code-use «is_signed») .number ⌝ }
+    ensures left { λ r. ⌜ now (end .exit) ≡ start-left (code-plan users threshold collusion blocks) user «is_signed» (now (end .entry)) ⌝ }
 {
     let plan = Plan {
         users,
@@ -68,7 +72,7 @@ pub extern "C" fn cutawheno_end_start(
     if refusal != 0 {
         return refusal;
     }
-    *end = [users, threshold, collusion, blocks, user, 0, 0, 0];
+    *end = [users, threshold, collusion, blocks, user, 0, is_signed, 0];
     0
 }
 

@@ -1,22 +1,25 @@
 // Random list from bytes, key maker, airfield end and pooling service for callers in C and Rust: include/cutawheno.h declares these functions.
 //   cutawheno_row_len, cutawheno_list_len, cutawheno_key_len    the lengths that a plan fixes, 0 for a plan that test 1 refuses
-//   cutawheno_figure_bound  the largest figure that a plan lets an airfield report, 0 for such a plan
+//   cutawheno_figure_bound, cutawheno_signed_bound    the largest count, and how far from zero a signed figure may lie, 0 for such a plan
 //   cutawheno_list_from_bytes, cutawheno_make_key    the random list from raw bytes; a user's key from the random list
 //   ends                    the airfield end
+//   meaning                 what a total means, and the way in for a signed figure
 //   pooling                 the pooling service
 // A refused call hands back its number, and leaves every buffer as it came.
 // Lists come first: they are pointer and length in registers, as C passes them.
 ghost use mathlib.Core.Path.{_≡_};
 ghost use lib.ListN.{length};
-ghost use Rattle.scheme.specs.Scheme.{sixteen, key-refusal, key-left};
+ghost use Rattle.scheme.specs.Scheme.{sixteen, counts, signed, key-refusal, key-left};
 ghost use Rattle.scheme.specs.Drawn.{list-refusal, list-left};
 ghost use Rattle.plan.specs.Plan.{plan-of, code-plan};
 ghost use Rattle.plan.specs.Lengths.{row-len, list-len, key-len, largest-figure};
 
 pub mod ends;
+pub mod meaning;
 pub mod pooling;
 
 use plan::Plan;
+use plan::Use;
 
 // How long a row of figures of a plan is, and a first message.
 #[no_mangle]
@@ -60,7 +63,7 @@ pub extern "C" fn cutawheno_key_len(users: u32, threshold: u32, collusion: u32, 
     plan::key_length(plan, 1) as u32
 }
 
-// The largest figure of a plan.
+// The largest count of a plan.
 #[no_mangle]
 pub extern "C" fn cutawheno_figure_bound(
     users: u32,
@@ -68,7 +71,7 @@ pub extern "C" fn cutawheno_figure_bound(
     collusion: u32,
     blocks: u32,
 ) -> u32
-    ensures { λ r. ⌜ r ≡ largest-figure sixteen (plan-of (code-plan users threshold collusion blocks)) ⌝ }
+    ensures { λ r. ⌜ r ≡ largest-figure sixteen counts (plan-of (code-plan users threshold collusion blocks)) ⌝ }
 {
     let plan = Plan {
         users,
@@ -76,7 +79,26 @@ pub extern "C" fn cutawheno_figure_bound(
         collusion,
         blocks,
     };
-    plan::figure_bound(plan)
+    plan::figure_bound(plan, Use::Counts)
+}
+
+// How far from zero a signed figure of a plan may lie.
+#[no_mangle]
+pub extern "C" fn cutawheno_signed_bound(
+    users: u32,
+    threshold: u32,
+    collusion: u32,
+    blocks: u32,
+) -> u32
+    ensures { λ r. ⌜ r ≡ largest-figure sixteen signed (plan-of (code-plan users threshold collusion blocks)) ⌝ }
+{
+    let plan = Plan {
+        users,
+        threshold,
+        collusion,
+        blocks,
+    };
+    plan::figure_bound(plan, Use::Signed)
 }
 
 // 1, 2, 31.

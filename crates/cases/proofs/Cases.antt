@@ -12,6 +12,7 @@ use Rattle.scheme.specs.Lists.{padded}
 use Rattle.scheme.specs.Scheme.{unless}
 use Rattle.scheme.specs.Drawn as Drawn
 use Rattle.scheme.specs.Promise.{shown}
+use Rattle.scheme.specs.Signed as Signed
 use Rattle.scheme.specs.Totals as Totals
 use Rattle.scheme.specs.Delta as Delta
 use Rattle.scheme.specs.Service as Service
@@ -19,15 +20,17 @@ use Rattle.scheme.specs.Modular.{modular-laws}
 use Rattle.scheme.specs.Solve.{unknown-at}
 use Rattle.plan.specs.Lengths as Lengths
 use Rattle.client.specs.Client as Client
+use Rattle.reading.specs.Reading as Reading
 use Rattle.service.specs.View as View
 use Rattle.service.specs.Calls as Calls
 use Rattle.finish.specs.Finish as Finish
-use Rattle.cases.specs.Cases.{drawn, key-from, key-of, message, sent-by, asked, tried, planned, opened, firsts, replies, pooled, finish-tells, finish-tells-5, finish-tells-7, Cases}
+use Rattle.cases.specs.Cases.{drawn, key-from, key-of, message, sent-by, changed, asked, tried, planned, opened, firsts, replies, pooled, finish-tells, finish-tells-5, finish-tells-7, Cases}
 
 pub cases : Cases
-unfolding drawn key-from key-of message sent-by asked tried planned opened firsts replies pooled finish-tells finish-tells-5 finish-tells-7
+unfolding drawn key-from key-of message sent-by changed asked tried planned opened firsts replies pooled finish-tells finish-tells-5 finish-tells-7
     sub inverse inverse-from modular-laws padded unknown-at shown
-    Lengths.largest-figure Scheme.figure-bound Scheme.within
+    Lengths.largest-figure Scheme.reach Scheme.figure-bound Scheme.within Scheme.is-near Scheme.near Scheme.figures-good
+    Signed.residue Signed.meant Reading.reading Reading.residue-refusal Reading.residue-by
     Lists.rank Scheme.elements Scheme.sum Scheme.plan-good Scheme.items Scheme.places Scheme.is-user Scheme.in-set Scheme.ones Scheme.usable Scheme.usable-with
     Scheme.users-in Scheme.usable-sets Scheme.sets-with Scheme.list-length Scheme.mask Scheme.noise-start Scheme.noise Scheme.column Scheme.row-value
     Scheme.share Scheme.shares Scheme.key Scheme.key-length Scheme.first-message Scheme.reply-start Scheme.reply Scheme._then_ unless
@@ -76,6 +79,20 @@ cases = record {
   last-figure = refl;
   three-first = refl;
   key-first = refl;
+  signed-bounds = refl;
+  signed-three = refl;
+  signed-eight = refl;
+  signed-three-first = refl;
+  residues = refl;
+  read-back = refl;
+  half = refl;
+  read-counts = refl;
+  read-3 = refl;
+  way-in = refl;
+  way-in-1 = refl;
+  changes-sent = refl;
+  changes-total = refl;
+  changes-read = refl;
   bytes-full = refl;
   bytes-skipped = refl;
   bytes-65520 = refl;

@@ -1,9 +1,10 @@
--- The starred examples of document 01 ("Example round") as document 02 changes them, and some of raw bytes and of the bound on figures,
--- about the definitions that the contracts name: one table, a row for each example.
+-- The starred examples of document 01 ("Example round") as document 02 changes them, and some of raw bytes, of the bounds on figures and
+-- of signed figures, about the definitions that the contracts name: one table, a row for each example.
 --   plan, random, partner-list, bad-list, figures   K, U, T, M = 3, 2, 1, 1; the random list, its partner, one that is refused; tables of figures
+--   changes                                         whole numbers at both ends of what is read back, and about zero
 --   drawn, six-numbers                              number and list that raw bytes leave of a lent list; most of the example list as bytes
 --   key-of, end-of, message                         a user's key; its airfield end; its first message
---   sent-by                                         number and stage that a fresh end of a plan hands back
+--   sent-by, changed                                number and stage that a fresh end of a plan hands back; a first message of a signed figure
 --   handed, asked, part                             number and end handed back; what a reply to a set hands back, and its part alone
 --   tried                                           the numbers that the service and an airfield end have for a plan
 --   planned, opened, pooled, finish-tells           a service with the plan; in a round; with the replies; what its finish tells
@@ -14,16 +15,20 @@ use mathlib.Core.Bool.{true}
 use mathlib.Core.List.{List, [], _∷_, _++_, map}
 use Prim.Native.Nat.{ℕ, _≤_}
 use lib.Dec.{lit<}
+use lib.IntN.{ℤ, pos, negsuc}
 use lib.ListN.{length, getD, take, replicate}
 use Rattle.algebra.specs.Residue.{inverse}
 use Rattle.scheme.specs.Lists.{span}
-use Rattle.scheme.specs.Scheme.{q, sixteen, plan-good, list-length, key, key-length, start-refusal, key-refusal, key-left}
+use Rattle.scheme.specs.Scheme.{q, sixteen, plan-good, counts, signed, list-length, key, key-length, start-refusal, key-refusal, key-left}
 use Rattle.scheme.specs.Drawn.{list-refusal, list-left}
 use Rattle.scheme.specs.Promise.{Table, shown}
+use Rattle.scheme.specs.Signed.{residue}
 use Rattle.scheme.specs.Delta as Delta
 use Rattle.scheme.specs.Modular.{sixteen-field}
 use Rattle.solve.specs.Solve.{laws16}
 use Rattle.plan.specs.declared.Plan.{Plan}
+use Rattle.plan.specs.declared.Use.{Use}
+use Rattle.plan.specs.declared.Use.the-variants.{Counts, Signed}
 use Rattle.plan.specs.Plan.{plan-of, code-plan}
 use Rattle.plan.specs.Lengths.{largest-figure}
 use Rattle.client.specs.declared.Stage.{Stage}
@@ -31,6 +36,9 @@ use Rattle.client.specs.declared.Stage.the-variants.{Fresh, Sent, Answered}
 use Rattle.client.specs.declared.Client.{Client}
 use Rattle.client.specs.declared.Moved.{Moved}
 use Rattle.client.specs.Client.{first-answer, message-left, reply-answer, part-of}
+use Rattle.reading.specs.declared.Reading.the-variants.{Refused, Value}
+use Rattle.reading.specs.declared.Residue.the-variants as given
+use Rattle.reading.specs.Reading.{reading, residue-answer}
 use Rattle.service.specs.declared.Service.{Service}
 use Rattle.service.specs.Calls.{new-service, plan-step, open-step, first-step, close-step, reply-step}
 use Rattle.finish.specs.declared.Finished.{Finished}
@@ -53,6 +61,10 @@ bad-list = 100 ∷ 200 ∷ 300 ∷ 12 ∷ 60 ∷ 40 ∷ 65521 ∷ []
 abbrev pub figures : (a b c : ℕ) → Table
 figures a b c k = getD (0 ∷ a ∷ b ∷ c ∷ []) k 0 ∷ []
 
+-- ---- WHOLE NUMBERS: `negsuc n` is −(n + 1)
+abbrev pub changes : List ℤ
+changes = negsuc 32759 ∷ negsuc 13 ∷ negsuc 0 ∷ pos 0 ∷ pos 1 ∷ pos 32760 ∷ []
+
 -- ---- RAW BYTES
 -- of a lent list of seven sevens
 unfoldable pub drawn : (bytes : List ℕ) → ℕ × List ℕ
@@ -71,17 +83,21 @@ unfoldable pub key-of : (k : ℕ) → List ℕ
 key-of = key-from random
 
 abbrev pub end-of : (k : ℕ) → Stage → Client
-end-of k g = record { plan = plan; user = k; stage = g }
+end-of k g = record { plan = plan; user = k; usage = Counts; stage = g }
 
 -- what a fresh end leaves in a buffer that held 7
 unfoldable pub message : (k : ℕ) → (key figures : List ℕ) → List ℕ
 message k ks fs = message-left sixteen (end-of k Fresh) ks fs (7 ∷ [])
 
 -- as user 1, into a buffer of the right length
-unfoldable pub sent-by : Plan → (key figures : List ℕ) → ℕ × Stage
-sent-by p ks fs =
-    let answer = first-answer sixteen (record { plan = p; user = 1; stage = Fresh }) ks fs (length fs) in
+unfoldable pub sent-by : Plan → Use → (key figures : List ℕ) → ℕ × Stage
+sent-by p u ks fs =
+    let answer = first-answer sixteen (record { plan = p; user = 1; usage = u; stage = Fresh }) ks fs (length fs) in
     (answer .number, answer .client .stage)
+
+-- what a fresh end for signed figures leaves in a buffer that held 7
+unfoldable pub changed : (k : ℕ) → (figures : List ℕ) → List ℕ
+changed k fs = message-left sixteen (record { plan = plan; user = k; usage = Signed; stage = Fresh }) (key-of k) fs (7 ∷ [])
 
 abbrev pub handed : (number : ℕ) → Client → Moved
 handed n c = record { number = n; client = c }
@@ -158,15 +174,36 @@ pub record Cases : Type 0 where
   pub figure-3 : first-answer sixteen (end-of 1 Fresh) (key-of 1) (65521 ∷ []) 1 ≡ handed 3 (end-of 1 Fresh)
   pub first-3 : first-step sixteen (opened 7) 1 0 65521 .number ≡ 3
   -- figures: of three and of eight airfields the bound is taken and the next number refused; 3 of any place comes before 32
-  pub bounds : map (λ p. largest-figure sixteen (plan-of p)) (plan ∷ code-plan 4 3 1 1 ∷ code-plan 8 2 1 1 ∷ code-plan 9 2 1 1 ∷ [])
+  pub bounds : map (λ p. largest-figure sixteen counts (plan-of p)) (plan ∷ code-plan 4 3 1 1 ∷ code-plan 8 2 1 1 ∷ code-plan 9 2 1 1 ∷ [])
       ≡ 21840 ∷ 16380 ∷ 8190 ∷ 0 ∷ []
   pub figure-32 : first-answer sixteen (end-of 1 Fresh) (1 ∷ 154 ∷ 220 ∷ 340 ∷ []) (65520 ∷ []) 1 ≡ handed 32 (end-of 1 Fresh)
   pub figure-32-left : message 1 (1 ∷ 154 ∷ 220 ∷ 340 ∷ []) (65520 ∷ []) ≡ 7 ∷ []
-  pub three : map (λ x. sent-by plan (replicate 4 0) (x ∷ [])) (21840 ∷ 21841 ∷ []) ≡ (0, Sent) ∷ (32, Fresh) ∷ []
-  pub eight : map (λ x. sent-by (code-plan 8 2 1 1) (replicate 128 0) (x ∷ [])) (8190 ∷ 8191 ∷ []) ≡ (0, Sent) ∷ (32, Fresh) ∷ []
-  pub last-figure : sent-by (code-plan 4 3 1 1) (replicate 6 0) (0 ∷ 16381 ∷ []) ≡ (32, Fresh)
-  pub three-first : map (sent-by (code-plan 4 3 1 1) (replicate 6 0)) ((16381 ∷ 65521 ∷ []) ∷ (65521 ∷ 16381 ∷ []) ∷ []) ≡ replicate 2 (3, Fresh)
-  pub key-first : sent-by plan (replicate 3 0 ++ 65521 ∷ []) (21841 ∷ []) ≡ (3, Fresh)
+  pub three : map (λ x. sent-by plan Counts (replicate 4 0) (x ∷ [])) (21840 ∷ 21841 ∷ []) ≡ (0, Sent) ∷ (32, Fresh) ∷ []
+  pub eight : map (λ x. sent-by (code-plan 8 2 1 1) Counts (replicate 128 0) (x ∷ [])) (8190 ∷ 8191 ∷ []) ≡ (0, Sent) ∷ (32, Fresh) ∷ []
+  pub last-figure : sent-by (code-plan 4 3 1 1) Counts (replicate 6 0) (0 ∷ 16381 ∷ []) ≡ (32, Fresh)
+  pub three-first : map (sent-by (code-plan 4 3 1 1) Counts (replicate 6 0)) ((16381 ∷ 65521 ∷ []) ∷ (65521 ∷ 16381 ∷ []) ∷ []) ≡ replicate 2 (3, Fresh)
+  pub key-first : sent-by plan Counts (replicate 3 0 ++ 65521 ∷ []) (21841 ∷ []) ≡ (3, Fresh)
+  -- signed figures: 0 to the bound and the residues of as many below zero are taken, the numbers between refused; 3 comes before 32
+  pub signed-bounds : map (λ p. largest-figure sixteen signed (plan-of p)) (plan ∷ code-plan 4 3 1 1 ∷ code-plan 8 2 1 1 ∷ code-plan 9 2 1 1 ∷ [])
+      ≡ 10920 ∷ 8190 ∷ 4095 ∷ 0 ∷ []
+  pub signed-three : map (λ x. sent-by plan Signed (replicate 4 0) (x ∷ [])) (0 ∷ 10920 ∷ 10921 ∷ 54600 ∷ 54601 ∷ 65520 ∷ [])
+      ≡ (0, Sent) ∷ (0, Sent) ∷ (32, Fresh) ∷ (32, Fresh) ∷ (0, Sent) ∷ (0, Sent) ∷ []
+  pub signed-eight : map (λ x. sent-by (code-plan 8 2 1 1) Signed (replicate 128 0) (x ∷ [])) (4095 ∷ 4096 ∷ 61425 ∷ 61426 ∷ [])
+      ≡ (0, Sent) ∷ (32, Fresh) ∷ (32, Fresh) ∷ (0, Sent) ∷ []
+  pub signed-three-first : map (sent-by (code-plan 4 3 1 1) Signed (replicate 6 0)) ((8191 ∷ 65521 ∷ []) ∷ (65521 ∷ 8191 ∷ []) ∷ []) ≡ replicate 2 (3, Fresh)
+  -- −32760, −14, −1, 0, 1 and 32760 and their residues; the first number that is no total, for either use; the way in, of eight airfields
+  pub residues : map (residue sixteen) changes ≡ 32761 ∷ 65507 ∷ 65520 ∷ 0 ∷ 1 ∷ 32760 ∷ []
+  pub read-back : map (λ z. reading sixteen signed (residue sixteen z)) changes ≡ map Value changes
+  pub half : map (reading sixteen signed) (32760 ∷ 32761 ∷ []) ≡ Value (pos 32760) ∷ Value (negsuc 32759) ∷ []
+  pub read-counts : map (reading sixteen counts) (0 ∷ 32761 ∷ 65520 ∷ []) ≡ Value (pos 0) ∷ Value (pos 32761) ∷ Value (pos 65520) ∷ []
+  pub read-3 : map (λ u. reading sixteen u 65521) (counts ∷ signed ∷ []) ≡ replicate 2 (Refused 3)
+  pub way-in : map (residue-answer sixteen (plan-of (code-plan 8 2 1 1))) (negsuc 4095 ∷ negsuc 4094 ∷ pos 4095 ∷ pos 4096 ∷ [])
+      ≡ given.Refused 32 ∷ given.Element 61426 ∷ given.Element 4095 ∷ given.Refused 32 ∷ []
+  pub way-in-1 : residue-answer sixteen (plan-of (code-plan 9 2 1 1)) (negsuc 0) ≡ given.Refused 1
+  -- −14 of airfield 1 and 4 of airfield 3: set 5, and the total −10
+  pub changes-sent : map (λ (c : ℕ × ℕ). changed (c .0) (c .1 ∷ [])) ((1, 65507) ∷ (3, 4) ∷ []) ≡ (86 ∷ []) ∷ (304 ∷ []) ∷ []
+  pub changes-total : finish-tells (finish-step sixteen laws16 (pooled ((1, 86) ∷ (3, 304) ∷ []) ((1, 220) ∷ (3, 112) ∷ []))) ≡ 0 ∷ 65511 ∷ []
+  pub changes-read : reading sixteen signed 65511 ≡ Value (negsuc 9)
   -- raw bytes: 65521 to 65535 are skipped, 65520 is not; what lies behind a full list is unused; a byte that stands alone is no number
   pub bytes-full : drawn (six-numbers (120 ∷ 0 ∷ [])) ≡ (0, random)
   pub bytes-skipped : drawn (241 ∷ 255 ∷ six-numbers (255 ∷ 255 ∷ 120 ∷ 0 ∷ 241 ∷ [])) ≡ (0, random)

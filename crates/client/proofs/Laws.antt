@@ -26,7 +26,8 @@ stage-answered zero z o = absurd (z refl)
 stage-answered (suc zero) z o = absurd (o refl)
 stage-answered (suc (suc v)) z o = let e : v ≡ suc (suc v) - 2 = omega arith in ap scheme.answered e
 
-module _ (A : Arithmetic) (p : scheme.Plan) (k : ℕ) (g : scheme.Stage) (ks fs : List ℕ) (out : ℕ) (e : message-refusal A p k g ks fs out ≡ 0) where
+module _ (A : Arithmetic) (p : scheme.Plan) (k : ℕ) (u : scheme.Use) (g : scheme.Stage) (ks fs : List ℕ) (out : ℕ)
+    (e : message-refusal A p k u g ks fs out ≡ 0) where
   message-tests : (unless (eqb (length ks) (key-length p k) && (eqb (length fs) (places p) && eqb out (places p))) 2 ≡ 0)
       × (unless (elements A ks && elements A fs) 3 ≡ 0)
   unfolding message-refusal

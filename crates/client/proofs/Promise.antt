@@ -8,8 +8,7 @@ use Rattle.scheme.specs.Scheme as scheme
 use Rattle.scheme.specs.Scheme.{Arithmetic, is-fresh, open-to}
 use Rattle.scheme.proofs.Refusals.{after-taken, after-refused}
 use Rattle.client.specs.declared.Stage.the-variants.{Answered}
-use Rattle.client.specs.declared.Client.{Client}
-use Rattle.client.specs.Client.{stage-of, part-of, part-start}
+use Rattle.client.specs.Client.{stage-of, part-of, part-start, at-stage}
 use Rattle.client.specs.Promise.{Same-part, First-unchanged, Reply-unchanged, Refused-unchanged}
 use Rattle.client.proofs.Laws.{reply-answers, reply-taken}
 
@@ -17,7 +16,7 @@ pub same-part : (A : Arithmetic) → Same-part A
 unfolding Same-part stage-of is-fresh open-to part-of part-start
 same-part A c ks v e =
     let a = reply-taken (reply-answers _ e) (scheme.answered v) refl (eq-eqb v v refl) in
-    let d : Client = record { plan = c .plan; user = c .user; stage = Answered v } in
+    let d = at-stage c (Answered v) in
     rw (after-taken e d c) (
       after-taken e _ _,
       λ i. record { number = a i; client = after-taken a d d i },

@@ -4,7 +4,7 @@
 --   Begun, begun-by          document 01's number and value of each case of Start: 0 and the end, or the refusal's number and none
 --   begun-with, begun        what Client::start answers: 0 and a fresh end, or 1 or 4 alone
 --   first-refusal, answer-refusal    0, or why a first message or a reply is refused
---   moved                    number and client handed back: the next stage, or the client as it was
+--   at-stage, moved          a client at another stage; number and client handed back: the next stage, or the client as it was
 --   first-answer, message-left       what a first message hands back, and leaves in its buffer
 --   answer-of, reply-answer  what a reply hands back beside the part
 --   part-of, part-start      the part that goes with a reply, and where in the key it starts
@@ -16,7 +16,8 @@ use lib.ListN.{length}
 use Rattle.scheme.specs.Scheme as scheme
 use Rattle.scheme.specs.Scheme.{Arithmetic, first-message, reply, reply-start, start-refusal, message-refusal, reply-refusal, after}
 use Rattle.plan.specs.declared.Plan.{Plan}
-use Rattle.plan.specs.Plan.{plan-of}
+use Rattle.plan.specs.declared.Use.{Use}
+use Rattle.plan.specs.Plan.{plan-of, use-of}
 use Rattle.client.specs.declared.Stage.{Stage}
 use Rattle.client.specs.declared.Stage.the-variants.{Fresh, Sent, Answered}
 use Rattle.client.specs.declared.Client.{Client}
@@ -50,20 +51,23 @@ unfoldable pub begun-by : Start → Begun
 begun-by (Refused n) = record { number = n; client = none }
 begun-by (Started c) = record { number = 0; client = some c }
 
-abbrev pub begun-with : (refusal : ℕ) → Plan → (user : ℕ) → Begun
-begun-with n p k = record { number = n; client = after n (some (record { plan = p; user = k; stage = Fresh })) none }
+abbrev pub begun-with : (refusal : ℕ) → Plan → (user : ℕ) → Use → Begun
+begun-with n p k u = record { number = n; client = after n (some (record { plan = p; user = k; usage = u; stage = Fresh })) none }
 
-abbrev pub begun : Plan → (user : ℕ) → Begun
-begun p k = begun-with (start-refusal (plan-of p) k) p k
+abbrev pub begun : Plan → (user : ℕ) → Use → Begun
+begun p k u = begun-with (start-refusal (plan-of p) k) p k u
 
 abbrev pub first-refusal : Arithmetic → Client → (key figures : List ℕ) → (out : ℕ) → ℕ
-first-refusal A c ks fs out = message-refusal A (plan-of (c .plan)) (c .user) (stage-of (c .stage)) ks fs out
+first-refusal A c ks fs out = message-refusal A (plan-of (c .plan)) (c .user) (use-of (c .usage)) (stage-of (c .stage)) ks fs out
 
 abbrev pub answer-refusal : Arithmetic → Client → (key : List ℕ) → (set : ℕ) → ℕ
 answer-refusal A c ks v = reply-refusal A (plan-of (c .plan)) (c .user) (stage-of (c .stage)) ks v
 
+abbrev pub at-stage : Client → Stage → Client
+at-stage c g = record { plan = c .plan; user = c .user; usage = c .usage; stage = g }
+
 abbrev pub moved : (refusal : ℕ) → Client → (next : Stage) → Moved
-moved n c g = record { number = n; client = after n (record { plan = c .plan; user = c .user; stage = g }) c }
+moved n c g = record { number = n; client = after n (at-stage c g) c }
 
 abbrev pub first-answer : Arithmetic → Client → (key figures : List ℕ) → (out : ℕ) → Moved
 first-answer A c ks fs out = moved (first-refusal A c ks fs out) c Sent

@@ -1,10 +1,11 @@
-// The airfield end of document 01: it is fresh, or has sent, or has answered one named set, and holds its plan and number.
+// The airfield end of document 01: it is fresh, or has sent, or has answered one named set, and holds its plan, its number and what it
+// reports, counts or signed figures.
 //   Stage, Client      the end
 //   Start              what start answers: Refused by 1 or 4, or Started with a fresh end
 //   Moved              what a first message hands back: 0 or the refusal's number, and the end
 //   Replied            what a reply hands back: the same, and the part of the lent key, which is empty after a refusal
 //   stage_of_number    the stage that a number stands for, where an end is kept as numbers
-//   is_fresh, open_to, add_masks    tests 18 and 19 of a stage; figures plus masks
+//   is_fresh, open_to, figures_good, add_masks    tests 18 and 19 of a stage; test 32 of figures; figures plus masks
 //   Client::start, first_message, reply_refusal, reply; Client::Q and the limits; first_refusal, part, after_reply behind them
 // A refused call hands back its number alone: the end and every lent buffer are as before.
 ghost use mathlib.Core.Path.{_≡_};
@@ -12,10 +13,13 @@ ghost use mathlib.Core.Bool.{true};
 ghost use Prim.Native.Nat.{_+_, _*_, _≤_};
 ghost use lib.ListN.{length};
 ghost use Rattle.scheme.specs.Lists.{each};
-ghost use Rattle.scheme.specs.Scheme.{sixteen, elements, is-fresh, open-to};
+ghost use Rattle.scheme.specs.Scheme.{sixteen, elements, figures-good, is-fresh, open-to};
+ghost use Rattle.scheme.specs.Good.{Good};
+ghost use Rattle.plan.specs.Plan.{plan-of, use-of};
 ghost use Rattle.client.specs.declared.Stage.the-variants.{Answered};
 ghost use Rattle.client.specs.Client.{stage-of, stage-of-number, begun-by, begun, first-refusal, moved, first-answer, message-left, answer-refusal, answer-of, reply-answer, part-of, part-start};
 use plan::Plan;
+use plan::Use;
 
 pub enum Stage {
     Fresh,
@@ -26,6 +30,7 @@ pub enum Stage {
 pub struct Client {
     pub plan: Plan,
     pub user: u32,
+    pub usage: Use,
     pub stage: Stage,
 }
 
@@ -78,6 +83,18 @@ fn open_to(set: u32, stage: Stage) -> bool
     }
 }
 
+// Test 32: figures that pass are elements.
+fn figures_good(plan: Plan, usage: Use, figures: &[u16]) -> bool
+    requires { ⌜ Good (plan-of plan) ⌝ }
+    ensures { λ r. ⌜ r ≡ figures-good sixteen (use-of usage) (plan-of plan) (now (figures .entry)) ⌝ }
+{
+    let bound = plan::bound_of(plan, usage);
+    match usage {
+        Use::Counts => element::all_within(figures, bound),
+        Use::Signed => element::all_near(figures, bound),
+    }
+}
+
 // Figures plus masks, place by place: the first elements of a key are its masks.
 fn add_masks(figures: &[u16], key: &[u16], out: &mut [u16])
     requires { ⌜ (length (now out) ≤ length (now figures)) × (length (now out) ≤ length (now key)) ⌝ }
@@ -107,9 +124,9 @@ impl Client {
 
     pub const MOST_PLACES: usize = plan::MOST_PLACES;
 
-    // A fresh end for a plan and a number: 1, 4.
-    pub fn start(plan: Plan, user: u32) -> Start
-        ensures { λ r. ⌜ begun-by r ≡ begun plan user ⌝ }
+    // A fresh end for a plan, a number and a use: 1, 4.
+    pub fn start(plan: Plan, user: u32, usage: Use) -> Start
+        ensures { λ r. ⌜ begun-by r ≡ begun plan user usage ⌝ }
     {
         let number = plan::start_refusal(plan, user);
         if number != 0 {
@@ -118,18 +135,20 @@ impl Client {
         let client = Client {
             plan,
             user,
+            usage,
             stage: Stage::Fresh,
         };
         Start::Started(client)
     }
 
-    // 18, 2, 3, 32, of a first message into a buffer of `room` elements; 1 and 4 only of an end that start has not made. Figures within
-    // the bound are elements, so that one look at them tells of both.
+    // 18, 2, 3, 32, of a first message into a buffer of `room` elements; 1 and 4 only of an end that start has not made. Figures that 32
+    // lets pass are elements, so that one look at them tells of both.
     fn first_refusal(self, key: &[u16], figures: &[u16], room: usize) -> u32
         ensures { λ r. ⌜ r ≡ first-refusal sixteen self (now (key .entry)) (now (figures .entry)) room ⌝ }
     {
         let plan = self.plan;
         let user = self.user;
+        let usage = self.usage;
         let stage = self.stage;
         let number = plan::start_refusal(plan, user);
         if number != 0 {
@@ -151,7 +170,7 @@ impl Client {
         if !element::all_elements(key) {
             return 3;
         }
-        if element::all_within(figures, plan::bound_of(plan)) {
+        if figures_good(plan, usage, figures) {
             return 0;
         }
         if !element::all_elements(figures) {
@@ -175,9 +194,11 @@ impl Client {
         add_masks(figures, key, out);
         let plan = self.plan;
         let user = self.user;
+        let usage = self.usage;
         let client = Client {
             plan,
             user,
+            usage,
             stage: Stage::Sent,
         };
         Moved { number: 0, client }
@@ -238,9 +259,11 @@ impl Client {
         if refused == 0 {
             let plan = self.plan;
             let user = self.user;
+            let usage = self.usage;
             return Client {
                 plan,
                 user,
+                usage,
                 stage: Stage::Answered(set),
             };
         }

@@ -135,7 +135,7 @@ module _ (s : S.State) (xs : List ℕ) (x : Table) (pg : D.plan-good (s .plan-of
           sym (held-value-same k i (s .firsts)) ∙ true-state .firsts k i (in-set-same (s .survivors) k ∙ e) (rw (places-same p) l)
           ∙ ap (λ (m : List ℕ). getD m i 0)
           (ap (λ ks. D.first-message p ks (x k)) (key-same p g xs k lo hi long)
-          ∙ first-message-same p (key sixteen (our-plan p) xs k) (x k) (rows-same p x ax k lo hi .0) (places-in-key p xs k))
+          ∙ first-message-same p (key sixteen (our-plan p) xs k) (x k) (rows-same p x ax k lo hi refl .0) (places-in-key p xs k))
 
       answer : (k b : ℕ) → 1 ≤ k → k ≤ p .k → in-set (replied (our-state s)) k ≡ true → b < p .m
           → values (our-held (s .replies)) k b ≡ getD (reply (our-plan p) (key sixteen (our-plan p) xs k) k (s .survivors)) b 0

@@ -10,11 +10,12 @@ use native.Mathlib.Nat.{zero-add}
 use lib.Dec.{lit<}
 use lib.ListN.{getD}
 use Rattle.scheme.specs.Lists.{keep, members}
-use Rattle.scheme.specs.Scheme.{q, sixteen, whole-sum, in-set, users-in, whole-total}
-use Rattle.scheme.specs.Promise.{Table, rows-good, admissible, Demand-3}
+use Rattle.scheme.specs.Scheme.{q, sixteen, whole-sum, counts, in-set, users-in, whole-total}
+use Rattle.scheme.specs.Promise.{Table, rows-good, everyone, admissible, Demand-3}
 use Rattle.scheme.specs.Totals.{Totals-fit}
-use Rattle.scheme.proofs.Elements.{within-elements}
-use Rattle.scheme.proofs.Whole.{sixteen-whole, bound-element, total-fits, total-whole}
+use Rattle.scheme.proofs.Elements.{figures-elements}
+use Rattle.scheme.proofs.Signed.{sixteen-whole}
+use Rattle.scheme.proofs.Whole.{total-fits, total-whole}
 use Rattle.scheme.proofs.Privacy.Demand.{demand-3}
 use Rattle.document03.specs.Ours.{our-plan}
 use Rattle.document03.specs.Scheme as D
@@ -27,21 +28,22 @@ use Rattle.document03.proofs.Shown.{elements-same, figures-same, from-o
 use Rattle.document03.proofs.Answers as answers
 
 -- ---- tables
-counted-same : (p : D.Plan) (x : Table) → C.counted p x → admissible sixteen (our-plan p) x
+counted-same : (p : D.Plan) (who : ℕ → Bool) (x : Table) → C.counted p x → admissible sixteen (our-plan p) who (λ k. counts) x
 unfolding C.counted rows-good
-counted-same p x h k lo hi = let s = h k lo hi in (s .0 ∙ places-same p, sym (figures-same p (x k)) ∙ s .1)
+counted-same p who x h k lo hi w = let s = h k lo hi in (s .0 ∙ places-same p, sym (figures-same p (x k)) ∙ s .1)
 
 counted-elements : (p : D.Plan) (x : Table) → C.counted p x → P.admissible p x
 unfolding C.counted P.admissible
 counted-elements p x h k lo hi =
     let s = h k lo hi in
-    let small = within-elements sixteen (lit< tt) _ (bound-element sixteen (our-plan p)) (x k) (sym (figures-same p (x k)) ∙ s .1) in
+    let small = figures-elements sixteen (lit< tt) counts (our-plan p) (x k) (sym (figures-same p (x k)) ∙ s .1) in
     (s .0, elements-same (x k) ∙ small)
 
 -- DOCUMENT 03'S THIRD DEMAND
 pub nothing-told : C.Nothing-told
 unfolding C.Nothing-told Demand-3
-nothing-told = from-ours C.counted (admissible sixteen) counted-elements counted-same demand-3
+nothing-told =
+    from-ours C.counted (λ p. admissible sixteen p everyone (λ k. counts)) counted-elements (λ p. counted-same p everyone) (λ p. demand-3 p (λ k. counts))
 
 -- ---- sums
 whole-set-same : (n k v : ℕ) (f : ℕ → ℕ) → C.whole-set n k v f ≡ whole-sum (members (in-set v) n k) f
@@ -61,13 +63,15 @@ module _ (p : D.Plan) (x : Table) (cx : C.counted p x) (v : ℕ) where
 
   at-most : (i : ℕ) → C.whole-at p x v i ≤ q - 1
   unfolding Totals-fit
-  at-most i = rw (whole-same i) (total-fits sixteen (our-plan p) x (counted-same p x cx) v i)
+  at-most i = rw (whole-same i) (total-fits sixteen (our-plan p) x v (counted-same p (in-set v) x cx) i)
 
   totals-whole : (n i : ℕ) → P.survivor-totals n i p x v ≡ C.whole-totals n i p x v
   unfolding P.survivor-totals C.whole-totals
   totals-whole zero i = refl
   totals-whole (suc n) i =
-      ap₂ _∷_ (total-at-same p x v i ∙ total-whole sixteen (our-plan p) x (counted-same p x cx) v sixteen-whole i ∙ sym (whole-same i)) (totals-whole n (suc i))
+      ap₂ _∷_
+      (total-at-same p x v i ∙ total-whole sixteen (our-plan p) x v (counted-same p (in-set v) x cx) sixteen-whole i ∙ sym (whole-same i))
+      (totals-whole n (suc i))
 
 -- DOCUMENT 03'S SECOND DEMAND
 pub totals-right : C.Totals-right

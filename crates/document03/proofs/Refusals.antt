@@ -12,7 +12,7 @@ use native.Mathlib.Omega.{arith}
 use borrow.Author.Tests.{le-ltb, lt-ltb, le-leb, lt-leb, eq-eqb, ne-eqb}
 use lib.Dec.{ltb, leb, eqb, eqb·suc-zero, eqb·suc-suc}
 use lib.ListN.{length}
-use Rattle.scheme.specs.Scheme.{sixteen, plan-good, is-user, _then_, unless, is-fresh, open-to, start-refusal, key-refusal, message-refusal, reply-refusal}
+use Rattle.scheme.specs.Scheme.{sixteen, counts, plan-good, is-user, _then_, unless, is-fresh, open-to, start-refusal, key-refusal, message-refusal, reply-refusal}
 use Rattle.scheme.proofs.Refusals.{then-assoc}
 use Rattle.client.specs.Client.{stage-of-number}
 use Rattle.document03.specs.Ours.{our-plan}
@@ -86,7 +86,7 @@ key-refusal-same p k xs o =
     ∙ sym (then-assoc (unless (plan-good (our-plan p)) 1) (unless (is-user (our-plan p) k) 4) _)
 
 pub message-refusal-same : (p : D.Plan) (k g : ℕ) (ks fs : List ℕ) (o : ℕ)
-    → E.message-refusal p k g ks fs o ≡ message-refusal sixteen (our-plan p) k (stage-of-number g) ks fs o
+    → E.message-refusal p k g ks fs o ≡ message-refusal sixteen (our-plan p) k counts (stage-of-number g) ks fs o
 unfolding E.message-refusal message-refusal
 message-refusal-same p k g ks fs o =
     refuse-start (start-refusal-same p k)

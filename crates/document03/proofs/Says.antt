@@ -9,11 +9,12 @@ use Prim.Native.Nat.{ℕ, zero, suc, _+_}
 use native.Mathlib.Omega.{arith}
 use borrow.Author.Tests.{eqb-true}
 use lib.ListN.{length}
-use Rattle.scheme.specs.Scheme.{Plan, Stage, sixteen, key-length, first-message, reply-start, key-refusal, message-refusal, reply-refusal, after, key-left}
+use Rattle.scheme.specs.Scheme.{Plan, Use, counts, Stage, sixteen, key-length, first-message, reply-start, key-refusal, message-refusal, reply-refusal, after, key-left}
 use Rattle.scheme.proofs.Tests.{and-both}
 use Rattle.scheme.proofs.Refusals.{then-zero, start-taken, unless-zero, after-taken, after-refused}
 use Rattle.plan.specs.declared.Plan as code
-use Rattle.plan.specs.Plan.{plan-of}
+use Rattle.plan.specs.declared.Use as code-use
+use Rattle.plan.specs.Plan.{plan-of, use-of}
 use Rattle.client.specs.declared.Client.{Client}
 use Rattle.client.specs.Client.{stage-of, stage-of-number, first-refusal, message-left, answer-refusal}
 use Rattle.document03.specs.Ours.{our-plan, plan-of-numbers, Client-of}
@@ -26,11 +27,13 @@ use Rattle.document03.proofs.Keys.{key-same, first-message-same}
 use Rattle.document03.proofs.Refusals.{key-refusal-same, message-refusal-same, part-refusal-same}
 
 -- ---- an end
-by-numbers : {k u t m a g : ℕ} {x : Client} → Client-of k u t m a g x → {A : Type 0} (f : Plan → ℕ → Stage → A)
-    → f (plan-of (x .plan)) (x .user) (stage-of (x .stage)) ≡ f (plan-of-numbers k u t m) a (stage-of-number g)
+by-numbers : {k u t m a g : ℕ} {x : Client} → Client-of k u t m a g x → {A : Type 0} (f : Plan → ℕ → Use → Stage → A)
+    → f (plan-of (x .plan)) (x .user) (use-of (x .usage)) (stage-of (x .stage)) ≡ f (plan-of-numbers k u t m) a counts (stage-of-number g)
 by-numbers {k} {u} {t} {m} {a} {g} {x} h f =
-    ap (λ (p : code.Plan). f (plan-of p) (x .user) (stage-of (x .stage))) (h .plan)
-    ∙ ap (λ (n : ℕ). f (plan-of-numbers k u t m) n (stage-of (x .stage))) (h .user) ∙ ap (f (plan-of-numbers k u t m) a) (h .stage)
+    let p = plan-of-numbers k u t m in
+    ap (λ (c : code.Plan). f (plan-of c) (x .user) (use-of (x .usage)) (stage-of (x .stage))) (h .plan)
+    ∙ ap (λ (n : ℕ). f p n (use-of (x .usage)) (stage-of (x .stage))) (h .user)
+    ∙ ap (λ (w : code-use.Use). f p a (use-of w) (stage-of (x .stage))) (h .usage) ∙ ap (f p a counts) (h .stage)
 
 -- ---- the key maker
 put-says : (n : ℕ) {m : ℕ} (ws : List ℕ) {us : List ℕ} (r : ℕ) (o z : List ℕ) → n ≡ m → (m ≡ 0 → ws ≡ us) → r ≡ m → z ≡ after m us o → E.Put-says n ws r o z
@@ -64,13 +67,13 @@ pub first-says : {k u t m a g : ℕ} {x : Client} → Client-of k u t m a g x �
 unfolding E.First-says D.plan message-refusal key-length
 first-says {k} {u} {t} {m} {a} {g} w ks fs r o z f taken refused d =
     let p = plan-of-numbers k u t m in
-    let same = by-numbers w (λ (p : Plan) (k : ℕ) (g : Stage). message-refusal sixteen p k g ks fs (length o)) in
+    let same = by-numbers w (λ (p : Plan) (k : ℕ) (u : Use) (g : Stage). message-refusal sixteen p k u g ks fs (length o)) in
     sent-says _ _ g r o z (message-refusal-same (D.plan k u t m) a g ks fs (length o) ∙ sym same) (λ e.
     let c = then-zero _ _ (then-zero _ _ (then-zero _ _ (sym same ∙ e) .1) .1) in
     let l = and-both _ _ (unless-zero _ _ (c .0)) in
     let long : length ks ≡ key-length p a = eqb-true _ _ (l .0) in
     first-message-same (D.plan k u t m) ks fs (eqb-true _ _ (and-both _ _ (l .1) .0)) (omega arith)
-    ∙ sym (by-numbers w (λ (p : Plan) (k : ℕ) (g : Stage). first-message sixteen p ks fs))) f taken refused d
+    ∙ sym (by-numbers w (λ (p : Plan) (k : ℕ) (u : Use) (g : Stage). first-message sixteen p ks fs))) f taken refused d
 
 -- ---- the reply
 part-says : (n : ℕ) {m : ℕ} (s : ℕ) {a : ℕ} (c v g : ℕ) (r : Part) → n ≡ m → (m ≡ 0 → s ≡ a) → r .number ≡ m
@@ -90,9 +93,9 @@ pub reply-says : {k u t m a g : ℕ} {x : Client} → Client-of k u t m a g x �
     → (n ≢ 0 → (r .start ≡ 0) × (r .count ≡ 0) × (r .stage ≡ g)) → E.Reply-says k u t m a g ks v r
 unfolding E.Reply-says D.plan reply-refusal
 reply-says {k} {u} {t} {m} {a} {g} w ks v r f taken refused =
-    let same = by-numbers w (λ (p : Plan) (k : ℕ) (g : Stage). reply-refusal sixteen p k g ks v) in
+    let same = by-numbers w (λ (p : Plan) (k : ℕ) (u : Use) (g : Stage). reply-refusal sixteen p k g ks v) in
     part-says _ _ m v g r (part-refusal-same (D.plan k u t m) a g ks v ∙ sym same) (λ e.
     let c = then-zero _ _ (then-zero _ _ (then-zero _ _ (then-zero _ _ (then-zero _ _ (sym same ∙ e) .1) .1) .1) .1) in
     let i = then-zero _ _ (c .1) in
     reply-start-same (D.plan k u t m) v (unless-zero _ _ (c .0)) a (unless-zero _ _ (i .0))
-    ∙ sym (by-numbers w (λ (p : Plan) (k : ℕ) (g : Stage). reply-start p k v))) f taken refused
+    ∙ sym (by-numbers w (λ (p : Plan) (k : ℕ) (u : Use) (g : Stage). reply-start p k v))) f taken refused

@@ -14,7 +14,7 @@ use borrow.Author.Tests.{eqb-true}
 use lib.Dec.{ltb, leb, eqb}
 use lib.ListN.{length}
 use Rattle.scheme.specs.Lists.{span, keep, members, all-of}
-use Rattle.scheme.specs.Scheme.{q, sixteen, elements, within, Plan, plan-good, figure-bound, in-set, usable, users-in, list-length, key, first-message, reply}
+use Rattle.scheme.specs.Scheme.{q, sixteen, elements, within, Plan, plan-good, counts, reach, figure-bound, figures-good, in-set, usable, users-in, list-length, key, first-message, reply}
 use Rattle.scheme.specs.Promise.{Table, rows-good, element-rows, list-good, Shown, shown, Alike, Matching, Nothing-told}
 use Rattle.scheme.specs.Good.{Good}
 use Rattle.scheme.proofs.Tests.{and-both}
@@ -34,8 +34,8 @@ unfolding elements-good elements all-of
 elements-same [] = refl
 elements-same (x ∷ xs) = ap (λ (b : Bool). ltb x q && b) (elements-same xs)
 
-pub figures-same : (p : D.Plan) (xs : List ℕ) → C.figures-good p xs ≡ within (figure-bound sixteen (our-plan p)) xs
-unfolding C.figures-good C.figure-bound within figure-bound all-of
+pub figures-same : (p : D.Plan) (xs : List ℕ) → C.figures-good p xs ≡ figures-good sixteen counts (our-plan p) xs
+unfolding C.figures-good C.figure-bound figures-good within figure-bound reach all-of
 figures-same p [] = refl
 figures-same p (x ∷ xs) = ap (λ (b : Bool). leb x ((q - 1) / p .k) && b) (figures-same p xs)
 
@@ -45,7 +45,7 @@ list-good-same p xs = ap₂ (λ (n : ℕ) (b : Bool). eqb (length xs) n && b) (l
 
 pub rows-same : (p : D.Plan) (x : Table) → P.admissible p x → element-rows sixteen (our-plan p) x
 unfolding P.admissible rows-good
-rows-same p x h k lo hi = let s = h k lo hi in (s .0 ∙ places-same p, sym (elements-same (x k)) ∙ s .1)
+rows-same p x h k lo hi w = let s = h k lo hi in (s .0 ∙ places-same p, sym (elements-same (x k)) ∙ s .1)
 
 -- ---- what is shown
 abbrev pub as-document : Shown → P.Shown
@@ -65,7 +65,7 @@ module _ (p : D.Plan) (g : Good (our-plan p)) (xs : List ℕ) (long : length xs 
   firsts-same x h (suc n) k lo hi =
       ap₂ _∷_
       (ap (λ ks. D.first-message p ks (x k)) (key-same p g xs k lo (omega arith) long)
-      ∙ first-message-same p (key sixteen (our-plan p) xs k) (x k) (h k lo (omega arith) .0) (places-in-key p xs k))
+      ∙ first-message-same p (key sixteen (our-plan p) xs k) (x k) (h k lo (omega arith) refl .0) (places-in-key p xs k))
       (firsts-same x h n (suc k) (omega arith) (omega arith))
 
   replies-same : (v : ℕ) → usable (our-plan p) v ≡ true → (n k : ℕ) → 1 ≤ k → k + n ≤ suc (p .k)

@@ -1,6 +1,6 @@
 -- Our words for document 03's.
 --   our-plan, plan-of-numbers      our plan of a plan of document 03, and of K, U, T and M
---   Client-of                      our end, where its plan, number and stage are document 03's numbers
+--   Client-of                      our end, which reports counts, where its plan, number and stage are document 03's numbers
 --   our-phase                      our phase of a number: 0 no plan, 2 gathering, 3 replying, all others idle
 --   our-held, our-state            the elements held as a function; our state of the service
 --   our-record, our-answer         our records, and our answers of document 03's lines
@@ -11,6 +11,7 @@ use mathlib.Core.Option.{Option}
 use Prim.Native.Nat.{ℕ, zero, suc}
 use Rattle.scheme.specs.Scheme.{Plan}
 use Rattle.scheme.specs.Service.{Phase, unplanned, idle, gathering, replying, State, nothing, with-element, Record, plan-record, open-record, first-record, close-record, reply-record, finish-record, Answer, silent, planned, opened, closed, totalled, refused}
+use Rattle.plan.specs.declared.Use.the-variants.{Counts}
 use Rattle.client.specs.declared.Client.{Client}
 use Rattle.client.specs.Client.{stage-of, stage-of-number}
 use Rattle.document03.specs.Scheme as D
@@ -25,6 +26,7 @@ our-plan p = plan-of-numbers (p .k) (p .u) (p .t) (p .m)
 pub record Client-of (k u t m a g : ℕ) (c : Client) : Type 0 where
   pub plan : c .plan ≡ record { users = k; threshold = u; collusion = t; blocks = m }
   pub user : c .user ≡ a
+  pub usage : c .usage ≡ Counts
   pub stage : stage-of (c .stage) ≡ stage-of-number g
 
 -- ---- the service

@@ -7,6 +7,7 @@ ghost use Rattle.document03.specs.Ours.{Client-of};
 ghost use Rattle.document03.specs.Entry.{Key-says, First-says, Reply-says};
 use client::Client;
 use plan::Plan;
+use plan::Use;
 
 pub struct Part {
     pub number: u32,
@@ -60,6 +61,7 @@ fn client_of(
     Client {
         plan,
         user: airfield,
+        usage: Use::Counts,
         stage: client::stage_of_number(stage),
     }
 }

@@ -5,11 +5,13 @@
 //   inverse_of, coefficient   the inverses of the numbers below points
 //   past, all_within          how far a number is past the most; that no number of a list is
 //   excess, all_elements      the same of the last element: test 3 of document 01
+//   far, all_near             0 of an element no further than the most from zero, up or down; that all of a list are such elements
 ghost use mathlib.Core.Path.{_≡_};
+ghost use lib.Dec.{eqb};
 ghost use Prim.Native.Nat.{_+_, _-_, _*_, _%_, _≤_, _<_};
 ghost use Rattle.algebra.specs.Residue.{inverse};
 ghost use Rattle.scheme.specs.Limits.{points};
-ghost use Rattle.scheme.specs.Scheme.{q, sixteen, elements, within};
+ghost use Rattle.scheme.specs.Scheme.{q, sixteen, elements, within, is-near, near};
 ghost use Rattle.element.specs.Fold.{word, fold, most-folded, reducible};
 
 pub const Q: u32 = 65521;
@@ -131,4 +133,29 @@ pub fn all_elements(list: &[u16]) -> bool
     ensures { λ r. ⌜ r ≡ elements sixteen (now (list .entry)) ⌝ }
 {
     all_within(list, LAST)
+}
+
+// 0 exactly of an element from 0 to the most, or from Q less the most to the last.
+fn far(x: u16, most: u16) -> u16
+    requires { ⌜ most < q ⌝ }
+    ensures { λ r. ⌜ eqb r 0 ≡ is-near sixteen most x ⌝ }
+{
+    if x <= most {
+        return 0;
+    }
+    past(Q16 - most, x) | excess(x)
+}
+
+// Whether all numbers of a list are elements no further than the most from zero.
+pub fn all_near(list: &[u16], most: u16) -> bool
+    requires { ⌜ most < q ⌝ }
+    ensures { λ r. ⌜ r ≡ near sixteen most (now (list .entry)) ⌝ }
+{
+    let mut beyond: u16 = 0;
+    let mut at = 0;
+    while at < list.len() {
+        beyond = beyond | far(list[at], most);
+        at += 1;
+    }
+    beyond == 0
 }

@@ -21,7 +21,7 @@ use Rattle.scheme.proofs.Refusals.{then-zero, unless-zero, after-taken}
 use Rattle.client.specs.declared.Stage.{Stage}
 use Rattle.client.specs.declared.Stage.the-variants.{Sent, Answered}
 use Rattle.client.specs.declared.Client.{Client}
-use Rattle.client.specs.Client.{stage-of, answer-refusal}
+use Rattle.client.specs.Client.{stage-of, at-stage, answer-refusal}
 use Rattle.capi.specs.declared.ends.CutawhenoPart.{CutawhenoPart}
 use Rattle.capi.specs.Ends.{end-length, end-at, part-by, part-answer}
 use Rattle.capi.specs.Promise.{Ends-stand, Part-is-reply}
@@ -40,7 +40,7 @@ stage-at e = stage-of (end-at e .stage)
 
 record Leaves-of (c : End-call) (e : List ℕ) : Type 0 where
   long : length (end-leaves c e) ≡ end-length
-  taken : end-number c e ≡ 0 → end-at (end-leaves c e) ≡ record { plan = end-at e .plan; user = end-at e .user; stage = next c }
+  taken : end-number c e ≡ 0 → end-at (end-leaves c e) ≡ at-stage (end-at e) (next c)
   refused : end-number c e ≢ 0 → end-leaves c e ≡ e
   part : (v : ℕ) → part-by 0 (end-at (end-leaves c e)) v ≡ part-by 0 (end-at e) v
 
@@ -59,7 +59,7 @@ module _ (e : List ℕ) (l : length e ≡ end-length) where
   taken-long (message-call ks fs o) z = ap length (kept-taken (end-at e) Sent e z) ∙ length-set e 5 _ ∙ l
   taken-long (answer-call ks v) z = ap length (kept-taken (end-at e) (Answered v) e (answer-taken e ks v z)) ∙ length-set e 5 _ ∙ l
 
-  taken-at : (c : End-call) → end-number c e ≡ 0 → end-at (end-leaves c e) ≡ record { plan = end-at e .plan; user = end-at e .user; stage = next c }
+  taken-at : (c : End-call) → end-number c e ≡ 0 → end-at (end-leaves c e) ≡ at-stage (end-at e) (next c)
   unfolding end-number end-leaves next Ends-stand
   taken-at (message-call ks fs o) z =
       ends-stand e l .first-stands ks fs (length o) ∙ after-taken z _ _
@@ -78,9 +78,10 @@ module _ (e : List ℕ) (l : length e ≡ end-length) where
           record { long = ap length same ∙ l; taken = taken-at c; refused = refused-same c; part = λ v. ap (λ (d : List ℕ). part-by 0 (end-at d) v) same }
 
 -- ---- what the stage refuses
-sent-refuses : (A : Arithmetic) (p : scheme.Plan) (k : ℕ) (g : scheme.Stage) (ks fs : List ℕ) (n : ℕ) → is-fresh g ≡ false → message-refusal A p k g ks fs n ≢ 0
+sent-refuses : (A : Arithmetic) (p : scheme.Plan) (k : ℕ) (u : scheme.Use) (g : scheme.Stage) (ks fs : List ℕ) (n : ℕ)
+    → is-fresh g ≡ false → message-refusal A p k u g ks fs n ≢ 0
 unfolding message-refusal
-sent-refuses A p k g ks fs n f z = absurd (holds (sym f ∙ unless-zero _ _ (then-zero _ _ (then-zero _ _ z .1) .0)))
+sent-refuses A p k u g ks fs n f z = absurd (holds (sym f ∙ unless-zero _ _ (then-zero _ _ (then-zero _ _ z .1) .0)))
 
 one-open : (A : Arithmetic) (p : scheme.Plan) (k : ℕ) (g : scheme.Stage) (ks : List ℕ) (w : ℕ) → reply-refusal A p k g ks w ≡ 0 → open-to w g ≡ true
 unfolding reply-refusal
@@ -89,7 +90,7 @@ one-open A p k g ks w e =
 
 no-message : (e ks fs o : List ℕ) → is-fresh (stage-at e) ≡ false → end-number (message-call ks fs o) e ≢ 0
 unfolding end-number
-no-message e ks fs o f z = sent-refuses _ _ _ _ ks fs (length o) f z
+no-message e ks fs o f z = sent-refuses _ _ _ _ _ ks fs (length o) f z
 
 same-set : (e ks : List ℕ) (v w : ℕ) → end-at e .stage ≡ Answered v → end-number (answer-call ks w) e ≡ 0 → w ≡ v
 unfolding end-number stage-of open-to

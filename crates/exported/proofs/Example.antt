@@ -24,11 +24,11 @@ use Rattle.exported.specs.Example.{example-given, example-calls, Example
 
 pub example-right : Example-right
 unfolding inverse inverse-from modular-laws padded unknown-at
-    Scheme.figure-bound Scheme.within
+    Scheme.reach Scheme.figure-bound Scheme.within
     Lists.rank Scheme.elements Scheme.sum Scheme.plan-good Scheme.items Scheme.places Scheme.is-user Scheme.in-set Scheme.ones Scheme.usable Scheme.usable-with
     Scheme.users-in Scheme.usable-sets Scheme.sets-with Scheme.list-length Scheme.mask Scheme.noise-start Scheme.noise Scheme.column Scheme.row-value
     Scheme.share Scheme.shares Scheme.key Scheme.key-length Scheme.first-message Scheme.reply-start Scheme._then_ unless
-    Scheme.is-fresh Scheme.open-to Scheme.start-refusal Scheme.key-refusal Scheme.message-refusal Scheme.reply-refusal Scheme.after
+    Scheme.is-fresh Scheme.open-to Scheme.start-refusal Scheme.key-refusal Scheme.figures-good Scheme.message-refusal Scheme.reply-refusal Scheme.after
     Lists.all-of Totals.explains Totals.explains-all Totals.total-of Totals.totals
     Service.has-plan Service.is-gathering Service.is-replying Service.plan-missing Service.second-plan Service.not-gathering Service.not-replying
     Service.element-refusal Service.is-held Service.element-of Service.set-of Service.complete-set Service.gathered
@@ -39,7 +39,7 @@ unfolding inverse inverse-from modular-laws padded unknown-at
     Calls.open-step Calls.first-refusal Calls.first-left Calls.reply-refusal Calls.reply-left Calls.close-refusal
     Calls.closed Calls.close-step told
     Finish.rows-of Finish.values-of Finish.choice-of Finish.choice Finish.finish-refusal Finish.finish-answer Finish.finish-step Finish.finished
-    Ends.code-stage Ends.end-at Ends.end-numbers Ends.start-left Ends.kept Ends.part-by
+    Ends.code-stage Ends.end-at Ends.start-left Ends.kept Ends.part-by
     Lent.phase-at Lent.phase-number Lent.head-at Lent.numbers Lent.plan-left Lent.open-left Lent.close-left Lent.finish-left Lent.finish-totals
     number-of leaves handed answers end-calls calls example-given example-calls
 example-right = record { user-1 = refl; user-2 = refl; user-3 = refl; answered = refl }

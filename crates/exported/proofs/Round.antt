@@ -1,24 +1,29 @@
 -- Demand 2 from end to end on lent memory.
 --   Finishes, finishes   what holds where finish is not refused by 11, 12 or 15
---   round-right          the statement of specs/Round.antt
+--   round-residues, round-right, signed-total    the statements of specs/Round.antt
 -- Assumes nothing.
 use mathlib.Core.Path.{_≡_, refl, sym, ap, _∙_, subst}
 use mathlib.Core.Logic.{_≢_}
 use mathlib.Core.Bool.{Bool, true, false}
-use mathlib.Core.List.{List, [], _∷_}
+use mathlib.Core.List.{List, [], _∷_, map, map-map}
 use Prim.Native.Nat.{ℕ, zero, suc, _≤_}
 use native.Mathlib.Omega.{arith}
 use lib.Dec.{leb}
-use lib.ListN.{getD}
+use lib.ListN.{getD, take}
 use Rattle.scheme.specs.Limits.{most-places}
-use Rattle.scheme.specs.Lists.{padded, filled}
-use Rattle.scheme.specs.Scheme.{sixteen, plan-good, places, in-set, ones, unless, _then_, after}
+use Rattle.scheme.specs.Lists.{span, padded, filled}
+use Rattle.scheme.specs.Scheme.{sixteen, plan-good, places, in-set, ones, total-at, unless, _then_, after}
+use Rattle.scheme.specs.Signed.{residues}
 use Rattle.scheme.specs.Service.{has-plan, is-replying, plan-missing, not-replying, State, gathered, replied, Record, open-record, finish-record, Answer, refusal, opened-state, next-state, Steps}
 use Rattle.scheme.proofs.Tests.{holds}
 use Rattle.scheme.proofs.Refusals.{then-assoc, after-taken}
+use Rattle.scheme.proofs.Lists.{map-below-same}
+use Rattle.scheme.proofs.Padded.{filled-take}
+use Rattle.scheme.proofs.Signed.{sixteen-whole}
+use Rattle.scheme.proofs.Whole.{total-fits, totals-whole, changes-admissible}
 use Rattle.scheme.proofs.Pooling.Held.{complete-held}
 use Rattle.solve.specs.Solve.{laws16}
-use Rattle.plan.specs.Plan.{plan-of}
+use Rattle.plan.specs.Plan.{plan-of, code-use}
 use Rattle.client.specs.Shown as client
 use Rattle.client.specs.Shown.{Handed}
 use Rattle.service.specs.declared.Service.{Service}
@@ -28,12 +33,13 @@ use Rattle.service.proofs.Same.{opened-view}
 use Rattle.finish.specs.Finish.{finish-refusal, finish-answer, finish-step}
 use Rattle.finish.proofs.Steps.{totals-padded}
 use Rattle.capi.specs.Lent.{Arrays, zeros, state, finish-totals}
+use Rattle.capi.specs.Meaning.{as-reading, total-read}
 use Rattle.capi.proofs.Stands.{calls-stand}
 use Rattle.round.specs.Round as round
 use Rattle.round.proofs.Round as round-proved
 use Rattle.exported.specs.Runs.{Call, open-call, plan-in, number-of, leaves, run}
 use Rattle.exported.specs.Shown.{calls, Same-given}
-use Rattle.exported.specs.Round.{Each-taken, First-of, Reply-of, Round-right}
+use Rattle.exported.specs.Round.{Each-taken, First-of, Reply-of, arrays-behind, Round-residues, Round-right, Signed-total}
 use Rattle.exported.proofs.Runs.{step-right, run-formed, zeros-formed}
 use Rattle.exported.proofs.Shown.{same-given}
 use Rattle.exported.proofs.Carried.{Carried, nothing-carried, steps-first, steps-reply, Survived, steps-survived, run-keeps}
@@ -92,11 +98,12 @@ module _ (a : Arrays) (w : Formed sixteen (state a)) (r : ℕ) (e : number-of (o
   unfolding next-state opened-state Survived is-replying
   survived = keeps Survived (λ r. Unit {0}) (λ r s t b h u. steps-survived sixteen r s t b h) (every cs (leaves (open-call r) a)) (λ h. absurd (holds h))
 
-pub round-right : Round-right
-unfolding Round-right run number-of finish-step finish-answer finish-totals Survived Same-given gathered replied view filled round.Round-right
-round-right before cs r xs x lent o e n11 n12 n15 ok rows room sent =
-    let done = round-proved.round-right-sixteen s xs x (λ k. lent k .key-buffer) (λ k. lent k .buffer) formed (f .untested) ok rows room held in
-    (done .0, after-taken (done .0) _ o ∙ totals-padded sixteen laws16 s _ (done .0) ∙ ap (padded most-places) (done .1), done .2)
+pub round-residues : Round-residues
+unfolding Round-residues run number-of finish-step finish-answer finish-totals Survived Same-given gathered replied view filled round.Round-residues
+round-residues before cs r is-signed xs x lent o h rows =
+    let done = round-proved.round-residues-sixteen s (λ k. code-use (is-signed k)) xs x (λ k. lent k .key-buffer) (λ k. lent k .buffer)
+    formed (f .untested) (h .list) rows (h .room) held in
+    (done .0, after-taken (done .0) _ o ∙ totals-padded sixteen laws16 s _ (done .0) ∙ ap (padded most-places) (done .1))
   where
     start : Arrays
     start = run before zeros
@@ -111,29 +118,53 @@ round-right before cs r xs x lent o e n11 n12 n15 ok rows room sent =
     s = state a
 
     formed : Formed sixteen s
-    formed = end-formed start begun r e cs
+    formed = end-formed start begun r (h .opens) cs
 
     f : Finishes s
-    f = finishes s n11 n12 n15
+    f = finishes s (h .planned) (h .replying) (h .enough)
 
     v : ℕ
     v = s .head .survivors
 
-    same : (k : ℕ) → calls (plan-in a) xs (x k) v k (lent k) ≡ client.calls sixteen (plan-in a) xs (x k) v k (lent k .key-buffer) (lent k .buffer)
-    same k = same-given (plan-in a) xs (x k) v k (lent k)
+    same : (k : ℕ) → calls (plan-in a) (is-signed k) xs (x k) v k (lent k)
+        ≡ client.calls sixteen (plan-in a) (code-use (is-signed k)) xs (x k) v k (lent k .key-buffer) (lent k .buffer)
+    same k = same-given (plan-in a) (is-signed k) xs (x k) v k (lent k)
 
     survivor : (k : ℕ) → in-set v k ≡ true → in-set (gathered (view s)) k ≡ true
-    survivor k m = ap (λ (u : ℕ). in-set u k) (sym (survived start begun r e cs (f .replying))) ∙ m
+    survivor k m = ap (λ (u : ℕ). in-set u k) (sym (survived start begun r (h .opens) cs (f .replying))) ∙ m
 
-    held : round.Sent-in sixteen s xs x (λ k. lent k .key-buffer) (λ k. lent k .buffer)
+    held : round.Sent-in sixteen s (λ k. code-use (is-signed k)) xs x (λ k. lent k .key-buffer) (λ k. lent k .buffer)
     held =
         record {
-          first = λ k i lo hi m h.
-              first-carried start begun r e cs k _ (sent .first k lo hi m) .right i
-              (complete-held (plan-of (plan-in a)) (view s .firsts) (places (plan-of (plan-in a))) k lo hi (survivor k m) i h)
+          first = λ k i lo hi m l.
+              first-carried start begun r (h .opens) cs k _ (h .sent .first k lo hi m) .right i
+              (complete-held (plan-of (plan-in a)) (view s .firsts) (places (plan-of (plan-in a))) k lo hi (survivor k m) i l)
               ∙ ap (λ (g : Handed). getD (g .message) i 0) (same k);
-          answer = λ k b lo hi m h.
-              reply-carried start begun r e cs k _ (sent .answer k lo hi m) .right b
-              (complete-held (plan-of (plan-in a)) (view s .replies) (plan-in a .blocks) k lo hi m b h)
+          answer = λ k b lo hi m l.
+              reply-carried start begun r (h .opens) cs k _ (h .sent .answer k lo hi m) .right b
+              (complete-held (plan-of (plan-in a)) (view s .replies) (plan-in a .blocks) k lo hi m b l)
               ∙ ap (λ (g : Handed). getD (g .part) b 0) (same k);
         }
+
+pub round-right : Round-right
+unfolding Round-right Round-residues filled
+round-right before cs r xs x lent o h rows =
+    let a = arrays-behind before r cs in
+    let p = plan-of (plan-in a) in
+    let v = state a .head .survivors in
+    let done = round-residues before cs r (λ k. 0) xs x lent o h rows in
+    (done .0, done .1 ∙ ap (padded most-places) (totals-whole sixteen p x v rows sixteen-whole), total-fits sixteen p x v rows)
+
+pub signed-total : Signed-total
+unfolding Signed-total Round-residues as-reading filled
+signed-total before cs r n m xs z lent o h good =
+    let a = arrays-behind before r cs in
+    let p = plan-of (plan-in a) in
+    let v = state a .head .survivors in
+    let done = round-residues before cs r (λ k. suc (n k)) xs (residues sixteen z) lent o h (changes-admissible sixteen p (in-set v) z good) in (
+      done .0,
+      ap (λ (l : List ℕ). map (total-read (suc m)) (take (places p) l)) (done .1)
+          ∙ ap (map (total-read (suc m))) (filled-take most-places (total-at sixteen p (residues sixteen z) v) (places p))
+          ∙ map-map (total-read (suc m)) (total-at sixteen p (residues sixteen z) v) (span (places p) 0)
+          ∙ map-below-same _ _ (places p) (λ i l. ap as-reading (round-proved.total-is-read sixteen laws16 sixteen-whole p z v good i)),
+    )

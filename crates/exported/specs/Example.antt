@@ -27,7 +27,7 @@ example-list = 100 ∷ 200 ∷ 300 ∷ 12 ∷ 60 ∷ 40 ∷ 120 ∷ []
 -- whatever the buffers and the array held before
 unfoldable pub example-given : (k : ℕ) → Handed
 example-given k =
-    calls example-plan example-list (k * 10 ∷ []) 5 k (record { key-buffer = replicate 4 7; buffer = 7 ∷ []; end = replicate end-length 7 })
+    calls example-plan 0 example-list (k * 10 ∷ []) 5 k (record { key-buffer = replicate 4 7; buffer = 7 ∷ []; end = replicate end-length 7 })
 
 abbrev pub message-of : (k : ℕ) → ℕ
 message-of k = getD (example-given k .message) 0 0

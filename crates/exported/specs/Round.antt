@@ -1,27 +1,33 @@
 -- Demand 2 from end to end on lent memory: what the exported calls of the airfields give, put in by the exported calls of the service,
--- finishes as the survivors' whole-number total.
+-- finishes as the survivors' total.
 --   Each-taken         a fact of each call of a list that is taken where it comes, refused ones left out
 --   First-of, Reply-of the records that carry an element of a user carry those of its first message, of its part
 --   Sent-in            what is taken of the survivors' first messages, and of the replies of those that replied whole, is what their calls gave
---   Round-right        the statement: arrays from zeros, any calls and rounds before; between, any other calls, and refused ones of survivors
+--   opened-by, arrays-behind    the arrays behind any calls and an open, and behind the round's calls too
+--   Pooled             such a round: arrays from zeros, any calls and rounds before; between, any other calls, and refused ones of survivors
 --                      too: doubled (13), late (12), out of place (8), no elements (3)
+--   Round-residues     the total modulo 65521, the survivors' uses in any mix
+--   Round-right        where the survivors report counts: the whole-number total
+--   Signed-total       where they report signed figures: what cutawheno_read_total reads is the whole-number total
 -- Assumes nothing: these are definitions.
 use mathlib.Core.Path.{_≡_}
 use mathlib.Core.Logic.{_≢_}
 use mathlib.Core.Bool.{true}
-use mathlib.Core.List.{List, [], _∷_}
-use Prim.Native.Nat.{ℕ, _≤_}
-use lib.ListN.{getD}
+use mathlib.Core.List.{List, [], _∷_, map}
+use Prim.Native.Nat.{ℕ, suc, _≤_}
+use lib.ListN.{getD, take}
 use Rattle.scheme.specs.Limits.{most-places}
-use Rattle.scheme.specs.Lists.{filled}
-use Rattle.scheme.specs.Scheme.{sixteen, places, in-set, whole-total}
+use Rattle.scheme.specs.Lists.{span, filled}
+use Rattle.scheme.specs.Scheme.{sixteen, places, counts, in-set, total-at, whole-total}
 use Rattle.scheme.specs.Promise.{Table, admissible, list-good}
+use Rattle.scheme.specs.Signed.{Changes, changes-good, residues, change-total}
 use Rattle.scheme.specs.Totals.{Totals-fit}
 use Rattle.scheme.specs.Service.{Record, plan-record, open-record, first-record, close-record, reply-record, finish-record, replied}
-use Rattle.plan.specs.Plan.{plan-of}
+use Rattle.plan.specs.Plan.{plan-of, use-of, code-use}
 use Rattle.client.specs.Shown.{Handed}
 use Rattle.service.specs.View.{view}
 use Rattle.capi.specs.Lent.{Arrays, zeros, state, finish-totals}
+use Rattle.capi.specs.Meaning.{total-read}
 use Rattle.exported.specs.Runs.{Call, open-call, finish-call, record-of, plan-in, number-of, leaves, run}
 use Rattle.exported.specs.Shown.{Lent, Room, calls}
 
@@ -45,6 +51,13 @@ Reply-of k s (first-record l i x) = Unit {0}
 Reply-of k s close-record = Unit {0}
 Reply-of k s finish-record = Unit {0}
 
+-- the arrays that the open leaves behind any calls on zeros, and that the round's calls leave
+abbrev pub opened-by : (before : List Call) → (r : ℕ) → Arrays
+opened-by before r = leaves (open-call r) (run before zeros)
+
+abbrev pub arrays-behind : (before : List Call) → (r : ℕ) → (round : List Call) → Arrays
+arrays-behind before r round = run round (opened-by before r)
+
 -- of the calls since an open, and the arrays that the open left
 pub record Sent-in (round : List Call) (opened : Arrays) (given : (k : ℕ) → Handed) : Type 0 where
   pub first : let a = run round opened in (k : ℕ) → 1 ≤ k → k ≤ plan-in a .users → in-set (state a .head .survivors) k ≡ true →
@@ -52,17 +65,45 @@ pub record Sent-in (round : List Call) (opened : Arrays) (given : (k : ℕ) → 
   pub answer : let a = run round opened in (k : ℕ) → 1 ≤ k → k ≤ plan-in a .users → in-set (replied (view (state a))) k ≡ true →
       Each-taken (Reply-of k (given k .part)) round opened
 
--- where finish is not refused by 11, 12 or 15, it answers 0 and leaves in the lent buffer the whole-number sums of the survivors'
--- figures, place by place, each at most 65520, and 0 behind them
+-- a round that any calls open on arrays from zeros: what the exported calls of the airfields give for one random list and one table, each
+-- survivor by its own use, is put in, and finish is not refused by 11, 12 or 15
+pub record Pooled (before round : List Call) (r : ℕ) (is-signed : (k : ℕ) → ℕ) (xs : List ℕ) (x : Table) (lent : (k : ℕ) → Lent) (o : List ℕ) : Type 0 where
+  pub opens : number-of (open-call r) (run before zeros) ≡ 0
+  pub planned : number-of (finish-call o) (arrays-behind before r round) ≢ 11
+  pub replying : number-of (finish-call o) (arrays-behind before r round) ≢ 12
+  pub enough : number-of (finish-call o) (arrays-behind before r round) ≢ 15
+  pub list : list-good sixteen (plan-of (plan-in (arrays-behind before r round))) xs ≡ true
+  pub room : let p = plan-in (arrays-behind before r round) in (k : ℕ) → 1 ≤ k → k ≤ p .users → Room p k (lent k)
+  pub sent : let a = arrays-behind before r round in
+      Sent-in round (opened-by before r) (λ k. calls (plan-in a) (is-signed k) xs (x k) (state a .head .survivors) k (lent k))
+
+-- it answers 0 and leaves in the lent buffer the sums of the survivors' figures modulo 65521, place by place, and 0 behind them
+unfoldable pub Round-residues : Type 0
+Round-residues =
+    (before round : List Call) (r : ℕ) (is-signed : (k : ℕ) → ℕ) (xs : List ℕ) (x : Table) (lent : (k : ℕ) → Lent) (o : List ℕ) →
+    let a = arrays-behind before r round in
+    let p = plan-of (plan-in a) in
+    let v = state a .head .survivors in
+    Pooled before round r is-signed xs x lent o → admissible sixteen p (in-set v) (λ k. use-of (code-use (is-signed k))) x →
+    (number-of (finish-call o) a ≡ 0) × (finish-totals a o ≡ filled most-places (places p) (total-at sixteen p x v))
+
+-- the whole-number sums, each at most 65520
 unfoldable pub Round-right : Type 0
 Round-right =
     (before round : List Call) (r : ℕ) (xs : List ℕ) (x : Table) (lent : (k : ℕ) → Lent) (o : List ℕ) →
-    number-of (open-call r) (run before zeros) ≡ 0 →
-    let opened = leaves (open-call r) (run before zeros) in
-    let a = run round opened in
-    let p = plan-in a in
+    let a = arrays-behind before r round in
+    let p = plan-of (plan-in a) in
     let v = state a .head .survivors in
-    let n = number-of (finish-call o) a in
-    n ≢ 11 → n ≢ 12 → n ≢ 15 → list-good sixteen (plan-of p) xs ≡ true → admissible sixteen (plan-of p) x →
-    ((k : ℕ) → 1 ≤ k → k ≤ p .users → Room p k (lent k)) → Sent-in round opened (λ k. calls p xs (x k) v k (lent k)) →
-    (n ≡ 0) × (finish-totals a o ≡ filled most-places (places (plan-of p)) (whole-total (plan-of p) x v)) × Totals-fit sixteen (plan-of p) x v
+    Pooled before round r (λ k. 0) xs x lent o → admissible sixteen p (in-set v) (λ k. counts) x →
+    (number-of (finish-call o) a ≡ 0) × (finish-totals a o ≡ filled most-places (places p) (whole-total p x v)) × Totals-fit sixteen p x v
+
+-- whatever numbers above 0 stand for signed: the reader gives the whole-number sums of the survivors' signed figures, place by place
+unfoldable pub Signed-total : Type 0
+Signed-total =
+    (before round : List Call) (r : ℕ) (n : (k : ℕ) → ℕ) (m : ℕ) (xs : List ℕ) (z : Changes) (lent : (k : ℕ) → Lent) (o : List ℕ) →
+    let a = arrays-behind before r round in
+    let p = plan-of (plan-in a) in
+    let v = state a .head .survivors in
+    Pooled before round r (λ k. suc (n k)) xs (residues sixteen z) lent o → changes-good sixteen p (in-set v) z →
+    (number-of (finish-call o) a ≡ 0)
+    × (map (total-read (suc m)) (take (places p) (finish-totals a o)) ≡ map (λ i. record { number = 0; value = change-total p z v i }) (span (places p) 0))

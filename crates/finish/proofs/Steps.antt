@@ -126,7 +126,7 @@ module _ (A : Arithmetic) (L : Laws A most-users most-threshold) where
       let p = plan-of (s .head .plan) in
       let v = s .head .survivors in
       let t = finish-residues s xs x w e ok rules in
-      (t .0, t .1 ∙ ap (padded most-places) (totals-whole A p x ax v adds), total-fits A p x ax v)
+      (t .0, t .1 ∙ ap (padded most-places) (totals-whole A p x v ax adds), total-fits A p x v ax)
 
   pub refused-unchanged : Refused-unchanged A L
   unfolding Refused-unchanged finish-step finish-answer

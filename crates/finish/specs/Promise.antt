@@ -1,6 +1,6 @@
 -- That finish is the step of document 01's service, and that a refused one leaves the state as it was, over an arithmetic with its laws.
 --   Finish-steps      on a well-formed state: the step that names what explains the replies, never the solver
---   Finish-right      complete replies that follow the rules give the survivors' whole-number total
+--   Finish-right      where the survivors report counts, complete replies that follow the rules give their whole-number total
 --   Finish-residues   behind it: of any table, the total in the arithmetic
 --   Refused-unchanged "a refusal hands back its number alone": no totals, and the state as it was, whatever it was
 -- Assumes nothing: these are definitions.
@@ -12,7 +12,7 @@ use Prim.Native.Nat.{ℕ}
 use lib.ListN.{take}
 use Rattle.scheme.specs.Limits.{most-users, most-threshold, most-places}
 use Rattle.scheme.specs.Lists.{filled}
-use Rattle.scheme.specs.Scheme.{Arithmetic, places, total-at, whole-total}
+use Rattle.scheme.specs.Scheme.{Arithmetic, places, counts, in-set, total-at, whole-total}
 use Rattle.scheme.specs.Laws.{Laws}
 use Rattle.scheme.specs.Promise.{Table, admissible, list-good}
 use Rattle.scheme.specs.Totals.{Follows, Totals-fit}
@@ -36,7 +36,8 @@ module _ (A : Arithmetic) (L : Laws A most-users most-threshold) where
       (s : Service) (xs : List ℕ) (x : Table) →
       let p = plan-of (s .head .plan) in
       let t = finish-step A L s in
-      Formed A s → refusal A finish-record (view s) ≡ 0 → list-good A p xs ≡ true → admissible A p x →
+      Formed A s → refusal A finish-record (view s) ≡ 0 → list-good A p xs ≡ true →
+      admissible A p (in-set (s .head .survivors)) (λ k. counts) x →
       Follows A p xs x (s .head .survivors) (replied (view s)) (values (view s .firsts)) (values (view s .replies)) →
       (t .number ≡ 0) × (t .totals ≡ filled most-places (places p) (whole-total p x (s .head .survivors))) × Totals-fit A p x (s .head .survivors)
 

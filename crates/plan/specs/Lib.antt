@@ -1,5 +1,5 @@
--- Plan: the plan of the code as the plan of the definitions. Limits: the limits of the code. Counts: how many sets are usable, by a
--- table. Lengths: how long the lists are that a caller lends, and how large a figure may be.
+-- Plan: the plan and the use of the code as those of the definitions. Limits: the limits of the code. Counts: how many sets are usable, by a
+-- table. Lengths: how long the lists are that a caller lends, and how far from zero a figure may lie.
 pub mod Plan
 pub mod Limits
 pub mod Counts

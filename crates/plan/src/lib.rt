@@ -6,7 +6,9 @@
 //   holds, is_usable, has_enough, is_usable_with      sets of users
 //   row_length, list_length, key_length               how long lent lists are: 0 for what tests 1 and 4 refuse
 //   places_of, list_of, key_of                        the same of what those tests have let pass
-//   figure_bound, bound_of                            the largest figure: 0 for what test 1 refuses; of what it has let pass
+//   Use, use_of_number                                whether figures are counts or signed; where a use is kept as a number
+//   reach_of                                          how far from zero a total can be told
+//   figure_bound, bound_of                            how far from zero a figure may lie: 0 for what test 1 refuses; of what it has let pass
 //   count_sets, reply_start                           how many sets; where a reply lies in the key
 // Document 01's airfield is a user here. What has a `requires` is for plans that passed test 1.
 ghost use mathlib.Core.Path.{_≡_};
@@ -14,9 +16,9 @@ ghost use Prim.Native.Nat.{_+_, _*_, _^_, _≤_, _<_};
 ghost use lib.ListN.{length};
 ghost use Rattle.scheme.specs.Limits.{most-users, most-places, most-sets, most-list, most-key};
 ghost use Rattle.scheme.specs.Lists.{rank};
-ghost use Rattle.scheme.specs.Scheme.{sixteen, plan-good, figure-bound, start-refusal, in-set, usable, usable-with, usable-sets, sets-with, places, list-length, key-length, reply-start};
+ghost use Rattle.scheme.specs.Scheme.{q, sixteen, plan-good, reach, figure-bound, start-refusal, in-set, usable, usable-with, usable-sets, sets-with, places, list-length, key-length, reply-start};
 ghost use Rattle.scheme.specs.Good.{Good};
-ghost use Rattle.plan.specs.Plan.{plan-of};
+ghost use Rattle.plan.specs.Plan.{plan-of, use-of, code-use};
 ghost use Rattle.plan.specs.Limits.{document-limits};
 ghost use Rattle.plan.specs.Counts.{fewest, counts, sets-of, sets-rule};
 ghost use Rattle.plan.specs.Lengths.{row-len, list-len, key-len, largest-figure};
@@ -95,6 +97,22 @@ pub struct Plan {
     pub threshold: u32,
     pub collusion: u32,
     pub blocks: u32,
+}
+
+// What an airfield reports.
+pub enum Use {
+    Counts,
+    Signed,
+}
+
+// 0 is counts, anything else is signed.
+pub fn use_of_number(number: u32) -> Use
+    ensures { λ r. ⌜ r ≡ code-use number ⌝ }
+{
+    if number == 0 {
+        return Use::Counts;
+    }
+    Use::Signed
 }
 
 // Test 1.
@@ -321,12 +339,22 @@ pub fn key_of(p: Plan, user: u32) -> usize
     places_of(p) + count_holding(p, user) * p.blocks as usize
 }
 
-// "A figure is at most 65520 / K, rounded down."
-pub fn bound_of(p: Plan) -> u16
-    requires { ⌜ Good (plan-of p) ⌝ }
-    ensures { λ r. ⌜ r ≡ figure-bound sixteen (plan-of p) ⌝ }
+// How far from zero a total of such figures can be told: elements stand for as many signed numbers below zero as above it.
+pub fn reach_of(usage: Use) -> u32
+    ensures { λ r. ⌜ (r ≡ reach sixteen (use-of usage)) × (r < q) ⌝ }
 {
-    ((element::Q - 1) / p.users) as u16
+    match usage {
+        Use::Counts => element::Q - 1,
+        Use::Signed => (element::Q - 1) / 2,
+    }
+}
+
+// "A figure is at most 65520 / K, rounded down"; "a signed figure lies within 32760 / K of zero, rounded down".
+pub fn bound_of(p: Plan, usage: Use) -> u16
+    requires { ⌜ Good (plan-of p) ⌝ }
+    ensures { λ r. ⌜ (r ≡ figure-bound sixteen (use-of usage) (plan-of p)) × (r < q) ⌝ }
+{
+    (reach_of(usage) / p.users) as u16
 }
 
 // How long a row of figures is, and a first message.
@@ -357,14 +385,14 @@ pub fn key_length(p: Plan, user: u32) -> usize
     key_of(p, user)
 }
 
-// How large a figure may be.
-pub fn figure_bound(p: Plan) -> u32
-    ensures { λ r. ⌜ r ≡ largest-figure sixteen (plan-of p) ⌝ }
+// How far from zero a figure may lie.
+pub fn figure_bound(p: Plan, usage: Use) -> u32
+    ensures { λ r. ⌜ r ≡ largest-figure sixteen (use-of usage) (plan-of p) ⌝ }
 {
     if !is_good(p) {
         return 0;
     }
-    bound_of(p) as u32
+    bound_of(p, usage) as u32
 }
 
 // Where the M shares for a set start in a user's key: behind its L masks and the shares for the smaller sets.

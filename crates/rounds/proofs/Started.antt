@@ -8,6 +8,8 @@ use mathlib.Core.Bool.{true}
 use mathlib.Core.List.{List}
 use Prim.Native.Nat.{ℕ}
 use lib.ListN.{getD}
+use Rattle.plan.specs.declared.Use.{Use}
+use Rattle.plan.specs.Plan.{code-use}
 use Rattle.client.specs.declared.Client.{Client}
 use Rattle.client.specs.declared.Start.{Start}
 use Rattle.client.specs.declared.Start.the-variants.{Refused, Started}
@@ -19,17 +21,21 @@ use Rattle.rounds.specs.Judged.{judged, end-of, begun-as, started}
 abbrev pub with-end : Case → Client → Case
 with-end c d = record { plan = c .plan; list = c .list; key = c .key; end = d; service = c .service }
 
--- w is the wanted number, u the user, s what the start answers, v the verdict
-module _ (c : Case) (l : List ℕ) {w u : ℕ} {v : Verdict} {s : Start}
-    (wanted : w ≡ getD l 1 0) (user : u ≡ getD l 0 0) (answer : begun-by s ≡ begun (c .plan) u) where
-  pub started-refused : (n : ℕ) → s ≡ Refused n → v ≡ judged n w true true → record { case = c; verdict = v } ≡ started c l
-  unfolding begun-by end-of
-  started-refused n e h =
-      ap (λ (x : Verdict). record { case = c; verdict = x }) (h ∙ ap (λ (x : ℕ). judged n x true true) wanted)
-      ∙ ap (λ (b : Begun). begun-as c b (getD l 1 0)) (ap begun-by (sym e) ∙ answer ∙ ap (begun (c .plan)) user)
+-- u is the user, a its use
+module _ (c : Case) (l : List ℕ) {u : ℕ} {a : Use} (user : u ≡ getD l 0 0) (usage : a ≡ code-use (getD l 1 0)) where
+  of-line : begun (c .plan) u a ≡ begun (c .plan) (getD l 0 0) (code-use (getD l 1 0))
+  of-line = ap (λ (k : ℕ). begun (c .plan) k a) user ∙ ap (begun (c .plan) (getD l 0 0)) usage
 
-  pub started-fresh : (d : Client) → s ≡ Started d → v ≡ judged 0 w true true → record { case = with-end c d; verdict = v } ≡ started c l
-  unfolding begun-by end-of
-  started-fresh d e h =
-      ap (λ (x : Verdict). record { case = with-end c d; verdict = x }) (h ∙ ap (λ (x : ℕ). judged 0 x true true) wanted)
-      ∙ ap (λ (b : Begun). begun-as c b (getD l 1 0)) (ap begun-by (sym e) ∙ answer ∙ ap (begun (c .plan)) user)
+  -- w is the wanted number, s what the start answers, v the verdict
+  module _ {w : ℕ} {v : Verdict} {s : Start} (wanted : w ≡ getD l 2 0) (answer : begun-by s ≡ begun (c .plan) u a) where
+    pub started-refused : (n : ℕ) → s ≡ Refused n → v ≡ judged n w true true → record { case = c; verdict = v } ≡ started c l
+    unfolding begun-by end-of
+    started-refused n e h =
+        ap (λ (x : Verdict). record { case = c; verdict = x }) (h ∙ ap (λ (x : ℕ). judged n x true true) wanted)
+        ∙ ap (λ (b : Begun). begun-as c b (getD l 2 0)) (ap begun-by (sym e) ∙ answer ∙ of-line)
+
+    pub started-fresh : (d : Client) → s ≡ Started d → v ≡ judged 0 w true true → record { case = with-end c d; verdict = v } ≡ started c l
+    unfolding begun-by end-of
+    started-fresh d e h =
+        ap (λ (x : Verdict). record { case = with-end c d; verdict = x }) (h ∙ ap (λ (x : ℕ). judged 0 x true true) wanted)
+        ∙ ap (λ (b : Begun). begun-as c b (getD l 2 0)) (ap begun-by (sym e) ∙ answer ∙ of-line)

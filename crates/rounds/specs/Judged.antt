@@ -5,15 +5,27 @@
 --   lent-right            a list that is lent must fit
 --   served, opened, closed   what the lines o and c leave and show
 --   end-of, begun-as, started     what the line s leaves and shows: the fresh end, or after a refusal the old one
+--   value-of, same-value          the value that two numbers of a line stand for; whether two values are the same
+--   judged-value                  the first that differs of a reading: number, value
+--   read-shown, total-shown       what the line v shows: the case stays
+--   given-shown, residue-shown    what the line x shows: the case stays
 -- Assumes nothing: these are definitions.
 use mathlib.Core.Bool.{Bool, true, false, cond}
 use mathlib.Core.List.{List}
 use mathlib.Core.Option.{Option, none, some}
-use Prim.Native.Nat.{ℕ}
+use Prim.Native.Nat.{ℕ, zero, suc}
 use lib.Dec.{eqb}
+use lib.IntN.{ℤ, pos, negsuc, negℤ}
 use lib.ListN.{getD}
+use Rattle.scheme.specs.Scheme.{sixteen}
+use Rattle.plan.specs.Plan.{plan-of, use-of, code-use}
 use Rattle.client.specs.declared.Client.{Client}
 use Rattle.client.specs.Client.{Begun, begun}
+use Rattle.reading.specs.declared.Reading.{Reading}
+use Rattle.reading.specs.declared.Reading.the-variants as read
+use Rattle.reading.specs.declared.Residue.{Residue}
+use Rattle.reading.specs.declared.Residue.the-variants as given
+use Rattle.reading.specs.Reading.{reading, residue-answer}
 use Rattle.service.specs.declared.Service.{Service}
 use Rattle.service.specs.Calls.{open-step, close-step}
 use Rattle.rounds.specs.declared.calls.Verdict.{Verdict}
@@ -34,6 +46,7 @@ agreed verdict.Damaged = false
 agreed verdict.Number = false
 agreed verdict.Stage = false
 agreed verdict.Set = false
+agreed verdict.Value = false
 agreed verdict.Elements = false
 
 unfoldable pub lent-right : (fits : Bool) → Verdict
@@ -63,4 +76,34 @@ begun-as c b wanted =
     }
 
 abbrev pub started : Case → (line : List ℕ) → Checked
-started c l = begun-as c (begun (c .plan) (getD l 0 0)) (getD l 1 0)
+started c l = begun-as c (begun (c .plan) (getD l 0 0) (code-use (getD l 1 0))) (getD l 2 0)
+
+-- 0 and n stand for n, anything else and n for −n
+unfoldable pub value-of : (below size : ℕ) → ℤ
+value-of zero n = pos n
+value-of (suc b) n = negℤ (pos n)
+
+unfoldable pub same-value : ℤ → ℤ → Bool
+same-value (pos a) (pos b) = eqb a b
+same-value (pos a) (negsuc b) = false
+same-value (negsuc a) (pos b) = false
+same-value (negsuc a) (negsuc b) = eqb a b
+
+unfoldable pub judged-value : (got wanted : ℕ) (value expected : ℤ) → Verdict
+judged-value got wanted value expected = cond (eqb got wanted) (cond (same-value value expected) verdict.Agrees verdict.Value) verdict.Number
+
+unfoldable pub read-shown : Reading → (wanted : ℕ) (expected : ℤ) → Verdict
+read-shown (read.Refused n) wanted expected = judged-value n wanted (pos 0) expected
+read-shown (read.Value z) wanted expected = judged-value 0 wanted z expected
+
+abbrev pub total-shown : Case → (line : List ℕ) → Checked
+total-shown c l =
+    record { case = c; verdict = read-shown (reading sixteen (use-of (code-use (getD l 0 0))) (getD l 1 0)) (getD l 2 0) (value-of (getD l 3 0) (getD l 4 0)) }
+
+unfoldable pub given-shown : Residue → (wanted expected : ℕ) → Verdict
+given-shown (given.Refused n) wanted expected = judged n wanted true (eqb expected 0)
+given-shown (given.Element x) wanted expected = judged 0 wanted true (eqb x expected)
+
+abbrev pub residue-shown : Case → (line : List ℕ) → Checked
+residue-shown c l =
+    record { case = c; verdict = given-shown (residue-answer sixteen (plan-of (c .plan)) (value-of (getD l 0 0) (getD l 1 0))) (getD l 2 0) (getD l 3 0) }

@@ -1,25 +1,28 @@
 // A line of the input is a call with what it must answer; its letter names the call, its numbers follow. The second implementation
 // writes such lines (reference/src/material/vectors.rs sets them out).
 //   maker, ends, pooling       the lines of the key office, of an airfield end, and of the service
-//   input, reading             the input, line by line; one line
+//   meaning                    the lines of the reader of totals, and of the way in for a signed figure
+//   input, line                the input, line by line; one line
 //   Verdict, Case, Checked     whether a call answered as the line says, or what differs; what the lines of a case have made so far; both
 //   judge, agree, new_case     what differs first; a case of a plan
 //   fits, check                how many numbers a line has; the call of one line
-// Every answer is compared whole: number, stage, set, and the lent buffer to its end.
+// Every answer is compared whole: number, stage, set, value, and the lent buffer to its end.
 ghost use mathlib.Core.Path.{_≡_};
 ghost use mathlib.Core.Bool.{true};
 ghost use Rattle.rounds.specs.Judged.{judged};
 
 pub mod ends;
 pub mod input;
+pub mod line;
 pub mod maker;
+pub mod meaning;
 pub mod pooling;
-pub mod reading;
 
 use crate::lists::SPACE;
 use client::Client;
 use client::Stage;
 use plan::Plan;
+use plan::Use;
 use service::Service;
 
 // Stands for the answer where a line asks for a larger buffer than there is; no call answers it.
@@ -31,6 +34,7 @@ pub enum Verdict {
     Number,
     Stage,
     Set,
+    Value,
     Elements,
 }
 
@@ -75,6 +79,7 @@ fn new_case(plan: Plan, service: Service) -> Case {
     let end = Client {
         plan,
         user: 0,
+        usage: Use::Counts,
         stage: Stage::Fresh,
     };
     Case {
@@ -89,8 +94,10 @@ fn new_case(plan: Plan, service: Service) -> Case {
 // Whether a line with this letter has so many numbers.
 fn fits(letter: u8, count: usize) -> bool {
     match letter {
-        b'p' => count == 5,
-        b's' | b'o' | b'c' => count == 2,
+        b'p' | b'v' => count == 5,
+        b'x' => count == 4,
+        b's' => count == 3,
+        b'o' | b'c' => count == 2,
         b'd' | b'k' | b'r' | b'e' | b'a' => 3 <= count,
         b'f' => 4 <= count,
         b't' => 1 <= count,
@@ -113,6 +120,8 @@ fn check(case: Case, letter: u8, line: &[u16], lent: &mut [u16; SPACE]) -> Check
         b's' => ends::check_start(case, line),
         b'f' => ends::check_first(case, line, lent),
         b'r' => ends::check_reply(case, line, lent),
+        b'v' => meaning::check_total(case, line),
+        b'x' => meaning::check_residue(case, line),
         _ => pooling::check_service(case, letter, line),
     }
 }

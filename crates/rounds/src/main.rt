@@ -1,8 +1,8 @@
 // Runs the examples of document 01 that no theorem covers, and the cases of the second implementation that come on standard input, by
 // the public functions, and checks every result. It says what agrees, or the first line of the input that does not.
 //   lengths_right   plan 8 2 1 16: its lengths; a round of it is among the cases
-//   bounds_right    the largest figures of eight airfields and of three
-//   limits_right    plans at each limit have lengths and a largest figure, and those past it none; 96 places are the most
+//   bounds_right    the largest figures of eight airfields and of three, counts and signed ones
+//   limits_right    plans at each limit have lengths and largest figures, and those past it none; 96 places are the most
 //   elements_right  a random list may hold q - 1, and not q
 //   stream_lines    the example stream, cut in two at every byte: the printed lines; and the line of refusal 7
 //   main            the examples, then the input (calls/input.rt)
@@ -16,6 +16,7 @@ use libc::STDOUT_FILENO;
 use lists::front;
 use lists::marked;
 use plan::Plan;
+use plan::Use;
 use service::Service;
 use stream::Fed;
 use stream::Stop;
@@ -71,15 +72,24 @@ fn least() -> Plan {
     )
 }
 
-// Document 02, item 2: "a figure is at most 65520 / K, rounded down: 8190 for eight airfields, 21840 for three".
-fn bounds_right() -> bool {
-    if plan::figure_bound(plan_of(8, 2, 1, 1)) != 8190 {
+// Whether the largest figures of a plan, counts and signed ones, are these.
+fn bounds_are(plan: Plan, counts: u32, signed: u32) -> bool {
+    if plan::figure_bound(plan, Use::Counts) != counts {
         return false;
     }
-    plan::figure_bound(plan_of(3, 2, 1, 1)) == 21840
+    plan::figure_bound(plan, Use::Signed) == signed
 }
 
-// Whether the plan at a limit has lengths and a largest figure, and the one past it has none.
+// Document 02: "a figure is at most 65520 / K, rounded down: 8190 for eight airfields, 21840 for three" (item 2), and "a signed figure
+// lies within 32760 / K of zero, rounded down, −4095 to 4095 for eight" (item 3).
+fn bounds_right() -> bool {
+    if !bounds_are(plan_of(8, 2, 1, 1), 8190, 4095) {
+        return false;
+    }
+    bounds_are(plan_of(3, 2, 1, 1), 21840, 10920)
+}
+
+// Whether the plan at a limit has lengths and largest figures, and the one past it has none.
 fn limit_between(at: Plan, past: Plan) -> bool {
     if plan::row_length(at) == 0 {
         return false;
@@ -90,7 +100,10 @@ fn limit_between(at: Plan, past: Plan) -> bool {
     if plan::key_length(at, 1) == 0 {
         return false;
     }
-    if plan::figure_bound(at) == 0 {
+    if plan::figure_bound(at, Use::Counts) == 0 {
+        return false;
+    }
+    if plan::figure_bound(at, Use::Signed) == 0 {
         return false;
     }
     if plan::row_length(past) != 0 {
@@ -102,7 +115,7 @@ fn limit_between(at: Plan, past: Plan) -> bool {
     if plan::key_length(past, 1) != 0 {
         return false;
     }
-    plan::figure_bound(past) == 0
+    bounds_are(past, 0, 0)
 }
 
 fn least_right() -> bool {
@@ -267,7 +280,8 @@ fn main() {
         say(b"largest figures: one differs\n");
         return;
     }
-    say(b"largest figures: 8190 of eight airfields, 21840 of three\n");
+    say(b"largest counts: 8190 of eight airfields, 21840 of three\n");
+    say(b"largest signed figures: 4095 of eight airfields, 10920 of three\n");
     if !limits_right() {
         say(b"limits: a length or a largest figure differs\n");
         return;

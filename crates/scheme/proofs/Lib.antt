@@ -15,6 +15,7 @@ pub mod Sets
 pub mod PlanBounds
 pub mod Keys
 pub mod Elements
+pub mod Signed
 pub mod Whole
 pub mod Weighed
 pub mod Laws

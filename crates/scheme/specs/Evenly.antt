@@ -4,15 +4,15 @@
 --   Evenly-drawn             what the call leaves is a random list; it leaves each; and any two of as many byte strings of a length
 --   Byte-matching            one matching of all byte strings that are taken, under which partners show the same
 --   Nothing-told-of-bytes    demand 3 from bytes for one plan and the tables of a kind
---   Demand-3-of-bytes        for every plan and admissible figures, modulo 65521
+--   Demand-3-of-bytes        for every plan, uses in any mix, and admissible figures, modulo 65521
 -- `evenly-drawn` and `demand-3-of-bytes` of proofs/Drawing/ prove them. Assumes nothing: these are definitions.
 use mathlib.Core.Path.{_≡_}
 use mathlib.Core.Bool.{true}
 use mathlib.Core.List.{List}
 use Prim.Native.Nat.{ℕ, _*_, _^_, _≤_, _<_}
 use lib.ListN.{length}
-use Rattle.scheme.specs.Scheme.{Arithmetic, sixteen, Plan, plan-good, ones, usable, list-length}
-use Rattle.scheme.specs.Promise.{Table, admissible, list-good, shown, Alike}
+use Rattle.scheme.specs.Scheme.{Arithmetic, sixteen, Plan, plan-good, Use, ones, usable, list-length}
+use Rattle.scheme.specs.Promise.{Table, everyone, admissible, list-good, shown, Alike}
 use Rattle.scheme.specs.Drawn.{bytes-good, bytes-of, list-refusal, list-left}
 
 pub record Matched (P Q : List ℕ → Type 0) : Type 0 where
@@ -53,4 +53,4 @@ Nothing-told-of-bytes A p kind =
 
 -- THE THIRD DEMAND FROM RAW BYTES
 unfoldable pub Demand-3-of-bytes : Type 0
-Demand-3-of-bytes = (p : Plan) → plan-good p ≡ true → Nothing-told-of-bytes sixteen p (admissible sixteen p)
+Demand-3-of-bytes = (p : Plan) (uses : ℕ → Use) → plan-good p ≡ true → Nothing-told-of-bytes sixteen p (admissible sixteen p everyone uses)

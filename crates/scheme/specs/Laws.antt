@@ -1,12 +1,14 @@
 -- What ties an arithmetic to a field.
 --   Laws         it is a field's, on numbers, and its coefficients are a Cauchy matrix of the rows 1 to n and the columns 1 to m
---   Adds-whole   and what counts need besides: a sum that is an element is the whole-number sum
+--   Adds-whole   and what whole-number totals need besides: residues add as whole numbers do
 -- Assumes nothing: these are definitions.
 use mathlib.Core.Path.{_≡_}
 use mathlib.Core.Logic.{_≢_}
-use Prim.Native.Nat.{ℕ, _+_, _-_, _≤_, _<_}
+use Prim.Native.Nat.{ℕ, _≤_, _<_}
+use lib.IntN.{ℤ, _+ℤ_}
 use Rattle.algebra.specs.Field.{Field, sub}
 use Rattle.scheme.specs.Scheme.{Arithmetic}
+use Rattle.scheme.specs.Signed.{residue}
 
 pub record Laws (A : Arithmetic) (n m : ℕ) : Type 1 where
   pub K : Field
@@ -29,4 +31,4 @@ pub record Laws (A : Arithmetic) (n m : ℕ) : Type 1 where
   pub meet : (k j : ℕ) → (1 ≤ k) × (k ≤ n) → (1 ≤ j) × (j ≤ m) → K .add (row k) (col j) ≢ K .𝟘
 
 unfoldable pub Adds-whole : Arithmetic → Type 0
-Adds-whole A = (a b : ℕ) → a + b ≤ A .size - 1 → A .add a b ≡ a + b
+Adds-whole A = (a b : ℤ) → A .add (residue A a) (residue A b) ≡ residue A (a +ℤ b)

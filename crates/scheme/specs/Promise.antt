@@ -1,14 +1,13 @@
 -- Demand 3 as a type: the bytes that the server and at most T colluders see say nothing of the figures beyond the total.
 -- `demand-3` of proofs/Privacy/Demand.antt proves it.
---   Table, rows-good               a row of figures for each user; tables whose rows pass a test
---   element-rows, admissible       tables of elements; of figures within the plan's bound
+--   Table, rows-good, everyone     a row of figures for each user; tables in which the rows of some users, or of all, pass a test
+--   element-rows, admissible       rows of elements; of figures within the plan's bound for the user's own use
 --   list-good                      random lists
 --   Shown, shown                   what a random list and a table show
---   Alike, Alike-whole             tables that agree for each colluder and have the same survivors' total; those with the same
---                                  whole-number total are among them
+--   Alike                          tables that agree for each colluder and have the same survivors' total
 --   Matching                       one matching of all random lists, under which partners show the same
 --   Nothing-told                   demand 3 for one plan and the tables of a kind
---   Demand-3                       for every plan and admissible figures, modulo 65521
+--   Demand-3                       for every plan, uses in any mix, and admissible figures, modulo 65521
 --   Key-add                        behind it: the key of a sum of two lists is the sum of their keys
 -- Assumes nothing: these are definitions.
 use mathlib.Core.Path.{_≡_}
@@ -18,21 +17,24 @@ use Prim.Native.Nat.{ℕ, _^_, _≤_, _<_}
 use lib.Dec.{eqb}
 use lib.ListN.{length}
 use Rattle.scheme.specs.Lists.{span, each}
-use Rattle.scheme.specs.Scheme.{Arithmetic, sixteen, elements, within, Plan, plan-good, places, figure-bound, in-set, ones, usable, users-in, list-length, key, key-length, first-message, reply, total-at, whole-total}
+use Rattle.scheme.specs.Scheme.{Arithmetic, sixteen, elements, Plan, plan-good, places, Use, figures-good, in-set, ones, usable, users-in, list-length, key, key-length, first-message, reply, total-at}
 
 -- a row of figures for each user
 abbrev pub Table : Type 0
 Table = (k : ℕ) → List ℕ
 
--- L figures a row, all of which pass the test
-unfoldable pub rows-good : (test : List ℕ → Bool) → Plan → Table → Type 0
-rows-good t p x = (k : ℕ) → 1 ≤ k → k ≤ p .users → (length (x k) ≡ places p) × (t (x k) ≡ true)
+-- L figures a row, which passes its user's test
+unfoldable pub rows-good : (who : ℕ → Bool) → (test : (k : ℕ) → List ℕ → Bool) → Plan → Table → Type 0
+rows-good w t p x = (k : ℕ) → 1 ≤ k → k ≤ p .users → w k ≡ true → (length (x k) ≡ places p) × (t k (x k) ≡ true)
+
+abbrev pub everyone : ℕ → Bool
+everyone k = true
 
 abbrev pub element-rows : Arithmetic → Plan → Table → Type 0
-element-rows A p x = rows-good (elements A) p x
+element-rows A p x = rows-good everyone (λ k. elements A) p x
 
-abbrev pub admissible : Arithmetic → Plan → Table → Type 0
-admissible A p x = rows-good (within (figure-bound A p)) p x
+abbrev pub admissible : Arithmetic → Plan → (who : ℕ → Bool) → (uses : ℕ → Use) → Table → Type 0
+admissible A p w u x = rows-good w (λ k. figures-good A (u k) p) p x
 
 unfoldable pub list-good : Arithmetic → Plan → (list : List ℕ) → Bool
 list-good A p xs = eqb (length xs) (list-length p) && elements A xs
@@ -56,11 +58,6 @@ pub record Alike (A : Arithmetic) (p : Plan) (v c : ℕ) (x y : Table) : Type 0 
   pub own : (k : ℕ) → 1 ≤ k → k ≤ p .users → in-set c k ≡ true → x k ≡ y k
   pub totals : (i : ℕ) → i < places p → total-at A p x v i ≡ total-at A p y v i
 
-unfoldable pub Alike-whole : Arithmetic → Plan → Type 0
-Alike-whole A p =
-    (v c : ℕ) (x y : Table) → admissible A p x → admissible A p y → ((k : ℕ) → 1 ≤ k → k ≤ p .users → in-set c k ≡ true → x k ≡ y k) →
-    ((i : ℕ) → i < places p → whole-total p x v i ≡ whole-total p y v i) → Alike A p v c x y
-
 -- each list has exactly one partner, and with the first table it shows what its partner shows with the second
 pub record Matching (A : Arithmetic) (p : Plan) (v c : ℕ) (x y : Table) : Type 0 where
   pub partner : List ℕ → List ℕ
@@ -76,7 +73,7 @@ Nothing-told A p kind =
 
 -- THE THIRD DEMAND
 unfoldable pub Demand-3 : Type 0
-Demand-3 = (p : Plan) → plan-good p ≡ true → Nothing-told sixteen p (admissible sixteen p)
+Demand-3 = (p : Plan) (uses : ℕ → Use) → plan-good p ≡ true → Nothing-told sixteen p (admissible sixteen p everyone uses)
 
 -- place by place, whatever numbers the lists hold
 unfoldable pub Key-add : Arithmetic → Plan → Type 0

@@ -1,8 +1,10 @@
 -- The scheme of document 01 (section 4.3 of Zhao and Sun), over an arithmetic as a parameter.
 --   Arithmetic, modular, sixteen       elements; modulo q; modulo 65521
---   elements, within, sum, whole-sum   tests of a list; sums in an arithmetic, and of whole numbers
+--   elements, within, is-near, near    tests of a list
+--   sum, whole-sum                     sums in an arithmetic, and of whole numbers
 --   Plan, plan-good, items, places     K, U, T, M; U - T and L
---   figure-bound                       the largest figure: those of K airfields add up to an element
+--   Use                                figures are counts or signed
+--   reach, figure-bound, figures-good  how far from zero a total can be told, and a figure may lie; a row of such figures
 --   in-set, ones, usable               a set of airfields as a number; its size
 --   list-length, mask, noise           the random list and what stands where
 --   column, row-value, share, key      shares and keys
@@ -10,7 +12,7 @@
 --   total-at, whole-total              totals, in an arithmetic and as whole numbers
 --   Stage, start-refusal, key-refusal, message-refusal, reply-refusal, after, key-left    what the calls answer and leave
 -- Document 01's airfield is a user here, and its S of an airfield is that user's mask. Assumes nothing: these are definitions.
-use mathlib.Core.Bool.{Bool, true, false, _&&_, not, cond}
+use mathlib.Core.Bool.{Bool, true, false, _&&_, _||_, not, cond}
 use mathlib.Core.List.{List, [], _∷_, _++_, map}
 use Prim.Native.Nat.{ℕ, zero, suc, _+_, _*_, _-_, _/_, _%_, _^_}
 use lib.Dec.{ltb, leb, eqb}
@@ -54,6 +56,13 @@ elements A xs = all-of (λ x. ltb x (A .size)) xs
 unfoldable pub within : (most : ℕ) → List ℕ → Bool
 within n xs = all-of (λ x. leb x n) xs
 
+-- an element no further than the most from zero, up or down
+unfoldable pub is-near : Arithmetic → (most x : ℕ) → Bool
+is-near A n x = leb x n || (leb (A .size - n) x && ltb x (A .size))
+
+unfoldable pub near : Arithmetic → (most : ℕ) → List ℕ → Bool
+near A n xs = all-of (is-near A n) xs
+
 unfoldable pub sum : Arithmetic → (indices : List ℕ) → (ℕ → ℕ) → ℕ
 sum A [] f = 0
 sum A (k ∷ l) f = A .add (f k) (sum A l f)
@@ -82,9 +91,23 @@ items p = p .threshold - p .collusion
 unfoldable pub places : Plan → ℕ
 places p = p .blocks * items p
 
--- "a figure is at most 65520 / K, rounded down"
-unfoldable pub figure-bound : Arithmetic → Plan → ℕ
-figure-bound A p = (A .size - 1) / p .users
+-- what an airfield reports
+pub data Use : Type 0 where
+  counts : Use
+  signed : Use
+
+-- elements stand for as many numbers below zero as above it, where figures are signed
+unfoldable pub reach : Arithmetic → Use → ℕ
+reach A counts = A .size - 1
+reach A signed = (A .size - 1) / 2
+
+-- "a figure is at most 65520 / K, rounded down"; "a signed figure lies within 32760 / K of zero, rounded down"
+unfoldable pub figure-bound : Arithmetic → Use → Plan → ℕ
+figure-bound A u p = reach A u / p .users
+
+unfoldable pub figures-good : Arithmetic → Use → Plan → (figures : List ℕ) → Bool
+figures-good A counts p fs = within (figure-bound A counts p) fs
+figures-good A signed p fs = near A (figure-bound A signed p) fs
 
 unfoldable pub is-user : Plan → (k : ℕ) → Bool
 is-user p k = leb 1 k && leb k (p .users)
@@ -206,11 +229,11 @@ key-refusal A p k xs out =
     start-refusal p k then unless (eqb (length xs) (list-length p) && eqb out (key-length p k)) 2 then unless (elements A xs) 3
 
 -- of the first message: 18, 2, 3, 32, of an end that start has made
-unfoldable pub message-refusal : Arithmetic → Plan → (k : ℕ) → Stage → (key figures : List ℕ) → (out : ℕ) → ℕ
-message-refusal A p k g ks fs out =
+unfoldable pub message-refusal : Arithmetic → Plan → (k : ℕ) → Use → Stage → (key figures : List ℕ) → (out : ℕ) → ℕ
+message-refusal A p k u g ks fs out =
     start-refusal p k then unless (is-fresh g) 18
     then unless (eqb (length ks) (key-length p k) && (eqb (length fs) (places p) && eqb out (places p))) 2
-    then unless (elements A ks && elements A fs) 3 then unless (within (figure-bound A p) fs) 32
+    then unless (elements A ks && elements A fs) 3 then unless (figures-good A u p fs) 32
 
 -- of the reply: 18, 2, 3, 5, 6, 19, of an end that start has made
 unfoldable pub reply-refusal : Arithmetic → Plan → (k : ℕ) → Stage → (key : List ℕ) → (set : ℕ) → ℕ

@@ -1,11 +1,11 @@
 -- The promises of demands 1 and 2, about the abstract service.
 --   One-answer, Answered, Always-answers, Refused-unchanged    each record has one answer, and a refusal changes nothing
 --   As-new                                           a round keeps nothing but the plan of what was before
---   Finish-right, Finish-residues                    replies that follow the rules give the survivors' whole-number total; behind it, of
---                                                    any table, the total in the arithmetic
+--   Finish-right, Finish-residues                    replies that follow the rules give the survivors' whole-number total of counts;
+--                                                    behind it, of any table, the total in the arithmetic
 --   Unexplained, Sixteen-exactly, Never-sixteen      when 16 is given, and when never
 --   Stays-well                                       every run stays well-formed
---   Demand-2                                         all of them modulo 65521
+--   Demand-2                                         all of them modulo 65521, and that totals of signed figures are read as what they are
 -- Assumes nothing: these are definitions.
 use mathlib.Core.Path.{_≡_}
 use mathlib.Core.Logic.{_↔_}
@@ -13,8 +13,9 @@ use mathlib.Core.Bool.{true}
 use mathlib.Core.List.{List, _∷_, map}
 use Prim.Native.Nat.{ℕ}
 use Rattle.scheme.specs.Lists.{span}
-use Rattle.scheme.specs.Scheme.{Arithmetic, sixteen, places, ones, total-at, whole-total}
+use Rattle.scheme.specs.Scheme.{Arithmetic, sixteen, Plan, places, counts, in-set, ones, total-at, whole-total}
 use Rattle.scheme.specs.Promise.{Table, admissible, list-good}
+use Rattle.scheme.specs.Signed.{Signed-read}
 use Rattle.scheme.specs.Totals.{Follows, Totals-fit}
 use Rattle.scheme.specs.Service.{State, new-state, replied, Record, open-record, finish-record, Answer, opened, totalled, refused, refusal, planned-state, values, explained-by, Steps, Runs, Well}
 
@@ -41,12 +42,12 @@ As-new A =
     (r : ℕ) (rs : List Record) (s t : State) (l : List Answer) → Runs A (open-record r ∷ rs) s (opened r ∷ l) t →
     Runs A (open-record r ∷ rs) (planned-state (s .plan)) (opened r ∷ l) t
 
--- complete replies that follow the rules give the survivors' whole-number total, whatever else was sent
+-- where the survivors report counts, complete replies that follow the rules give their whole-number total, whatever else was sent
 unfoldable pub Finish-right : Arithmetic → Type 0
 Finish-right A =
     (s t : State) (a : Answer) (xs : List ℕ) (x : Table) → Well A s → refusal A finish-record s ≡ 0 → list-good A (s .plan) xs ≡ true →
-    admissible A (s .plan) x → Follows A (s .plan) xs x (s .survivors) (replied s) (values (s .firsts)) (values (s .replies)) →
-    Steps A finish-record s a t →
+    admissible A (s .plan) (in-set (s .survivors)) (λ k. counts) x →
+    Follows A (s .plan) xs x (s .survivors) (replied s) (values (s .firsts)) (values (s .replies)) → Steps A finish-record s a t →
     (a ≡ totalled (s .round) (map (whole-total (s .plan) x (s .survivors)) (span (places (s .plan)) 0))) × Totals-fit A (s .plan) x (s .survivors)
 
 unfoldable pub Finish-residues : Arithmetic → Type 0
@@ -82,5 +83,6 @@ pub record Demand-2 : Type 0 where
   pub as-new : As-new sixteen
   pub finish-right : Finish-right sixteen
   pub finish-residues : Finish-residues sixteen
+  pub signed-read : (p : Plan) → Signed-read sixteen p
   pub sixteen-exactly : Sixteen-exactly sixteen
   pub never-sixteen : Never-sixteen sixteen

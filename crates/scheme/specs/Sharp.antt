@@ -2,7 +2,7 @@
 --   Totals-needed      tables with another total over the set have no matching, whoever colludes
 --   Own-needed         nor have tables that differ for a colluder
 --   Collusion-needed   with one colluder more than T, some tables that are alike have no matching
---   Bound-sharp        were all users to report one more than the bound, their total would pass the last element
+--   Bound-sharp        were all users to report one more than the bound of a use, their total would be out of its reach
 --   smallest           the plan with the least K, U, T and M
 --   Threshold-needed   with one reply fewer than U, some replies are explained by unknowns with other sums
 --   Explanation        unknowns that explain replies, with a given sum of the block's first item
@@ -12,11 +12,11 @@ use mathlib.Core.Path.{_≡_}
 use mathlib.Core.Logic.{_≢_}
 use mathlib.Core.Bool.{true}
 use mathlib.Core.List.{List}
-use Prim.Native.Nat.{ℕ, _+_, _-_, _^_, _≤_, _<_}
+use Prim.Native.Nat.{ℕ, _+_, _^_, _≤_, _<_}
 use lib.ListN.{getD}
 use Rattle.scheme.specs.Limits.{least-users, least-collusion, least-blocks}
-use Rattle.scheme.specs.Scheme.{Arithmetic, Plan, places, figure-bound, in-set, ones, usable, total-at, whole-total}
-use Rattle.scheme.specs.Promise.{Table, element-rows, admissible, Alike, Matching}
+use Rattle.scheme.specs.Scheme.{Arithmetic, Plan, places, Use, counts, reach, figure-bound, in-set, ones, usable, total-at, whole-total}
+use Rattle.scheme.specs.Promise.{Table, everyone, element-rows, admissible, Alike, Matching}
 use Rattle.scheme.specs.Totals.{explains}
 
 unfoldable pub Totals-needed : Arithmetic → Plan → Type 0
@@ -37,15 +37,15 @@ pub record Collusion-needed (A : Arithmetic) (p : Plan) : Type 0 where
   pub usable-set : usable p v ≡ true
   pub below : c < 2 ^ p .users
   pub one-more : ones (p .users) c ≡ p .collusion + 1
-  pub x-admissible : admissible A p x
-  pub y-admissible : admissible A p y
+  pub x-admissible : admissible A p everyone (λ k. counts) x
+  pub y-admissible : admissible A p everyone (λ k. counts) y
   pub alike : Alike A p v c x y
   pub no-matching : Matching A p v c x y → ⊥
 
 unfoldable pub Bound-sharp : Arithmetic → Plan → Type 0
 Bound-sharp A p =
-    (x : Table) (v i : ℕ) → 1 ≤ p .users → ones (p .users) v ≡ p .users →
-    ((k : ℕ) → 1 ≤ k → k ≤ p .users → getD (x k) i 0 ≡ figure-bound A p + 1) → A .size - 1 < whole-total p x v i
+    (u : Use) (x : Table) (v i : ℕ) → 1 ≤ p .users → ones (p .users) v ≡ p .users →
+    ((k : ℕ) → 1 ≤ k → k ≤ p .users → getD (x k) i 0 ≡ figure-bound A u p + 1) → reach A u < whole-total p x v i
 
 abbrev pub smallest : Plan
 smallest = record { users = least-users; threshold = least-collusion + 1; collusion = least-collusion; blocks = least-blocks }

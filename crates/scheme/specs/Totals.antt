@@ -6,8 +6,8 @@
 --   Some-choice             U replies leave one
 --   Choice, Rules-explain   replies that follow the rules have one
 --   Totals-fit              the survivors' whole-number totals are elements
---   Totals-right            where the messages follow the rules and the figures are admissible, what explains the replies gives the
---                           survivors' whole-number total
+--   Totals-right            where the messages follow the rules and the survivors' figures are admissible counts, what explains the
+--                           replies gives the survivors' whole-number total
 --   Residues-right          behind it: of any table, the total in the arithmetic
 -- Assumes nothing: these are definitions.
 use mathlib.Core.Path.{_≡_}
@@ -17,7 +17,7 @@ use Prim.Native.Nat.{ℕ, _-_, _/_, _%_, _≤_, _<_}
 use lib.Dec.{eqb}
 use lib.ListN.{length, getD}
 use Rattle.scheme.specs.Lists.{span, all-of}
-use Rattle.scheme.specs.Scheme.{Arithmetic, elements, sum, Plan, items, places, in-set, ones, usable, users-in, row-value, key, first-message, reply, total-at, whole-total}
+use Rattle.scheme.specs.Scheme.{Arithmetic, elements, sum, Plan, items, places, counts, in-set, ones, usable, users-in, row-value, key, first-message, reply, total-at, whole-total}
 use Rattle.scheme.specs.Promise.{Table, admissible, list-good}
 
 -- U unknowns of a block, the sums of the masks and then the noise: elements that give the value of each user of the set
@@ -59,7 +59,7 @@ Totals-fit A p x v = (i : ℕ) → whole-total p x v i ≤ A .size - 1
 unfoldable pub Totals-right : Arithmetic → Plan → Type 0
 Totals-right A p =
     (xs : List ℕ) (x : Table) (v r : ℕ) (firsts replies : (k at : ℕ) → ℕ) (f : (block : ℕ) → List ℕ) → list-good A p xs ≡ true →
-    admissible A p x → usable p v ≡ true → p .threshold ≤ ones (p .users) r → Follows A p xs x v r firsts replies →
+    admissible A p (in-set v) (λ k. counts) x → usable p v ≡ true → p .threshold ≤ ones (p .users) r → Follows A p xs x v r firsts replies →
     explains-all A p r replies f ≡ true → (totals A p v firsts f ≡ map (whole-total p x v) (span (places p) 0)) × Totals-fit A p x v
 
 pub record Choice (A : Arithmetic) (p : Plan) (r : ℕ) (y : (k block : ℕ) → ℕ) : Type 0 where

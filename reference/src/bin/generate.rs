@@ -3,21 +3,22 @@
 //! - `damaged`: a record stream that must be refused in many places, with
 //!   COUNT random records in it
 //! - `calls`: COUNT cases for the key maker and the airfield end,
-//! - `drawn`: COUNT cases for random lists from raw bytes, and
+//! - `drawn`: COUNT cases for random lists from raw bytes,
+//! - `read`: COUNT cases for the reader and for residues, and
 //! - `whole`: COUNT cases of whole rounds, as text for the program `rounds`;
 //!   src/material/vectors.rs sets it out
 
-use reference::material::{calls, damaged, drawn, rounds, whole};
+use reference::material::{calls, damaged, drawn, read, rounds, whole};
 use reference::stream::to_bytes;
 use std::io::{self, BufWriter, Write};
 use std::process::ExitCode;
 
-const USAGE: &str = "usage: generate rounds|damaged|calls|drawn|whole SEED [COUNT]";
+const USAGE: &str = "usage: generate rounds|damaged|calls|drawn|read|whole SEED [COUNT]";
 const DEFAULT_COUNT: u32 = 20;
 
 fn main() -> io::Result<ExitCode> {
     let arguments: Vec<String> = std::env::args().skip(1).collect();
-    let (kind, seed, count) = match read(&arguments) {
+    let (kind, seed, count) = match asked(&arguments) {
         Some(what) => what,
         None => {
             eprintln!("{USAGE}");
@@ -30,6 +31,7 @@ fn main() -> io::Result<ExitCode> {
         "damaged" => out.write_all(&damaged::bytes(seed, count))?,
         "calls" => calls::cases(seed, count).try_for_each(|case| write!(out, "{case}"))?,
         "drawn" => drawn::cases(seed, count).try_for_each(|case| write!(out, "{case}"))?,
+        "read" => read::cases(seed, count).try_for_each(|case| write!(out, "{case}"))?,
         "whole" => whole::cases(seed, count).try_for_each(|case| write!(out, "{case}"))?,
         _ => {
             eprintln!("{USAGE}");
@@ -40,7 +42,7 @@ fn main() -> io::Result<ExitCode> {
     Ok(ExitCode::SUCCESS)
 }
 
-fn read(arguments: &[String]) -> Option<(&str, u64, u32)> {
+fn asked(arguments: &[String]) -> Option<(&str, u64, u32)> {
     match arguments {
         [kind, seed] => Some((kind, seed.parse().ok()?, DEFAULT_COUNT)),
         [kind, seed, count] => Some((kind, seed.parse().ok()?, count.parse().ok()?)),

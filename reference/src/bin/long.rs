@@ -1,10 +1,11 @@
 //! `long PROGRAM COUNT`: COUNT rounds in one process, with numbers that rise
 //! to 4294967295. Expects each line, the totals summed up plainly from the
-//! figures as whole numbers, and a peak of memory that stays where it was after
-//! the first tenth. Says what differs, with exit status 1.
+//! figures as whole numbers, of which they are the residues, and a peak of
+//! memory that stays where it was after the first tenth. Says what differs,
+//! with exit status 1.
 
 use reference::field::Element;
-use reference::material::{first_records, reply_records, table, whole_sums};
+use reference::material::{first_records, reply_records, table, totals, Row};
 use reference::random::Random;
 use reference::scheme::{first_message, holds, members, shares, Plan, RandomList, Set};
 use reference::stream::{spaced, to_bytes, Record};
@@ -126,7 +127,7 @@ fn rounds(count: u32) -> impl Iterator<Item = Round> {
 struct Round {
     number: u32,
     list: Vec<Element>,
-    figures: Vec<Vec<Element>>,
+    table: Vec<Row>,
     survivors: Set,
     answering: Set,
 }
@@ -134,11 +135,11 @@ struct Round {
 impl Round {
     fn draw(number: u32, plan: &Plan, random: &mut Random) -> Round {
         let list = random.elements(plan.list_length());
-        let figures = table(plan, random);
+        let table = table(plan, random);
         let survivors = random.pick(&SURVIVORS);
         let answering = random.pick(&SURVIVORS.map(|set| set & survivors));
         let answering = if plan.usable(answering) { answering } else { survivors };
-        Round { number, list, figures, survivors, answering }
+        Round { number, list, table, survivors, answering }
     }
 
     /// The survivors' messages, the close, the others' messages too late, the
@@ -146,8 +147,8 @@ impl Round {
     fn records(&self, plan: &Plan) -> Vec<Record> {
         let list = RandomList { plan, elements: &self.list };
         let first = |airfield: u8| {
-            let figures = &self.figures[usize::from(airfield - 1)];
-            first_records(airfield, &first_message(list.s(airfield), figures))
+            let figures = self.table[usize::from(airfield - 1)].lent();
+            first_records(airfield, &first_message(list.s(airfield), &figures))
         };
         let reply = |airfield| reply_records(airfield, &shares(&list, airfield, self.survivors));
         let mut records = vec![Record::Open(self.number)];
@@ -179,7 +180,7 @@ impl Round {
             *offset += FIRST;
         }
         *offset += members(self.answering).count() * REPLY * plan.blocks() + BARE;
-        let totals = whole_sums(plan, &self.figures, self.survivors);
+        let totals = totals(plan, &self.table, self.survivors);
         lines.push(format!("total {}{}", self.number, spaced(&totals)));
         lines
     }

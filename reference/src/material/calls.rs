@@ -10,7 +10,7 @@ use super::vectors::Case;
 use super::{plan_by_seed, row};
 use crate::field::{Element, LARGEST, Q};
 use crate::random::Random;
-use crate::scheme::{Plan, Set, MAX_AIRFIELDS, MAX_BLOCKS};
+use crate::scheme::{Plan, Set, Use, MAX_AIRFIELDS, MAX_BLOCKS};
 
 /// Calls on the end in a case with refusals, and how many of them in a
 /// hundred ask for the first message.
@@ -38,29 +38,52 @@ pub fn cases(seed: u64, count: u32) -> impl Iterator<Item = String> {
 
 /// Nothing refused.
 fn honest(plan: &Plan, airfield: u8, random: &mut Random) -> Case {
-    let mut case = key_and_start(plan, airfield, random);
-    case.first_message(&row(plan, random), plan.row_length());
+    let usage = any_use(random);
+    let mut case = key_and_start(plan, airfield, usage, random);
+    case.first_message(&row(plan, usage, random).lent(), plan.row_length());
     let sets: Vec<Set> = plan.usable_sets_holding(airfield).collect();
     case.reply(random.pick(&sets));
     case
 }
 
-/// Figures beyond the bound at either end of the row, between and everywhere,
-/// and with each fault that comes before them; then a row that reaches the
-/// bound, which the same end takes, and none behind it.
-fn around_the_bound(plan: &Plan, airfield: u8, random: &mut Random) -> Case {
-    let mut case = key_and_start(plan, airfield, random);
-    let length = plan.row_length();
-    let bound = plan.figure_bound();
-    let beyond = bound + 1;
-    for place in [0, length - 1, random.below(length)] {
-        case.first_message(&with(row(plan, random), place, beyond), length);
+fn any_use(random: &mut Random) -> Use {
+    random.pick(&[Use::Counts, Use::Signed])
+}
+
+/// The elements that are the last within the bound, and those beyond it: first
+/// the nearest ones, then the farthest.
+fn at_the_bound(plan: &Plan, usage: Use) -> (Vec<Element>, Vec<Element>) {
+    let bound = plan.figure_bound(usage);
+    match usage {
+        Use::Counts => (vec![bound], vec![bound + 1, LARGEST]),
+        Use::Signed => {
+            let farthest = Use::Signed.reach();
+            (vec![bound, Q - bound], vec![bound + 1, Q - bound - 1, farthest, farthest + 1])
+        }
     }
-    case.first_message(&with(row(plan, random), random.below(length), LARGEST), length);
-    case.first_message(&vec![beyond; length], length);
-    beyond_with_earlier_faults(&mut case, plan, random);
-    case.first_message(&with(row(plan, random), random.below(length), bound), length);
-    case.first_message(&vec![beyond; length], length);
+}
+
+/// Figures beyond the bound at either end of the row, between and everywhere,
+/// and with each fault that comes before them; then rows that reach the bound,
+/// which the end takes, and none behind them.
+fn around_the_bound(plan: &Plan, airfield: u8, random: &mut Random) -> Case {
+    let usage = any_use(random);
+    let mut case = key_and_start(plan, airfield, usage, random);
+    let length = plan.row_length();
+    let (last, beyond) = at_the_bound(plan, usage);
+    let lent = |random: &mut Random| row(plan, usage, random).lent();
+    for &figure in &beyond {
+        for place in [0, length - 1, random.below(length)] {
+            case.first_message(&with(lent(random), place, figure), length);
+        }
+        case.first_message(&vec![figure; length], length);
+    }
+    beyond_with_earlier_faults(&mut case, plan, usage, random);
+    for &figure in &last {
+        case.start(airfield, usage);
+        case.first_message(&with(lent(random), 0, figure), length);
+        case.first_message(&vec![beyond[0]; length], length);
+    }
     case.reply((1 << plan.airfields()) - 1);
     case
 }
@@ -68,18 +91,19 @@ fn around_the_bound(plan: &Plan, airfield: u8, random: &mut Random) -> Case {
 /// A figure beyond the bound before one that is no element, and behind it,
 /// where there are two places; with a number in the key that is no element, in
 /// S or in the shares; and in a row or for a buffer of another length.
-fn beyond_with_earlier_faults(case: &mut Case, plan: &Plan, random: &mut Random) {
+fn beyond_with_earlier_faults(case: &mut Case, plan: &Plan, usage: Use, random: &mut Random) {
     let length = plan.row_length();
-    let beyond = random.pick(&[plan.figure_bound() + 1, LARGEST]);
+    let lent = |random: &mut Random| row(plan, usage, random).lent();
+    let beyond = random.pick(&at_the_bound(plan, usage).1);
     if length > 1 {
         let left = random.below(length - 1);
         let right = left + 1 + random.below(length - 1 - left);
         for (place, other) in [(left, right), (right, left)] {
-            let figures = with(row(plan, random), place, beyond);
+            let figures = with(lent(random), place, beyond);
             case.first_message(&with(figures, other, no_element(random)), length);
         }
     }
-    let figures = with(row(plan, random), random.below(length), beyond);
+    let figures = with(lent(random), random.below(length), beyond);
     let key = case.key().to_vec();
     for place in [random.below(length), length + random.below(key.len() - length)] {
         case.lend_key(with(key.clone(), place, no_element(random)));
@@ -115,20 +139,21 @@ fn key_maker_faults(plan: &Plan, mut airfield: u8, random: &mut Random) -> Case 
     let mut case = Case::new(numbers);
     case.lend_list(list);
     case.make_key(airfield, room);
-    case.start(airfield);
+    case.start(airfield, any_use(random));
     case
 }
 
 /// Calls on one end in any order, each with any of its faults together.
 fn walk(plan: &Plan, airfield: u8, random: &mut Random) -> Case {
-    let mut case = key_and_start(plan, airfield, random);
+    let usage = any_use(random);
+    let mut case = key_and_start(plan, airfield, usage, random);
     let key = case.key().to_vec();
     for _ in 0..WALK_CALLS {
         let mut lent = key.clone();
         wrong_list(&mut lent, END_FAULT, random);
         case.lend_key(lent);
         if random.chance(FIRST_CALL) {
-            faulty_first(&mut case, plan, random);
+            faulty_first(&mut case, plan, usage, random);
         } else {
             case.reply(any_set(plan, random));
         }
@@ -136,11 +161,11 @@ fn walk(plan: &Plan, airfield: u8, random: &mut Random) -> Case {
     case
 }
 
-fn faulty_first(case: &mut Case, plan: &Plan, random: &mut Random) {
-    let mut figures = row(plan, random);
+fn faulty_first(case: &mut Case, plan: &Plan, usage: Use, random: &mut Random) {
+    let mut figures = row(plan, usage, random).lent();
     if random.chance(END_FAULT) {
         let place = random.below(figures.len());
-        figures[place] = random.pick(&[plan.figure_bound() + 1, LARGEST]);
+        figures[place] = random.pick(&at_the_bound(plan, usage).1);
     }
     wrong_list(&mut figures, END_FAULT, random);
     let mut room = plan.row_length();
@@ -161,11 +186,11 @@ fn any_set(plan: &Plan, random: &mut Random) -> Set {
     }
 }
 
-fn key_and_start(plan: &Plan, airfield: u8, random: &mut Random) -> Case {
+fn key_and_start(plan: &Plan, airfield: u8, usage: Use, random: &mut Random) -> Case {
     let mut case = Case::new(plan.numbers());
     case.lend_list(random.elements(plan.list_length()));
     case.make_key(airfield, plan.key_length(airfield));
-    case.start(airfield);
+    case.start(airfield, usage);
     case
 }
 

@@ -6,22 +6,26 @@
 //! - `vectors`: calls with their answers as text, one a line
 //! - `calls`: cases for the key maker and the airfield end, by `vectors`
 //! - `drawn`: cases for random lists from raw bytes, by `vectors`
+//! - `read`: cases for the reader and for residues, by `vectors`
 //! - `whole`: whole rounds from keys to totals, by `vectors`
 //! - `all_plans`, `plan_by_seed`: every plan there is, one for each seed
-//! - `row`, `table`: the figures of one airfield, and of all of them
-//! - `whole_sums`: what they add up to
+//! - `Row`, `row`, `table`: the figures of one airfield, and of all of them
+//! - `whole_sums`, `totals`: what they add up to, and the residues of it
+//! - `common_use`: the use of the airfields of a set, if they have one
 //! - `first_records`, `reply_records`: one airfield's messages as records
 
 pub mod calls;
 pub mod damaged;
 pub mod drawn;
+pub mod read;
 pub mod rounds;
 pub mod vectors;
 pub mod whole;
 
-use crate::field::{Element, LARGEST};
+use crate::field::Element;
 use crate::random::Random;
-use crate::scheme::{members, Plan, Set, MAX_AIRFIELDS, MAX_BLOCKS};
+use crate::reading::residue;
+use crate::scheme::{members, Plan, Set, Use, MAX_AIRFIELDS, MAX_BLOCKS};
 use crate::stream::Record;
 
 /// Coprime to the 896 plans, so that seeds in a row meet very unlike plans
@@ -29,8 +33,9 @@ use crate::stream::Record;
 const PLAN_STRIDE: u64 = 555;
 
 /// In this many tables of a hundred every figure is the bound, so that the
-/// figures of all airfields add up to 65520.
-const BUSY: usize = 5;
+/// figures of all airfields add up to 65520, or to 32760 or -32760 if all are
+/// signed.
+const BUSY: usize = 10;
 
 /// Every K, U, T, M within its ranges.
 pub fn all_plans() -> Vec<Plan> {
@@ -49,30 +54,65 @@ pub fn plan_by_seed(seed: u64) -> Plan {
     plans[(seed % count * PLAN_STRIDE % count) as usize]
 }
 
-/// A row of figures within the plan's bound.
-pub fn row(plan: &Plan, random: &mut Random) -> Vec<Element> {
-    (0..plan.row_length()).map(|_| random.up_to(plan.figure_bound())).collect()
+/// The figures of one airfield, as whole numbers.
+#[derive(Clone, Debug)]
+pub struct Row {
+    pub usage: Use,
+    pub figures: Vec<i32>,
 }
 
-/// A row of figures for each airfield.
-pub fn table(plan: &Plan, random: &mut Random) -> Vec<Vec<Element>> {
+impl Row {
+    /// As they are lent.
+    pub fn lent(&self) -> Vec<Element> {
+        self.figures.iter().copied().map(residue).collect()
+    }
+}
+
+/// A row of figures within the plan's bound.
+pub fn row(plan: &Plan, usage: Use, random: &mut Random) -> Row {
+    let bound = plan.figure_bound(usage);
+    let mut figure = || match usage {
+        Use::Counts => random.up_to(bound).into(),
+        Use::Signed => random.around(bound),
+    };
+    Row { usage, figures: (0..plan.row_length()).map(|_| figure()).collect() }
+}
+
+/// A row of figures for each airfield: all counts, all signed, or each as it
+/// comes.
+pub fn table(plan: &Plan, random: &mut Random) -> Vec<Row> {
+    let uses = random.pick(&[&[Use::Counts][..], &[Use::Signed], &[Use::Counts, Use::Signed]]);
     let busy = random.chance(BUSY);
-    let row =
-        |_| if busy { vec![plan.figure_bound(); plan.row_length()] } else { row(plan, random) };
+    let sign = random.pick(&[1, -1]);
+    let busy_row = |usage| {
+        let bound = i32::from(plan.figure_bound(usage));
+        let figure = if usage == Use::Signed { sign * bound } else { bound };
+        Row { usage, figures: vec![figure; plan.row_length()] }
+    };
+    let row = |_| match random.pick(uses) {
+        usage if busy => busy_row(usage),
+        usage => row(plan, usage, random),
+    };
     (1..=plan.airfields()).map(row).collect()
 }
 
-/// Per place, the whole-number sum of the figures of a set, which is at most
-/// 65520 (document 02, item 2).
-pub fn whole_sums(plan: &Plan, table: &[Vec<Element>], set: Set) -> Vec<Element> {
-    let sum = |place: usize| -> u32 {
-        members(set).map(|airfield| u32::from(table[usize::from(airfield - 1)][place])).sum()
-    };
-    let counted = |sum| {
-        assert!(sum <= u32::from(LARGEST), "figures within the bound add up to an element");
-        sum as Element
-    };
-    (0..plan.row_length()).map(sum).map(counted).collect()
+/// Per place, the whole-number sum of the figures of a set.
+pub fn whole_sums(plan: &Plan, table: &[Row], set: Set) -> Vec<i32> {
+    let figure = |airfield: u8, place: usize| table[usize::from(airfield - 1)].figures[place];
+    let sum = |place| members(set).map(|airfield| figure(airfield, place)).sum();
+    (0..plan.row_length()).map(sum).collect()
+}
+
+/// Per place, what the service must give for a set.
+pub fn totals(plan: &Plan, table: &[Row], set: Set) -> Vec<Element> {
+    whole_sums(plan, table, set).into_iter().map(residue).collect()
+}
+
+/// None if the airfields of the set have both uses.
+pub fn common_use(table: &[Row], set: Set) -> Option<Use> {
+    let mut uses = members(set).map(|airfield| table[usize::from(airfield - 1)].usage);
+    let first = uses.next()?;
+    uses.all(|usage| usage == first).then_some(first)
 }
 
 /// A first message as records, place by place.

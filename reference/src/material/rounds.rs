@@ -2,8 +2,8 @@
 //!
 //! - `records`: the plan, `count` rounds, then opens that must be refused
 //!
-//! Each round draws fresh figures within the bound and a fresh random list. It
-//! may have airfields that drop out before or after the close, unfinished rows,
+//! Each round draws fresh figures within the bound, counts or signed ones or
+//! both, and a fresh random list. It may have airfields that drop out before or after the close, unfinished rows,
 //! rows and replies in any order, places sent twice, a close or finish asked
 //! too early, first messages after the close, replies of others than survivors,
 //! partial replies, more replies than needed, one garbled reply, and it may be
@@ -62,7 +62,7 @@ impl Round<'_> {
         let s = RandomList { plan, elements: &list };
         let messages = (1..=plan.airfields())
             .zip(table(plan, random))
-            .map(|(airfield, figures)| first_message(s.s(airfield), &figures))
+            .map(|(airfield, row)| first_message(s.s(airfield), &row.lent()))
             .collect();
         let everyone: Vec<u8> = (1..=plan.airfields()).collect();
         let senders = some_of(&everyone, plan.least(), random);

@@ -13,7 +13,7 @@
 //! | `d room number n bytes.. list..` | a random list from n raw bytes, into a buffer of `room` elements; where it is taken, it is lent from then on |
 //! | `k airfield room number key..` | key maker, into a buffer of `room` elements; its key is lent from then on |
 //! | `y key..` | another key lent from then on |
-//! | `s airfield number` | a fresh end |
+//! | `s airfield use number` | a fresh end; its use is 0 for counts, 1 for signed figures |
 //! | `f room number stage n figures.. message..` | first message of the end for n figures, into a buffer of `room` elements |
 //! | `r set number stage part..` | reply of the end |
 //! | `o round number` | open |
@@ -21,14 +21,19 @@
 //! | `c number set` | close; the set is 0 if it is refused |
 //! | `a airfield block number elements..` | reply elements from this block on, each with this answer |
 //! | `t number totals..` | finish |
+//! | `v use total number below size` | the reader of totals, and the value read; 0 0 if it is refused |
+//! | `x below size number element` | the residue of a value, as a signed figure; the element is 0 if it is refused |
 //!
 //! The number is 0, or that of the refusal, and then no elements come back.
 //! The stage is the one after the call: 0 fresh, 1 sent, 2 + v answered v.
+//! No number of a line lies below zero, so a value takes two: 1 if it lies
+//! below zero and 0 if not, and how far from zero it lies.
 
 use crate::client::{list_from_bytes, make_key, End, Stage};
 use crate::field::Element;
+use crate::reading::{read_total, residue_of};
 use crate::refusal::Refusal;
-use crate::scheme::Set;
+use crate::scheme::{Set, Use};
 use crate::service::Service;
 use crate::stream::spaced;
 
@@ -94,9 +99,9 @@ impl Case {
         }
     }
 
-    pub fn start(&mut self, airfield: u8) {
-        let result = End::start(self.plan, airfield);
-        self.line('s', &[airfield.into(), number_of(&result)]);
+    pub fn start(&mut self, airfield: u8, usage: Use) {
+        let result = End::start(self.plan, airfield, usage);
+        self.line('s', &[airfield.into(), use_number(usage), number_of(&result)]);
         self.end = result.ok().or(self.end.take());
     }
 
@@ -158,6 +163,20 @@ impl Case {
         totals
     }
 
+    pub fn read_total(&mut self, usage: Use, total: u16) {
+        let result = read_total(usage, total.into());
+        let number = number_of(&result);
+        let [below, size] = value_numbers(result.unwrap_or(0));
+        self.line('v', &[use_number(usage), total, number, below, size]);
+    }
+
+    pub fn residue(&mut self, value: i32) {
+        let result = residue_of(self.plan, value);
+        let number = number_of(&result);
+        let [below, size] = value_numbers(value);
+        self.line('x', &[below, size, number, result.unwrap_or(0)]);
+    }
+
     /// A line for each run of elements with the same answer.
     fn runs(
         &mut self,
@@ -194,6 +213,15 @@ fn stage_number(end: &End) -> u16 {
         Stage::Sent => 1,
         Stage::Answered(set) => 2 + set,
     }
+}
+
+fn use_number(usage: Use) -> u16 {
+    (usage == Use::Signed).into()
+}
+
+fn value_numbers(value: i32) -> [u16; 2] {
+    let size = value.unsigned_abs().try_into().expect("no value lies this far from zero");
+    [(value < 0).into(), size]
 }
 
 fn short(length: usize) -> u16 {

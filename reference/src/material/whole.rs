@@ -8,19 +8,22 @@
 //! drop out before or after the close, leave rows and replies unfinished, come
 //! late, send twice, reply though they are no survivors, and one reply may be
 //! garbled; close and finish may be asked too early, or once too often. Figures
-//! lie within the bound, and where no reply is garbled the totals are held
-//! against the whole-number sums of the survivors' figures.
+//! lie within the bound of their airfield's use. Where no reply is garbled the
+//! totals are held against the residues of the whole-number sums of the
+//! survivors' figures; and where the survivors have one use, what is read from
+//! them against those sums.
 
 use super::rounds::some_of;
 use super::vectors::Case;
 use super::{
-    plan_by_seed,
+    common_use, plan_by_seed,
     rounds::{GARBLED, OFTEN, RARE},
-    table, whole_sums,
+    table, totals, whole_sums, Row,
 };
 use crate::field::{add, Element, LARGEST, Q};
 use crate::random::Random;
-use crate::scheme::{set_of, Plan, Set};
+use crate::reading::read_total;
+use crate::scheme::{set_of, Plan, Set, Use};
 
 /// What an airfield sends, its reply empty if it is no survivor.
 struct Sent {
@@ -48,9 +51,9 @@ fn round(case: &mut Case, plan: &Plan, number: u16, random: &mut Random) {
     let repliers = some_of(&senders, plan.least(), random);
     let survivors = set_of(senders.iter().copied());
     case.lend_list(random.elements(plan.list_length()));
-    let figures = table(plan, random);
+    let table = table(plan, random);
     let sent: Vec<Sent> = (1..)
-        .zip(&figures)
+        .zip(&table)
         .map(|(airfield, row)| calls(case, plan, airfield, row, survivors, random))
         .collect();
     let of = |airfields: &[u8]| -> Vec<&Sent> {
@@ -60,14 +63,37 @@ fn round(case: &mut Case, plan: &Plan, number: u16, random: &mut Random) {
     let silent = without(&senders, &repliers);
     case.open(number);
     gathering(case, plan, &of(&senders), &of(&others), random);
-    let totals = replying(case, plan, &of(&repliers), &of(&silent), &of(&others), random);
-    assert!(totals.is_empty() || totals == whole_sums(plan, &figures, survivors));
+    let given = replying(case, plan, &of(&repliers), &of(&silent), &of(&others), random);
+    if !given.is_empty() {
+        assert_eq!(given, totals(plan, &table, survivors));
+        read_back(case, plan, &table, survivors, &given, random);
+    }
     if random.chance(RARE) {
         case.finish();
     }
     if random.chance(RARE) {
         case.open(number);
     }
+}
+
+/// Reads one of the totals; survivors of both uses have no reader, so that
+/// either one is asked.
+fn read_back(
+    case: &mut Case,
+    plan: &Plan,
+    table: &[Row],
+    survivors: Set,
+    given: &[Element],
+    random: &mut Random,
+) {
+    let usage = common_use(table, survivors);
+    if let Some(usage) = usage {
+        let values: Vec<i32> =
+            given.iter().map(|&total| read_total(usage, total.into()).unwrap()).collect();
+        assert_eq!(values, whole_sums(plan, table, survivors));
+    }
+    let either = random.pick(&[Use::Counts, Use::Signed]);
+    case.read_total(usage.unwrap_or(either), random.pick(given));
 }
 
 fn without(airfields: &[u8], some: &[u8]) -> Vec<u8> {
@@ -80,13 +106,13 @@ fn calls(
     case: &mut Case,
     plan: &Plan,
     airfield: u8,
-    figures: &[Element],
+    row: &Row,
     survivors: Set,
     random: &mut Random,
 ) -> Sent {
     case.make_key(airfield, plan.key_length(airfield));
-    case.start(airfield);
-    let message = case.first_message(figures, plan.row_length());
+    case.start(airfield, row.usage);
+    let message = case.first_message(&row.lent(), plan.row_length());
     let reply = case.reply(survivors);
     if random.chance(GARBLED) {
         case.reply(random.pick(&[survivors, (1 << plan.airfields()) - 1]));

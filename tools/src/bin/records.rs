@@ -5,12 +5,12 @@
 //! so, and the exit status stays as it is: the bytes are right, and whether the messages belong together is not theirs to tell.
 
 use cutawheno_tools::command::{shown, start, Fault, VERSION};
+use cutawheno_tools::filter::{each_line, filter, flush, put, Output};
 use cutawheno_tools::standard::{self, complain};
 use reference::stream::{Damage, Record, Records};
 use reference::text::{line_of, record_of};
 use std::ffi::OsString;
-use std::fs::File;
-use std::io::{BufRead, BufReader, BufWriter, Read, Write};
+use std::io::{BufRead, BufReader};
 use std::process::ExitCode;
 
 const HELP: &str = "\
@@ -30,9 +30,6 @@ is written, and nothing behind it. Keys of two lists in one round, where comment
 Exit status: 0 done; 1 a line or record is not right, or reading or writing failed, told on standard error; 2 command line not understood.
 ";
 
-/// The longest line, in bytes: far more than a record needs.
-const LONGEST: u64 = 1 << 16;
-
 fn main() -> ExitCode {
     start("records", run)
 }
@@ -40,7 +37,7 @@ fn main() -> ExitCode {
 fn run() -> Result<(), Fault> {
     let words: Vec<OsString> = std::env::args_os().skip(1).collect();
     let words: Vec<Option<&str>> = words.iter().map(|word| word.to_str()).collect();
-    let convert: fn(Output) -> Result<(), String> = match words[..] {
+    let convert: fn(&mut Output) -> Result<(), String> = match words[..] {
         _ if words.contains(&Some("--help")) => |output| put(output, HELP.as_bytes()),
         [Some("--version")] => |output| put(output, format!("records {VERSION}\n").as_bytes()),
         [Some("encode")] => encode,
@@ -48,48 +45,20 @@ fn run() -> Result<(), Fault> {
         [] => return Err(Fault::usage("no command; records --help tells them".to_string())),
         _ => return Err(Fault::usage("encode or decode is wanted, alone; records --help tells more".to_string())),
     };
-    let mut output = BufWriter::new(standard::output()?);
-    let outcome = convert(&mut output);
-    // what stood before a fault is written all the same
-    let written = output.flush().map_err(fault_of_output);
-    Ok(outcome.and(written)?)
+    Ok(filter(convert)?)
 }
 
-type Output<'a> = &'a mut BufWriter<File>;
-
-fn put(output: Output, bytes: &[u8]) -> Result<(), String> {
-    output.write_all(bytes).map_err(fault_of_output)
-}
-
-fn fault_of_output(fault: std::io::Error) -> String {
-    format!("standard output: {fault}")
-}
-
-fn encode(output: Output) -> Result<(), String> {
-    let mut input = BufReader::new(standard::input()?);
+fn encode(output: &mut Output) -> Result<(), String> {
     let mut lists = Lists::default();
-    let mut line = Vec::new();
-    for number in 1.. {
-        line.clear();
-        let read = (&mut input).take(LONGEST).read_until(b'\n', &mut line);
-        match read.map_err(|fault| format!("standard input: {fault}"))? as u64 {
-            0 => break,
-            LONGEST if line.last() != Some(&b'\n') => return Err(format!("line {number} is longer than {LONGEST} bytes")),
-            _ => (),
-        }
-        let text = String::from_utf8_lossy(&line);
+    each_line(output, |number, line| {
+        let text = String::from_utf8_lossy(line);
         let record = record_of(&text).map_err(|fault| format!("line {number}: {fault}"))?;
         if record.is_some() && !text.ends_with('\n') {
             return Err(format!("line {number} is cut short: it has no end"));
         }
         lists.look(number, &text, &record);
-        put(output, &record.map(|record| record.to_bytes()).unwrap_or_default())?;
-        // no other line is there yet
-        if !input.buffer().contains(&b'\n') {
-            output.flush().map_err(fault_of_output)?;
-        }
-    }
-    Ok(())
+        Ok(record.map(|record| record.to_bytes()).unwrap_or_default())
+    })
 }
 
 /// The list that the round's first comment of `airfield` names, with its line.
@@ -122,7 +91,7 @@ impl Lists {
     }
 }
 
-fn decode(output: Output) -> Result<(), String> {
+fn decode(output: &mut Output) -> Result<(), String> {
     let mut input = BufReader::new(standard::input()?);
     let (mut bytes, mut offset) = (Vec::new(), 0);
     loop {
@@ -133,7 +102,7 @@ fn decode(output: Output) -> Result<(), String> {
         let taken = decode_whole(&bytes, offset, ended, output)?;
         offset += taken;
         bytes.drain(..taken);
-        output.flush().map_err(fault_of_output)?;
+        flush(output)?;
         if ended {
             return Ok(());
         }
@@ -141,7 +110,7 @@ fn decode(output: Output) -> Result<(), String> {
 }
 
 /// The lines of the records that are whole, and how many bytes these have. `offset` is that of the first byte.
-fn decode_whole(bytes: &[u8], offset: usize, ended: bool, output: Output) -> Result<usize, String> {
+fn decode_whole(bytes: &[u8], offset: usize, ended: bool, output: &mut Output) -> Result<usize, String> {
     for (at, record) in Records::new(bytes) {
         match record {
             Ok(record) => put(output, (line_of(&record) + "\n").as_bytes())?,

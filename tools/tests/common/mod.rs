@@ -17,6 +17,9 @@ use std::sync::Once;
 
 pub const AIRFIELD: &str = env!("CARGO_BIN_EXE_airfield");
 pub const RECORDS: &str = env!("CARGO_BIN_EXE_records");
+pub const TOTALS: &str = env!("CARGO_BIN_EXE_totals");
+/// The proved program, where `tools/prove` leaves it.
+pub const POOL: &str = concat!(env!("CARGO_MANIFEST_DIR"), "/../target/bin/pool");
 const Q: u32 = 65521;
 
 #[derive(Debug, PartialEq, Eq)]
@@ -101,9 +104,10 @@ impl Folder {
         self.command(AIRFIELD, words).output().unwrap().into()
     }
 
-    /// The tool through a shell, which sets up what stands in the script for it.
+    /// The tools through a shell, which sets up what stands in the script for them.
     pub fn shell(&self, script: &str) -> Said {
-        self.command("bash", &["-c", script]).env("AIRFIELD", AIRFIELD).env("RECORDS", RECORDS).output().unwrap().into()
+        let tools = [("AIRFIELD", AIRFIELD), ("RECORDS", RECORDS), ("TOTALS", TOTALS), ("POOL", POOL)];
+        self.command("bash", &["-c", script]).envs(tools).output().unwrap().into()
     }
 
     pub fn with_input(&self, program: &str, words: &[&str], input: &[u8]) -> Said {

@@ -2,13 +2,13 @@
 -- for the whole list. The measure is what is left of the length. Assumes nothing.
 use mathlib.Core.Path.{_≡_, refl, sym, ap, _∙_}
 use mathlib.Core.Bool.{Bool, _&&_}
-use Prim.Native.Nat.{_-_, _≤_}
-use lib.Dec.{eqb}
-use lib.ListN.{length, drop}
+use Prim.Native.Nat.{ℕ, _-_, _≤_}
+use lib.Dec.{leb, eqb}
+use lib.ListN.{length, getD, drop}
 use borrow.Author.Needs.{needs}
 use Rattle.scheme.specs.Scheme.{within}
 use Rattle.scheme.proofs.Tests.{and-true}
-use Rattle.scheme.proofs.Elements.{within-more, within-end}
+use Rattle.scheme.proofs.Elements.{tested-more, tested-all, past-within}
 use Rattle.element.proofs.all_within.Statement.{statement}
 use Rattle.element.proofs.all_within.Tie as tie
 
@@ -37,16 +37,20 @@ loop-less : tie.Need-loop-less Inv-loop μ-loop
 loop-less c = search needs
 
 loop-again : tie.Need-loop-again Inv-loop μ-loop
+unfolding within
 loop-again c =
     let s = c .before .before .before in
     let xs = s .before .before .args .list .now in
+    let most = s .before .before .args .most in
     let h = c .before .before .loop-test .taken in
-    (search needs, rw (c .past .ensures) (within-more (s .before .before .args .most) xs (s .loop .i) (s .loop .beyond) h ∙ s .loop .inv .1))
+    let t : eqb (c .past .result) 0 ≡ leb (getD xs (s .loop .i) 0) most = ap (λ (n : ℕ). eqb n 0) (c .past .ensures) ∙ past-within _ most in
+    (search needs, tested-more (λ x. leb x most) xs (s .loop .i) (s .loop .beyond) (c .past .result) h t ∙ s .loop .inv .1)
 
 returns : tie.Need-returns Inv-loop μ-loop
+unfolding within
 returns c =
     let l = c .before .loop in
-    sym (and-true (eqb (l .beyond) 0)) ∙ ap (λ (b : Bool). eqb (l .beyond) 0 && b) (sym (within-end _ _ _ (c .loop-test .left))) ∙ l .inv .1
+    sym (and-true (eqb (l .beyond) 0)) ∙ ap (λ (b : Bool). eqb (l .beyond) 0 && b) (sym (tested-all _ _ _ (c .loop-test .left))) ∙ l .inv .1
 
 pub all-within-spec : {M : Type 1} → statement M
 all-within-spec =

@@ -28,7 +28,7 @@ cast-result c = search needs
 
 returns-2 : tie.Need-returns-2
 unfolding largest-figure unless after
-returns-2 c = rw (passed (c .before)) (c .bound-of .ensures)
+returns-2 c = rw (passed (c .before)) (c .bound-of .ensures .0)
 
 pub figure-bound-spec : {M : Type 1} → statement M
 figure-bound-spec = tie.close (tie.spec is-good-requires returns bound-of-requires cast-result returns-2)

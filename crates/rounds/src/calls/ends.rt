@@ -2,7 +2,7 @@
 //   check_start                       s
 //   stage_is                          whether a stage has a number
 //   send_part, send_into, check_first f: a first message, into a part of a buffer
-//   Copied, copy_out, copied_reply, check_reply     r: a reply whose part is copied out of the key
+//   Copied, copy_out, copied_reply, shares_are, check_reply    r: a reply whose part is copied out of the key
 // Each line is the call, and every number of its answer compared.
 ghost use mathlib.Core.Path.{_≡_};
 ghost use lib.Dec.{eqb};
@@ -31,13 +31,14 @@ use client::Stage;
 use client::Start;
 use plan::BLOCKS;
 
-// s user number: a fresh end.
+// s user use number: a fresh end; the use is 0 for counts, anything else for signed figures.
 pub fn check_start(mut case: Case, line: &[u16]) -> Checked
     ensures { λ r. ⌜ r ≡ started case (now (line .entry)) ⌝ }
 {
     let plan = case.plan;
-    let wanted = number_at(line, 1);
-    let started = Client::start(plan, number_at(line, 0));
+    let usage = plan::use_of_number(number_at(line, 1));
+    let wanted = number_at(line, 2);
+    let started = Client::start(plan, number_at(line, 0), usage);
     match started {
         Start::Refused(number) => {
             let verdict = agree(number, wanted);
@@ -158,6 +159,14 @@ fn copied_reply(end: Client, key: &[u16], set: u32) -> Copied
     copy_out(replied.number, replied.client, replied.part)
 }
 
+// Whether the shares are the wanted ones, as many, and 0 behind them.
+fn shares_are(shares: &[u16; BLOCKS], count: usize, wanted: &[u16]) -> bool {
+    if count != wanted.len() {
+        return false;
+    }
+    holds_just(shares, wanted, 0)
+}
+
 // r set number stage part..: the end's reply to a set, and the part of the key.
 pub fn check_reply(mut case: Case, line: &[u16], lent: &[u16; SPACE]) -> Checked {
     let end = case.end;
@@ -168,16 +177,11 @@ pub fn check_reply(mut case: Case, line: &[u16], lent: &[u16; SPACE]) -> Checked
     let stage = next.stage;
     let shares = replied.shares;
     case.end = next;
-    let elements = if replied.count == wanted.len() {
-        holds_just(&shares, wanted, 0)
-    } else {
-        false
-    };
     let verdict = judge(
         replied.number,
         number_at(line, 1),
         stage_is(stage, number_at(line, 2)),
-        elements,
+        shares_are(&shares, replied.count, wanted),
     );
     Checked { case, verdict }
 }

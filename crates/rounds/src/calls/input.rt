@@ -10,10 +10,10 @@ ghost use Rattle.rounds.specs.Judged.{agreed};
 use super::Case;
 use super::Verdict;
 use super::check;
+use super::line::Line;
+use super::line::new_line;
+use super::line::read_on;
 use super::new_case;
-use super::reading::Line;
-use super::reading::new_line;
-use super::reading::read_on;
 use crate::BYTES;
 use crate::lists::SPACE;
 use crate::lists::front;
@@ -70,6 +70,7 @@ fn tell(run: Run) {
         Verdict::Number => say(b": another number is answered\n"),
         Verdict::Stage => say(b": the end is at another stage\n"),
         Verdict::Set => say(b": another set is handed back\n"),
+        Verdict::Value => say(b": another value is read\n"),
         Verdict::Elements => say(b": other elements are handed back\n"),
     }
 }
@@ -83,6 +84,7 @@ fn agrees(verdict: Verdict) -> bool
         Verdict::Number => false,
         Verdict::Stage => false,
         Verdict::Set => false,
+        Verdict::Value => false,
         Verdict::Elements => false,
     }
 }

@@ -11,13 +11,14 @@ use mathlib.Core.List.{List, [], _∷_}
 use Prim.Native.Nat.{ℕ, suc, _+_, _*_, _-_, _≤_, _<_}
 use native.Mathlib.Decide.{decLt}
 use native.Mathlib.Omega.{arith}
-use lib.Bits.{bitOr, or-zero-r, or-add-and, and-le-l}
+use lib.Bits.{bitOr}
 use lib.ListN.{length, getD, drop, length-drop}
 use lib.Seq.{drop-cons}
 use borrow.Author.Tests.{le-leb, lt-leb}
 use Rattle.scheme.specs.Scheme.{Arithmetic}
 use Rattle.scheme.specs.Drawn.{byte, numbers-in, elements-in, found, fills}
 use Rattle.scheme.specs.DrawnParts.{Skipped}
+use Rattle.scheme.proofs.Elements.{neither}
 use Rattle.scheme.proofs.Drawing.Bytes.{found-kept, found-skipped}
 
 pair : (s : List ℕ) (at : ℕ) → at + 2 ≤ length s → drop at s ≡ getD s at 0 ∷ getD s (at + 1) 0 ∷ drop (at + 2) s
@@ -83,6 +84,4 @@ module _ (A : Arithmetic) (s : List ℕ) where
     fills-wrong left l e = lt-leb n (length (found A s)) (omega (arith, from-few at))
 
 pub none-past : (A : Arithmetic) → 0 < A .size → (past x : ℕ) → bitOr past (x - (A .size - 1)) ≡ 0 → (past ≡ 0) × (x < A .size)
-none-past A some past x e =
-    let z : x - (A .size - 1) ≡ 0 = omega (arith, or-add-and past (x - (A .size - 1)), and-le-l past (x - (A .size - 1))) in
-    (sym (or-zero-r past) ∙ ap (bitOr past) (sym z) ∙ e, omega arith)
+none-past A some past x e = let z = neither past (x - (A .size - 1)) e in (z .0, omega (arith, z .1))

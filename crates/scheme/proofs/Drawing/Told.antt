@@ -8,7 +8,7 @@ use mathlib.Core.List.{List}
 use Prim.Native.Nat.{ℕ, _*_, _≤_}
 use native.Mathlib.Omega.{arith}
 use Rattle.scheme.specs.Scheme.{Arithmetic, sixteen, Plan}
-use Rattle.scheme.specs.Promise.{Table, admissible, list-good, Matching, Nothing-told, Demand-3}
+use Rattle.scheme.specs.Promise.{Table, everyone, admissible, list-good, Matching, Nothing-told, Demand-3}
 use Rattle.scheme.specs.Drawn.{byte}
 use Rattle.scheme.specs.Evenly.{Matched, Draws, Nothing-told-of-bytes, Demand-3-of-bytes}
 use Rattle.scheme.proofs.Privacy.Demand.{demand-3}
@@ -52,4 +52,4 @@ nothing-told-of-bytes A two p kind told n v c x y ok lt few good-x good-y alike 
 
 pub demand-3-of-bytes : Demand-3-of-bytes
 unfolding Demand-3-of-bytes Demand-3
-demand-3-of-bytes p h = nothing-told-of-bytes sixteen (omega arith) p (admissible sixteen p) (demand-3 p h)
+demand-3-of-bytes p uses h = nothing-told-of-bytes sixteen (omega arith) p (admissible sixteen p everyone uses) (demand-3 p uses h)

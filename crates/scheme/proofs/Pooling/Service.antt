@@ -24,7 +24,8 @@ use Rattle.scheme.proofs.Refusals.{then-taken, then-zero, unless-held, 
 use Rattle.scheme.proofs.Pooling.Well.{finishing, steps-well, stays-well}
 use Rattle.scheme.proofs.Pooling.Choices.{totals-same, decided}
 use Rattle.scheme.proofs.Modular.{sixteen-laws}
-use Rattle.scheme.proofs.Whole.{sixteen-whole, total-fits, totals-whole}
+use Rattle.scheme.proofs.Signed.{sixteen-whole}
+use Rattle.scheme.proofs.Whole.{total-fits, totals-whole, signed-read}
 use Rattle.scheme.proofs.Pooling.Totals.{one-choice, some-choice, rules-explain, residues-right}
 
 answer-not-refused : (r : Record) (s : State) (n : ℕ) → answer-of r s ≡ refused n → ⊥
@@ -168,8 +169,8 @@ module _ (A : Arithmetic) where
     pub finish-right : Adds-whole A → Finish-right A
     unfolding Finish-right Finish-residues
     finish-right adds s t a xs x w e ok ax rules h = (
-      finish-residues s t a xs x w e ok rules h ∙ ap (totalled (s .round)) (totals-whole A (s .plan) x ax (s .survivors) adds),
-      total-fits A (s .plan) x ax (s .survivors),
+      finish-residues s t a xs x w e ok rules h ∙ ap (totalled (s .round)) (totals-whole A (s .plan) x (s .survivors) ax adds),
+      total-fits A (s .plan) x (s .survivors) ax,
     )
 
     pub never-sixteen : Never-sixteen A
@@ -189,6 +190,7 @@ demand-2 = record {
   as-new = as-new sixteen;
   finish-right = finish-right sixteen sixteen-laws sixteen-whole;
   finish-residues = finish-residues sixteen sixteen-laws;
+  signed-read = λ p. signed-read sixteen p sixteen-whole;
   sixteen-exactly = sixteen-exactly sixteen;
   never-sixteen = never-sixteen sixteen sixteen-laws;
 }

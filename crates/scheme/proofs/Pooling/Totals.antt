@@ -260,6 +260,6 @@ module _ (A : Arithmetic) (p : Plan) (L : Laws A (p .users) (p .threshold)) wher
   pub totals-right : Adds-whole A → Totals-right A p
   unfolding Totals-right Residues-right
   totals-right adds xs x v r firsts replies f ok ax u many rules h = (
-    residues-right xs x v r firsts replies f ok u many rules h ∙ totals-whole A p x ax v adds,
-    total-fits A p x ax v,
+    residues-right xs x v r firsts replies f ok u many rules h ∙ totals-whole A p x v ax adds,
+    total-fits A p x v ax,
   )

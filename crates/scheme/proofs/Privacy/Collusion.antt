@@ -18,8 +18,8 @@ use borrow.Author.Tests.{eq-eqb, ne-eqb}
 use Rattle.algebra.specs.Sums.{In}
 use Rattle.algebra.proofs.Sums.{sum-same as field-sum-same, sum-pick}
 use Rattle.scheme.specs.Lists.{span}
-use Rattle.scheme.specs.Scheme.{Arithmetic, sixteen, Plan, plan-good, items, places, figure-bound, in-set, users-in, total-at}
-use Rattle.scheme.specs.Promise.{Table, rows-good, admissible}
+use Rattle.scheme.specs.Scheme.{Arithmetic, sixteen, Plan, plan-good, items, places, counts, reach, figure-bound, figures-good, in-set, users-in, total-at}
+use Rattle.scheme.specs.Promise.{Table, rows-good, everyone, admissible}
 use Rattle.scheme.specs.Good.{Good}
 use Rattle.scheme.specs.Laws.{Laws}
 use Rattle.scheme.specs.Sharp.{Own-needed, Collusion-needed}
@@ -42,8 +42,8 @@ pub own-needed-sixteen : (p : Plan) → plan-good p ≡ true → Own-needed sixt
 own-needed-sixteen p h = own-needed sixteen p (sixteen-laws p h)
 
 module _ (A : Arithmetic) (p : Plan) (L : Laws A (p .users) (p .threshold)) (g : Good p) (large : p .users < A .size) where
-  one-within : 1 ≤ figure-bound A p
-  unfolding figure-bound
+  one-within : 1 ≤ figure-bound A counts p
+  unfolding figure-bound reach
   one-within = le-div-iff-mul-le {k = p .users} {x = 1} {y = A .size - 1} (omega arith) .1 (omega arith)
 
   -- the last item of block 0
@@ -71,10 +71,10 @@ module _ (A : Arithmetic) (p : Plan) (L : Laws A (p .users) (p .threshold)) (g :
     | false ↦ omega arith
   ]
 
-  table-good : (n : ℕ) → n ≤ figure-bound A p → admissible A p (table n)
-  unfolding rows-good table
-  table-good n h k lo hi =
-      (map-span-length (figure n k) (places p) 0, within-map (figure-bound A p) (figure n k) (span (places p) 0) (λ i m. figure-small n k i _ h))
+  table-good : (n : ℕ) → n ≤ figure-bound A counts p → admissible A p everyone (λ k. counts) (table n)
+  unfolding rows-good figures-good table
+  table-good n h k lo hi w =
+      (map-span-length (figure n k) (places p) 0, within-map (figure-bound A counts p) (figure n k) (span (places p) 0) (λ i m. figure-small n k i _ h))
 
   -- only the last user has another figure, and only there
   user-same : (k i : ℕ) → k ≢ p .users → figure 0 k i ≡ figure 1 k i

@@ -10,7 +10,7 @@ use native.Mathlib.Omega.{arith}
 use Rattle.algebra.specs.Residue.{Prime}
 use Rattle.algebra.proofs.Primes.{prime-65521}
 use Rattle.scheme.specs.Scheme.{modular, sixteen, Plan, plan-good}
-use Rattle.scheme.specs.Promise.{Table, admissible, Nothing-told, Demand-3}
+use Rattle.scheme.specs.Promise.{Table, everyone, admissible, Nothing-told, Demand-3}
 use Rattle.scheme.specs.Modular.{modular-laws}
 use Rattle.scheme.proofs.Good.{good}
 use Rattle.scheme.proofs.Privacy.Told.{nothing-told}
@@ -24,4 +24,4 @@ nothing-told-sixteen p h = let g = good p h in nothing-told-prime prime-65521 p 
 
 pub demand-3 : Demand-3
 unfolding Demand-3
-demand-3 p h = nothing-told-sixteen p h (admissible sixteen p)
+demand-3 p uses h = nothing-told-sixteen p h (admissible sixteen p everyone uses)

@@ -4,7 +4,7 @@
 --   last-total                and T + 1 colluders settle one more total over each usable set that holds them: its column and those of the
 --                             noise are T + 1, as many as the colluders' rows
 -- Assumes nothing.
-use mathlib.Core.Path.{_≡_, sym, ap, ap₂, _∙_}
+use mathlib.Core.Path.{_≡_, refl, sym, ap, ap₂, _∙_}
 use mathlib.Core.Bool.{Bool, true, cond}
 use mathlib.Core.List.{List}
 use Prim.Native.Nat.{ℕ, suc, _+_, _*_, _-_, _≤_, _<_}
@@ -69,8 +69,8 @@ module _ (A : Arithmetic) (p : Plan) (L : Laws A (p .users) (p .threshold)) (v c
   unfolding rows-good
   own-same ax ay k m =
       let s = users-in-in p c k m in
-      let a = ax k (s .0) (s .1) in
-      let b = ay k (s .0) (s .1) in
+      let a = ax k (s .0) (s .1) refl in
+      let b = ay k (s .0) (s .1) refl in
       ext-getD 0 (x k) (y k) (a .0 ∙ sym (b .0)) (λ i l.
       let h : i < places p = omega arith in
       el-same A _ _ L (elements-at A (zero-small A _ _ L) (x k) i (a .1)) (elements-at A (zero-small A _ _ L) (y k) i (b .1))

@@ -7,6 +7,7 @@
 //! list 00112233445566778899aabbccddeeff    the list's identity: drawn with the list, not made from it
 //! plan 3 2 1 1
 //! airfield 1
+//! use signed                               of its figures; no such line in an end of counts
 //! stage answered 5                         or: fresh, sent
 //! key 100 154 220 340
 //! message 110                              what was sent; no such line while fresh
@@ -23,16 +24,18 @@
 //! - `List::head`, `End::head`: how every file of this list or end begins, whatever came after
 //! - `known`: whether bytes begin as a list or an end of any version
 
-use cutawheno::Plan;
+use cutawheno::{Plan, Use};
 use std::fmt;
 
 const LIST: &str = "list";
 const END: &str = "end";
 const VERSION: &str = "1";
+const SIGNED: &str = "use signed\n";
 const CHECKSUM: &str = "checksum ";
 /// Digits of a checksum and the line's end.
 const CHECKSUM_TAIL: usize = 9;
-const LARGEST: u16 = 65520;
+/// The largest element.
+pub const LARGEST: u16 = 65520;
 
 /// Of a random list: 16 bytes.
 #[derive(Clone, Copy, PartialEq, Eq)]
@@ -67,6 +70,7 @@ pub struct End {
     pub list: Identity,
     pub plan: Plan,
     pub airfield: u32,
+    pub usage: Use,
     pub key: Vec<u16>,
     pub stage: Stage,
 }
@@ -108,7 +112,11 @@ impl List {
 impl End {
     pub fn head(&self) -> String {
         let End { list, plan, airfield, .. } = self;
-        format!("{}list {list}\nplan {}\nairfield {airfield}\n", first_line(END), numbers(plan))
+        let usage = match self.usage {
+            Use::Counts => "",
+            Use::Signed => SIGNED,
+        };
+        format!("{}list {list}\nplan {}\nairfield {airfield}\n{usage}", first_line(END), numbers(plan))
     }
 
     pub fn text(&self) -> String {
@@ -134,6 +142,7 @@ impl End {
         let list = fields.take("list", Identity::read)?;
         let plan = fields.take("plan", plan)?;
         let airfield = fields.take("airfield", number)?;
+        let usage = if fields.pass(SIGNED) { Use::Signed } else { Use::Counts };
         let stage = fields.take("stage", |text| Some(text.to_string()))?;
         let key = fields.take("key", elements)?;
         let mut message = || fields.take("message", elements);
@@ -143,7 +152,7 @@ impl End {
             Some(("answered", set)) => Stage::Answered { message: message()?, set: number(set).ok_or("its stage names no set")? },
             _ => return Err("it has no stage that this tool knows".to_string()),
         };
-        let end = End { list, plan, airfield, key, stage };
+        let end = End { list, plan, airfield, usage, key, stage };
         as_written(bytes, &end.text())?;
         end.fits()?;
         Ok(end)
@@ -201,6 +210,15 @@ impl<'a> Fields<'a> {
     fn take<T>(&mut self, name: &str, read: impl FnOnce(&str) -> Option<T>) -> Result<T, String> {
         let text = self.lines.next().and_then(|line| line.strip_prefix(name)?.strip_prefix(' '));
         text.and_then(read).ok_or_else(|| format!("its field {name} is not where it should be, or not as it should be"))
+    }
+
+    /// Whether the next line is this one, which is then passed.
+    fn pass(&mut self, line: &str) -> bool {
+        let is_next = self.lines.clone().next() == Some(line.trim_end());
+        if is_next {
+            self.lines.next();
+        }
+        is_next
     }
 }
 

@@ -7,18 +7,19 @@ mod files;
 mod format;
 mod words;
 
-use cutawheno::{Plan, Refusal};
+use cutawheno::{Plan, Refusal, Use};
 use cutawheno_tools::command::{shown, start, Fault, VERSION};
 use cutawheno_tools::{standard, system};
 use files::{is_erased, Held, New, Purpose};
-use format::{numbers, End, Identity, List, Stage};
+use format::{numbers, End, Identity, List, Stage, LARGEST};
 use std::ffi::OsStr;
 use std::io::Read;
 use std::path::{Path, PathBuf};
 use std::process::ExitCode;
-use words::{Command, Figures, Number, HELP};
+use words::{Command, Figure, Figures, Number, HELP};
 
-const LARGEST: u32 = 65520;
+/// An element that is beyond the bound of every plan, in either use.
+const BEYOND: u16 = 32760;
 /// Bytes that are drawn for a list beyond two for each element, and as many more at each further try.
 const SPARE: usize = 64;
 /// How often a list is tried. With a sound source the first try fails less than once in 10 ^ 29 lists.
@@ -40,7 +41,7 @@ fn run() -> Result<(), Fault> {
         Command::Help => (HELP.to_string(), None),
         Command::Version => (format!("airfield {VERSION}\n"), None),
         Command::List { plan, list } => (draw_list(plan, &list)?, None),
-        Command::Key { list, airfield, end } => (make_key(&list, airfield, &end)?, None),
+        Command::Key { list, airfield, end, usage } => (make_key(&list, airfield, &end, usage)?, None),
         Command::First { end, figures } => (first(&end, figures)?, Some(kept(&end))),
         Command::Again { end } => (again(&end)?, Some(kept(&end))),
         Command::Reply { end, set } => (reply(&end, set)?, Some(kept(&end))),
@@ -94,7 +95,7 @@ fn draw(bytes: &mut [u8]) -> Result<(), String> {
 }
 
 /// The list counts the airfield's end as made before the key is written anywhere: from one list no second end can come.
-fn make_key(file: &Path, given: Number, end: &Path) -> Result<String, String> {
+fn make_key(file: &Path, given: Number, end: &Path, usage: Use) -> Result<String, String> {
     let airfield = given.value;
     let held = Held::open(file, Purpose::Use)?;
     let mut list = List::read(&held.read()?).map_err(|fault| format!("{}: {fault}", shown(file)))?;
@@ -112,7 +113,7 @@ fn make_key(file: &Path, given: Number, end: &Path) -> Result<String, String> {
     if let Err(fault) = held.replace(list.text().as_bytes(), list.head().len()) {
         return Err(format!("{fault}; {}", new.remove()));
     }
-    let end = End { list: list.identity, plan: list.plan, airfield, key, stage: Stage::Fresh };
+    let end = End { list: list.identity, plan: list.plan, airfield, usage, key, stage: Stage::Fresh };
     let made = |fault| format!("{fault}; {} counts the end as made, so draw a new list", shown(file));
     new.write(end.text().as_bytes()).map_err(made)?;
     Ok(String::new())
@@ -156,7 +157,7 @@ fn first(file: &Path, figures: Figures) -> Result<String, String> {
             return Err(refused(Refusal::OutOfTurn, &why));
         }
         None => {
-            let message = masked.map_err(|refusal| figures_refused(refusal, kept.end.plan, &figures))?;
+            let message = masked.map_err(|refusal| figures_refused(refusal, &kept.end, &figures))?;
             kept.end.stage = Stage::Sent { message };
             kept.replace()?;
         }
@@ -177,32 +178,62 @@ fn nothing_sent(file: &Path) -> String {
 }
 
 /// The first message of a fresh end with this key.
-fn masked(end: &End, figures: &[Number]) -> Result<Vec<u16>, Refusal> {
-    // a figure too large for 16 bits is refused as the largest of 16 bits is
-    let row: Vec<u16> = figures.iter().map(|figure| u16::try_from(figure.value).unwrap_or(u16::MAX)).collect();
+fn masked(end: &End, figures: &[Figure]) -> Result<Vec<u16>, Refusal> {
+    let row: Vec<u16> = figures.iter().map(|figure| lent(end, figure.value)).collect();
     let mut message = vec![0; end.plan.row_len()];
-    let fresh = cutawheno::End::start(end.plan, end.airfield);
+    let fresh = cutawheno::End::start(end.plan, end.airfield, end.usage);
     let sent = fresh.and_then(|mut fresh| fresh.first_message(&end.key, &row, &mut message));
     sent.map(|()| message)
 }
 
-/// Of figures that are too large the first is named, and what the largest may be.
-fn figures_refused(refusal: Refusal, plan: Plan, figures: &[Number]) -> String {
-    let (airfields, bound) = (plan.users, plan.figure_bound().into());
-    let above = |limit: u32| {
-        let large = figures.iter().enumerate().find(|(_, figure)| figure.value > limit);
-        large.map(|(at, figure)| format!("figure {} is {figure}, above {limit}", at + 1))
+/// A figure as the element that the library is lent. What has none is lent as one that is refused as it would be: a count too large for
+/// 16 bits by 3, a count below zero and a signed figure beyond the bound by 32.
+fn lent(end: &End, figure: i32) -> u16 {
+    match end.usage {
+        Use::Counts if figure < 0 => BEYOND,
+        Use::Counts => u16::try_from(figure).unwrap_or(u16::MAX),
+        Use::Signed => end.plan.residue(figure).unwrap_or(BEYOND),
+    }
+}
+
+/// Of figures that are refused the first is named, and what is wanted.
+fn figures_refused(refusal: Refusal, end: &End, figures: &[Figure]) -> String {
+    let End { plan, usage, .. } = end;
+    let (least, largest) = range(plan, *usage);
+    let wanted = format!("wanted are {} for {} airfields", in_words(plan, *usage), plan.users);
+    let first = |is_refused: &dyn Fn(i32) -> bool| {
+        let found = (1..).zip(figures).find(|(_, figure)| is_refused(figure.value));
+        found.map(|(at, figure)| format!("figure {at} is {figure}"))
     };
     let why = match refusal {
         Refusal::BadLength => Some(format!("figures wanted {}, given {}", plan.row_len(), figures.len())),
-        Refusal::BadElement => above(LARGEST).map(|why| format!("{why}; the largest for {airfields} airfields is {bound}")),
-        Refusal::FigureBeyond => above(bound).map(|why| format!("{why}, the largest for {airfields} airfields")),
+        Refusal::BadElement => first(&|figure| figure > LARGEST.into()).map(|found| format!("{found}, above {LARGEST}; {wanted}")),
+        Refusal::FigureBeyond => first(&|figure| figure < least || figure > largest).map(|found| format!("{found}; {wanted}")),
         _ => None,
     };
     why.map_or_else(|| refusal.to_string(), |why| refused(refusal, &why))
 }
 
-fn figures_from_input() -> Result<Vec<Number>, String> {
+/// The least and the largest figure.
+fn range(plan: &Plan, usage: Use) -> (i32, i32) {
+    let bound = plan.figure_bound(usage).into();
+    match usage {
+        Use::Counts => (0, bound),
+        Use::Signed => (-bound, bound),
+    }
+}
+
+/// Which figures a use has.
+fn in_words(plan: &Plan, usage: Use) -> String {
+    let (least, largest) = range(plan, usage);
+    let name = match usage {
+        Use::Counts => "counts",
+        Use::Signed => "signed figures",
+    };
+    format!("{name} from {least} to {largest}")
+}
+
+fn figures_from_input() -> Result<Vec<Figure>, String> {
     let mut text = Vec::new();
     let input = standard::input()?;
     input.take(LONGEST_INPUT + 1).read_to_end(&mut text).map_err(|fault| format!("standard input: {fault}"))?;
@@ -234,7 +265,7 @@ fn resumed(end: &End) -> cutawheno::End {
         Stage::Sent { .. } => 1,
         Stage::Answered { set, .. } => 2 + set,
     };
-    cutawheno::End::resume([users, threshold, collusion, blocks, end.airfield, stage, 0, 0])
+    cutawheno::End::resume([users, threshold, collusion, blocks, end.airfield, stage, end.usage as u32, 0])
 }
 
 fn reply_refused(refusal: Refusal, end: &End, set: &Number, file: &Path) -> String {
@@ -281,7 +312,8 @@ fn status(file: &Path) -> Result<String, String> {
 
 fn status_of_list(list: &List) -> String {
     let List { identity, plan, ends, elements } = list;
-    let plan = status_of_plan(plan);
+    let figures = [Use::Counts, Use::Signed].map(|usage| in_words(plan, usage)).join(", or ");
+    let plan = status_of_plan(plan, &figures);
     format!("random list of {} elements\nlist {identity}\n{plan}ends made: {}\n", elements.len(), members(*ends))
 }
 
@@ -292,16 +324,14 @@ fn status_of_end(end: &End) -> String {
         Stage::Sent { .. } => "sent: the first message has been given, and no set is answered".to_string(),
         Stage::Answered { set, .. } => format!("answered: set {set}, {}", members(*set)),
     };
-    format!("end of airfield {airfield}\nlist {list}\n{}stage {stage}\n", status_of_plan(plan))
+    let plan = status_of_plan(plan, &in_words(plan, end.usage));
+    format!("end of airfield {airfield}\nlist {list}\n{plan}stage {stage}\n")
 }
 
-fn status_of_plan(plan: &Plan) -> String {
+fn status_of_plan(plan: &Plan, figures: &str) -> String {
     let Plan { users, threshold, collusion, blocks } = plan;
-    let figures = format!("figures in a row {}, each at most {}", plan.row_len(), plan.figure_bound());
-    format!(
-        "plan {}\nairfields {users}, of which {threshold} must answer and {collusion} may collude; blocks {blocks}; {figures}\n",
-        numbers(plan)
-    )
+    let airfields = format!("airfields {users}, of which {threshold} must answer and {collusion} may collude; blocks {blocks}");
+    format!("plan {}\n{airfields}\nfigures in a row {}: {figures}\n", numbers(plan), plan.row_len())
 }
 
 /// The airfields of a set, in words.

@@ -3,8 +3,7 @@
 use mathlib.Core.Path.{sym, _∙_}
 use borrow.Author.Needs.{needs}
 use Rattle.scheme.proofs.Refusals.{after-taken, after-refused}
-use Rattle.client.specs.Client.{stage-of, stage-number}
-use Rattle.capi.specs.Ends.{end-numbers, start-left}
+use Rattle.capi.specs.Ends.{start-left}
 use Rattle.capi.proofs.ends.cutawheno_end_start.Statement.{statement}
 use Rattle.capi.proofs.ends.cutawheno_end_start.Tie as tie
 
@@ -18,7 +17,7 @@ returns c =
     (n, sym (after-refused (λ z. c .if1 .taken (n ∙ z)) _ _))
 
 returns-2 : tie.Need-returns-2
-unfolding start-left end-numbers stage-number stage-of
+unfolding start-left
 returns-2 c =
     let z = sym (c .before .before .start-refusal .ensures) ∙ c .before .if1 .left in
     (sym z, sym (after-taken z _ _))

@@ -23,6 +23,9 @@ enum-told-5 c = search needs
 enum-told-6 : tie.Need-enum-told-6
 enum-told-6 c = search needs
 
+enum-told-7 : tie.Need-enum-told-7
+enum-told-7 c = search needs
+
 returns : tie.Need-returns
 unfolding agreed
 returns c = simp (c .enum-told .given .1)
@@ -47,6 +50,10 @@ returns-6 : tie.Need-returns-6
 unfolding agreed
 returns-6 c = simp (c .enum-told6 .given .1)
 
+returns-7 : tie.Need-returns-7
+unfolding agreed
+returns-7 c = simp (c .enum-told7 .given .1)
+
 pub agrees-spec : {M : Type 1} → statement M
 agrees-spec =
     tie.close
@@ -57,9 +64,11 @@ agrees-spec =
     enum-told-4
     enum-told-5
     enum-told-6
+    enum-told-7
     returns
     returns-2
     returns-3
     returns-4
     returns-5
-    returns-6)
+    returns-6
+    returns-7)

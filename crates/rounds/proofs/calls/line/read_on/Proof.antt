@@ -1,11 +1,11 @@
--- `rounds::calls::reading::read_on` meets its contract: a turn takes one byte of the chunk.
+-- `rounds::calls::line::read_on` meets its contract: a turn takes one byte of the chunk.
 -- Assumes nothing.
 use mathlib.Core.Path.{_≡_}
 use Prim.Native.Nat.{_-_, _≤_}
 use lib.ListN.{length}
 use borrow.Author.Needs.{needs}
-use Rattle.rounds.proofs.calls.reading.read_on.Statement.{statement}
-use Rattle.rounds.proofs.calls.reading.read_on.Tie as tie
+use Rattle.rounds.proofs.calls.line.read_on.Statement.{statement}
+use Rattle.rounds.proofs.calls.line.read_on.Tie as tie
 
 abbrev Inv-loop : tie.InvT-loop
 Inv-loop chunk from numbers₀ line₀ at₀ numbers line at = (from ≤ at) × (at ≤ length chunk) × (length numbers ≡ length numbers₀)
