@@ -1,34 +1,24 @@
 //! Figures that add up to a count: item 2 of document 02, its words one by one.
 //! Those of item 3 are in signed.rs.
 
-use reference::client::{make_key, End, Stage};
+mod ends;
+
+use ends::PLAN;
+use reference::client::End;
 use reference::field::Element;
 use reference::material::{all_plans, common_use, table, whole_sums};
 use reference::random::Random;
 use reference::scheme::{Plan, Use};
 
-/// Two places: L = 2.
-const PLAN: [u8; 4] = [3, 2, 1, 2];
 const BOUND: Element = 21840;
-const BEFORE: [Element; 2] = [7, 9];
 
-/// A fresh end of airfield 1 with its key, which is all zero.
 fn fresh() -> (End, Vec<Element>) {
-    let plan = Plan::new(PLAN).unwrap();
-    let mut key = vec![1; plan.key_length(1)];
-    make_key(PLAN, 1, &vec![0; plan.list_length()], &mut key).unwrap();
-    (End::start(PLAN, 1, Use::Counts).unwrap(), key)
+    ends::fresh(Use::Counts)
 }
 
-/// The call is refused, and leaves buffer and stage as they were, so that the
-/// bound is then taken.
+/// The bound is taken behind the refusal.
 fn refused(number: u8, key: &[Element], figures: [Element; 2]) {
-    let (mut end, good_key) = fresh();
-    let mut message = BEFORE;
-    let refusal = end.first_message(key, &figures, &mut message).unwrap_err();
-    assert_eq!((refusal.number(), message, end.stage()), (number, BEFORE, Stage::Fresh));
-    end.first_message(&good_key, &[BOUND, 0], &mut message).unwrap();
-    assert_eq!((message, end.stage()), ([BOUND, 0], Stage::Sent));
+    ends::refused(Use::Counts, number, key, figures, [BOUND, 0]);
 }
 
 #[test]

@@ -1,36 +1,26 @@
 //! Figures that fall below zero: item 3 of document 02, its words one by one.
 
-use reference::client::{make_key, End, Stage};
+mod ends;
+
+use ends::{BEFORE, PLAN};
+use reference::client::End;
 use reference::field::Element;
 use reference::material::all_plans;
 use reference::reading::{read_total, residue, residue_of};
-use reference::scheme::{Plan, Use};
+use reference::scheme::Use;
 use std::collections::BTreeSet;
 
-/// Two places: L = 2.
-const PLAN: [u8; 4] = [3, 2, 1, 2];
 /// Of three airfields, and the element that stands for its other end.
 const BOUND: Element = 10920;
 const LEAST: Element = 65521 - 10920;
-const BEFORE: [Element; 2] = [7, 9];
 
-/// A fresh signed end of airfield 1 with its key, which is all zero.
 fn fresh() -> (End, Vec<Element>) {
-    let plan = Plan::new(PLAN).unwrap();
-    let mut key = vec![1; plan.key_length(1)];
-    make_key(PLAN, 1, &vec![0; plan.list_length()], &mut key).unwrap();
-    (End::start(PLAN, 1, Use::Signed).unwrap(), key)
+    ends::fresh(Use::Signed)
 }
 
-/// The call is refused, and leaves buffer and stage as they were, so that both
-/// ends of the bound are then taken.
+/// Both ends of the bound are taken behind the refusal.
 fn refused(number: u8, key: &[Element], figures: [Element; 2]) {
-    let (mut end, good_key) = fresh();
-    let mut message = BEFORE;
-    let refusal = end.first_message(key, &figures, &mut message).unwrap_err();
-    assert_eq!((refusal.number(), message, end.stage()), (number, BEFORE, Stage::Fresh));
-    end.first_message(&good_key, &[BOUND, LEAST], &mut message).unwrap();
-    assert_eq!((message, end.stage()), ([BOUND, LEAST], Stage::Sent));
+    ends::refused(Use::Signed, number, key, figures, [BOUND, LEAST]);
 }
 
 #[test]

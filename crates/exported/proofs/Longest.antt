@@ -18,8 +18,7 @@ use Rattle.scheme.specs.Scheme.{Plan, plan-good, items, places, is-user, in-set
 use Rattle.scheme.specs.Good.{Good}
 use Rattle.scheme.proofs.Tests.{and-both}
 use Rattle.scheme.proofs.Good.{good}
-use Rattle.scheme.proofs.Lists.{in-span}
-use Rattle.scheme.proofs.Pooling.Totals.{all-of-in}
+use Rattle.scheme.proofs.Lists.{in-span, all-of-in}
 use Rattle.plan.specs.Counts.{sets-of}
 use Rattle.plan.specs.Lengths.{row-len, list-len, key-len}
 use Rattle.scheme.proofs.PlanBounds.{places-le}

@@ -22,10 +22,10 @@ use Rattle.scheme.specs.Laws.{Laws}
 use Rattle.scheme.specs.Good.{Good}
 use Rattle.scheme.specs.Solve.{Points, Square, solution-of, fits-of}
 use Rattle.scheme.specs.Totals.{explains-all}
-use Rattle.scheme.proofs.Lists.{map-span-length, in-span, members-once, members-le}
+use Rattle.scheme.proofs.Lists.{map-span-length, in-span, members-once, members-le, all-of-in, in-at}
 use Rattle.scheme.proofs.Sums.{row-value-small}
 use Rattle.scheme.proofs.Sets.{users-in-in, users-in-size}
-use Rattle.scheme.proofs.Pooling.Totals.{all-of-in, in-at, at-apart, unknown, Explained, explained}
+use Rattle.scheme.proofs.Pooling.Totals.{at-apart, unknown, Explained, explained}
 use Rattle.scheme.proofs.Padded.{padded-at, map-at}
 use Rattle.scheme.proofs.Solving.Closed.{points-some}
 use Rattle.scheme.proofs.Solving.Explains.{Block, explains-first, fits-explains, explains-fits}

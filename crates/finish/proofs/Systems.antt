@@ -19,11 +19,11 @@ use Rattle.scheme.specs.Scheme.{Arithmetic, elements, Plan, users-in}
 use Rattle.scheme.specs.Laws.{Laws}
 use Rattle.scheme.specs.Solve.{Points, Weighted, unknown-at, solution-of, value-of, fits-of, cell, block, unknowns-of, row-fits}
 use Rattle.scheme.specs.Totals.{explains-all}
-use Rattle.scheme.proofs.Lists.{map-span-at, span-in, in-span}
+use Rattle.scheme.proofs.Lists.{map-span-at, span-in, in-span, all-of-in, at-all-of, all-of-same, in-at, all-of-swap}
 use Rattle.scheme.proofs.Sums.{zero-small}
 use Rattle.scheme.proofs.Keys.{elements-at, elements-every}
 use Rattle.scheme.proofs.Tests.{is-false, holds, same-test}
-use Rattle.scheme.proofs.Pooling.Totals.{all-of-in, at-all-of, all-of-same, all-of-swap, in-at, explained, explained-back}
+use Rattle.scheme.proofs.Pooling.Totals.{explained, explained-back}
 use Rattle.scheme.proofs.Padded.{filled-at}
 use Rattle.scheme.proofs.Solving.Grids.{block-at, grid-at, grid-small}
 use Rattle.scheme.proofs.Weighed.{weighed-same}

@@ -7,7 +7,7 @@
 --   reach-element, bound-element      the reach of a use, and the bound of its figures, are elements
 --   within-elements, near-elements, figures-elements    so numbers within less, those near zero, and figures are elements
 -- Assumes nothing.
-use mathlib.Core.Path.{_≡_, refl, sym, ap, ap₂, _∙_}
+use mathlib.Core.Path.{_≡_, refl, sym, ap, _∙_}
 use mathlib.Core.Logic.{inl, inr}
 use mathlib.Core.Bool.{Bool, true, false, _&&_, _||_}
 use mathlib.Core.List.{List, [], _∷_, map}
@@ -23,6 +23,7 @@ use borrow.Author.Tests.{ltb-true, lt-ltb, leb-true, le-leb, lt-leb, eqb-true, e
 use Rattle.algebra.specs.Sums.{In}
 use Rattle.scheme.specs.Lists.{all-of}
 use Rattle.scheme.specs.Scheme.{Arithmetic, elements, within, is-near, near, Plan, Use, counts, signed, reach, figure-bound, figures-good}
+use Rattle.scheme.proofs.Lists.{all-of-same, all-of-part}
 use Rattle.scheme.proofs.Tests.{same-test, and-both, and-joined, and-false}
 
 pub neither : (a b : ℕ) → bitOr a b ≡ 0 → (a ≡ 0) × (b ≡ 0)
@@ -101,17 +102,13 @@ module _ (most : ℕ) where
 
 module _ (A : Arithmetic) (some : 0 < A .size) where
   pub elements-within : (xs : List ℕ) → elements A xs ≡ within (A .size - 1) xs
-  unfolding elements within all-of
-  elements-within [] = refl
-  elements-within (x ∷ xs) = ap₂ _&&_ (same-test _ _ (λ e. le-leb x (A .size - 1) (omega (arith, ltb-true x (A .size) e)))
-      (λ e. lt-ltb x (A .size) (omega (arith, leb-true x (A .size - 1) e)))) (elements-within xs)
+  unfolding elements within
+  elements-within xs = all-of-same _ _ xs (λ x m. same-test _ _ (λ e. le-leb x (A .size - 1) (omega (arith, ltb-true x (A .size) e)))
+      (λ e. lt-ltb x (A .size) (omega (arith, leb-true x (A .size - 1) e))))
 
   pub within-elements : (most : ℕ) → most ≤ A .size - 1 → (xs : List ℕ) → within most xs ≡ true → elements A xs ≡ true
-  unfolding elements within all-of
-  within-elements most less [] h = refl
-  within-elements most less (x ∷ xs) h =
-      let t = and-both (leb x most) (within most xs) h in
-      and-joined (lt-ltb x (A .size) (omega (arith, leb-true x most (t .0)))) (within-elements most less xs (t .1))
+  unfolding elements within
+  within-elements most less xs = all-of-part _ _ xs xs (λ x m. m) (λ x m e. lt-ltb x (A .size) (omega (arith, leb-true x most e)))
 
   is-near-element : (most x : ℕ) → most ≤ A .size - 1 → is-near A most x ≡ true → ltb x (A .size) ≡ true
   unfolding is-near
@@ -122,11 +119,8 @@ module _ (A : Arithmetic) (some : 0 < A .size) where
       go false e d = and-both (leb (A .size - most) x) (ltb x (A .size)) d .1
 
   pub near-elements : (most : ℕ) → most ≤ A .size - 1 → (xs : List ℕ) → near A most xs ≡ true → elements A xs ≡ true
-  unfolding elements near all-of
-  near-elements most less [] h = refl
-  near-elements most less (x ∷ xs) h =
-      let t = and-both (is-near A most x) (near A most xs) h in
-      and-joined (is-near-element most x less (t .0)) (near-elements most less xs (t .1))
+  unfolding elements near
+  near-elements most less xs = all-of-part _ _ xs xs (λ x m. m) (λ x m. is-near-element most x less)
 
   pub reach-element : (u : Use) → reach A u ≤ A .size - 1
   unfolding reach

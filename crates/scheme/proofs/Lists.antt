@@ -1,4 +1,4 @@
--- Laws of span, members, rank and rows.
+-- Laws of span, members, rank, rows and all-of.
 --   span-append, span-in, in-span, span-once, span-length       the n numbers from k on
 --   span-start, span-more, span-end                             those from i on, of n: all, one and the others, none
 --   map-same, map-span-length, map-span-at                      maps over them
@@ -6,6 +6,8 @@
 --   members-append, members-in, in-members, members-once, members-fewer, members-le     those that pass a test
 --   rank-start, rank-more, rank-at, rank-lt                      how many below v pass
 --   rows-same, rows-append, rows-length, rows-at                        one list for each number
+--   all-of-in, at-all-of, all-of-same, all-of-swap, all-of-part         a test of each number of a list; of every pair of two lists; a weaker one
+--   in-at                                                       the number at a place of a list
 --   sets-append, sets-more, sets-whole                          lists written one behind the other; one word more of a map; all of a list
 --   zeros-at                                                    a list of zeros
 --   high, low, digits-lt                                        a number of two digits
@@ -22,8 +24,8 @@ use native.Mathlib.Omega.{arith}
 use lib.ListN.{length, getD, take, drop, set, replicate, length-append, drop-of-length-le}
 use lib.Seq.{sets, sets-eq, take-at, drop-at, getD-at}
 use Rattle.algebra.specs.Sums.{In, Distinct}
-use Rattle.scheme.specs.Lists.{span, keep, members, rank, rows}
-use Rattle.scheme.proofs.Tests.{holds}
+use Rattle.scheme.specs.Lists.{span, keep, members, rank, rows, all-of}
+use Rattle.scheme.proofs.Tests.{holds, same-test, and-both, and-joined}
 
 -- ---- span
 pub span-append : (m n k : ℕ) → span (m + n) k ≡ span m k ++ span n (k + m)
@@ -220,3 +222,37 @@ low a b n h = mul-add-mod-self-right a n b ∙ mod-eq-of-lt h
 
 pub digits-lt : (a m b n : ℕ) → a < m → b < n → a * n + b < m * n
 digits-lt a m b n h l = omega (arith, mul-le-mul-right n h, suc-mul a n)
+
+-- ---- a test of each number of a list
+pub all-of-in : (t : ℕ → Bool) (l : List ℕ) → all-of t l ≡ true → (k : ℕ) → In k l → t k ≡ true
+unfolding all-of
+all-of-in t [] h k m = absurd m
+all-of-in t (i ∷ l) h k (inl e) = ap t e ∙ and-both (t i) (all-of t l) h .0
+all-of-in t (i ∷ l) h k (inr m) = all-of-in t l (and-both (t i) (all-of t l) h .1) k m
+
+pub at-all-of : (t : ℕ → Bool) (l : List ℕ) → ((a : ℕ) → a < length l → t (getD l a 0) ≡ true) → all-of t l ≡ true
+unfolding all-of
+at-all-of t [] h = refl
+at-all-of t (k ∷ l) h = and-joined (h 0 (omega arith)) (at-all-of t l (λ a i. h (suc a) (omega arith)))
+
+pub all-of-same : (s t : ℕ → Bool) (l : List ℕ) → ((k : ℕ) → In k l → s k ≡ t k) → all-of s l ≡ all-of t l
+unfolding all-of
+all-of-same s t [] h = refl
+all-of-same s t (k ∷ l) h = ap₂ (λ (a b : Bool). a && b) (h k (inl refl)) (all-of-same s t l (λ i m. h i (inr m)))
+
+pub in-at : (l : List ℕ) (a : ℕ) → a < length l → In (getD l a 0) l
+in-at [] a i = absurd (omega arith)
+in-at (k ∷ l) zero i = inl refl
+in-at (k ∷ l) (suc a) i = inr (in-at l a (omega arith))
+
+-- a test of every pair of two lists, by either first
+pub all-of-swap : (s : (a b : ℕ) → Bool) (ks bs : List ℕ) → all-of (λ a. all-of (s a) bs) ks ≡ all-of (λ b. all-of (λ a. s a b) ks) bs
+all-of-swap s ks bs = same-test _ _ (turn s ks bs) (turn (λ b a. s a b) bs ks)
+  where
+    turn : (s : (a b : ℕ) → Bool) (ks bs : List ℕ) → all-of (λ a. all-of (s a) bs) ks ≡ true → all-of (λ b. all-of (λ a. s a b) ks) bs ≡ true
+    turn s ks bs h = at-all-of _ bs (λ j l. at-all-of _ ks (λ i k. all-of-in (s (getD ks i 0)) bs (all-of-in _ ks h _ (in-at ks i k)) _ (in-at bs j l)))
+
+-- a weaker test of a part of a list
+pub all-of-part : (t u : ℕ → Bool) (l m : List ℕ) → ((k : ℕ) → In k m → In k l) → ((k : ℕ) → In k m → t k ≡ true → u k ≡ true) →
+    all-of t l ≡ true → all-of u m ≡ true
+all-of-part t u l m sub step h = at-all-of u m (λ a i. let j = in-at m a i in step _ j (all-of-in t l h _ (sub _ j)))

@@ -14,7 +14,7 @@ use mathlib.Core.Logic.{inl, inr}
 use mathlib.Core.Bool.{Bool, true, false, cond, _||_}
 use mathlib.Core.List.{List, [], _∷_, map}
 use Prim.Native.Nat.{ℕ, zero, suc, _+_, _*_, _-_, _%_, _≤_, _<_}
-use native.Mathlib.Nat.{zero-mod, mod-zero, mod-lt, mod-self, suc-mod, mod-mod, mod-add-mod, add-mod-mod, add-mod-right, mod-eq-of-lt, add-zero, div-mul-le-self}
+use native.Mathlib.Nat.{zero-mod, mod-zero, mod-lt, mod-self, suc-mod, mod-add-mod, add-mod-mod, add-mod-right, mod-eq-of-lt, add-zero, div-mul-le-self}
 use native.Mathlib.Numerals.{add-one}
 use native.Mathlib.Omega.{arith}
 use lib.Dec.{leb, ltb}

@@ -15,8 +15,7 @@ use borrow.Author.Tests.{le-leb, lt-ltb}
 use Rattle.scheme.specs.Limits.{most-users, most-threshold}
 use Rattle.scheme.specs.Lists.{span, all-of}
 use Rattle.scheme.specs.Service.{is-held, set-of}
-use Rattle.scheme.proofs.Lists.{span-in}
-use Rattle.scheme.proofs.Pooling.Totals.{all-of-same}
+use Rattle.scheme.proofs.Lists.{span-in, all-of-same}
 use Rattle.service.specs.View.{look, row-held}
 use Rattle.service.proofs.View.{stored-held}
 

@@ -5,7 +5,7 @@
 -- Assumes nothing.
 use mathlib.Core.Path.{_≡_, refl, sym, ap, _∙_}
 use mathlib.Core.Logic.{_⊎_, inl, inr}
-use mathlib.Core.Bool.{Bool, true, false, _&&_}
+use mathlib.Core.Bool.{true, false, _&&_}
 use mathlib.Core.List.{List}
 use Prim.Native.Nat.{ℕ, _/_, _%_, _≤_, _<_}
 use native.Mathlib.Nat.{mul-zero, div-lt-iff-lt-mul, lt-of-mul-lt-mul-left}
@@ -13,21 +13,17 @@ use native.Mathlib.Omega.{arith}
 use lib.Dec.{eqb}
 use lib.ListN.{length, getD}
 use Rattle.algebra.specs.Sums.{In}
-use Rattle.scheme.specs.Lists.{span, all-of}
+use Rattle.scheme.specs.Lists.{span}
 use Rattle.scheme.specs.Scheme.{Arithmetic, elements, sum, Plan, items, places, in-set, ones, users-in}
 use Rattle.scheme.specs.Totals.{explains, explains-all, total-of, totals, Choice, One-choice, Some-choice}
 use Rattle.scheme.specs.Laws.{Laws}
 use Rattle.scheme.proofs.Tests.{holds, and-both, and-joined}
-use Rattle.scheme.proofs.Lists.{span-in, map-below-same, in-members}
+use Rattle.scheme.proofs.Lists.{span-in, map-below-same, in-members, all-of-part}
 use Rattle.scheme.proofs.Sets.{users-in-in}
 use Rattle.scheme.proofs.Pooling.Held.{part}
-use Rattle.scheme.proofs.Pooling.Totals.{all-of-in, at-all-of, in-at, one-choice, some-choice}
+use Rattle.scheme.proofs.Pooling.Totals.{one-choice, some-choice}
 
 -- a test that holds of each number of a list, so another of each number of a part
-all-of-part : (t u : ℕ → Bool) (l m : List ℕ) → ((k : ℕ) → In k m → In k l) → ((k : ℕ) → In k m → t k ≡ true → u k ≡ true) →
-    all-of t l ≡ true → all-of u m ≡ true
-all-of-part t u l m sub step h = at-all-of u m (λ a i. let j = in-at m a i in step _ j (all-of-in t l h _ (sub _ j)))
-
 module _ (A : Arithmetic) (p : Plan) (y : (k block : ℕ) → ℕ) where
   choice-same : (r : ℕ) (f g : (block : ℕ) → List ℕ) → ((b : ℕ) → b < p .blocks → f b ≡ g b) → explains-all A p r y f ≡ true → explains-all A p r y g ≡ true
   unfolding explains-all

@@ -18,8 +18,7 @@ use Rattle.scheme.specs.Lists.{span, all-of}
 use Rattle.scheme.specs.Scheme.{Plan, in-set, ones}
 use Rattle.scheme.specs.Service.{is-held, element-of, with-element, set-of, complete-set, values}
 use Rattle.scheme.proofs.Tests.{and-both, holds}
-use Rattle.scheme.proofs.Lists.{high, low, in-span}
-use Rattle.scheme.proofs.Pooling.Totals.{all-of-in}
+use Rattle.scheme.proofs.Lists.{high, low, in-span, all-of-in}
 
 -- ---- the lowest bit, and the others
 abbrev bit : Bool → ℕ

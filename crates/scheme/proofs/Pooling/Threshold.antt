@@ -24,13 +24,13 @@ use Rattle.scheme.specs.Totals.{explains}
 use Rattle.scheme.specs.Laws.{Laws}
 use Rattle.scheme.specs.Sharp.{smallest, Threshold-needed, Sums-open}
 use Rattle.scheme.proofs.Tests.{and-joined}
-use Rattle.scheme.proofs.Lists.{span-in, map-span-length, map-span-at, members-once}
+use Rattle.scheme.proofs.Lists.{span-in, map-span-length, map-span-at, members-once, at-all-of, in-at}
 use Rattle.scheme.proofs.Sums.{el-same, row-value-el, row-value-small}
 use Rattle.scheme.proofs.Sets.{user-in, users-in-size}
 use Rattle.scheme.proofs.Keys.{elements-map}
 use Rattle.scheme.proofs.Laws.{system-of}
 use Rattle.scheme.proofs.Modular.{sixteen-laws}
-use Rattle.scheme.proofs.Pooling.Totals.{at-all-of, in-at, unknown}
+use Rattle.scheme.proofs.Pooling.Totals.{unknown}
 
 module _ (A : Arithmetic) (p : Plan) (L : Laws A (p .users) (p .threshold)) (r : ℕ) (y : (k : ℕ) → ℕ) (c : ℕ)
     (fewer : ones (p .users) r + 1 ≡ p .threshold) where

@@ -1,7 +1,6 @@
 -- Demand 2 of one round: U replies settle the sums and the noise, and with them the total.
---   all-of-in, at-all-of, all-of-same  a test of each number of a list
 --   all-of-more, all-of-stop, all-of-end     of the numbers from i on: i passes, i does not, none is left
---   in-at, at-apart, all-of-swap       the number at a place; a test of every pair, by either first
+--   at-apart                           two places of a list without repeats
 --   Enough, enough                     rows of at least U users
 --   Explained, explained, explained-back     what `explains` says, for the first rows of a list
 --   columns-known, one-explained       U rows settle U columns
@@ -11,7 +10,7 @@
 --   residues-right, totals-right       and what explains them gives the survivors' total, in the arithmetic and as a whole number
 -- Assumes nothing.
 use mathlib.Core.Path.{_≡_, refl, sym, ap, ap₂, _∙_}
-use mathlib.Core.Logic.{_≢_, inl, inr}
+use mathlib.Core.Logic.{_≢_}
 use mathlib.Core.Bool.{Bool, true, false, _&&_, cond}
 use mathlib.Core.List.{List, [], _∷_, map}
 use Prim.Native.Nat.{ℕ, zero, suc, _+_, _*_, _-_, _/_, _%_, _≤_, _<_}
@@ -32,29 +31,13 @@ use Rattle.scheme.specs.Scheme.{Arithmetic, elements, sum, Plan, items, 
 use Rattle.scheme.specs.Promise.{Table, list-good}
 use Rattle.scheme.specs.Totals.{explains, explains-all, total-of, totals, Follows, One-choice, Residues-right, Totals-right, Some-choice, Rules-explain}
 use Rattle.scheme.specs.Laws.{Laws, Adds-whole}
-use Rattle.scheme.proofs.Tests.{and-both, and-joined, same-test}
-use Rattle.scheme.proofs.Lists.{span-in, in-span, span-once, span-length, span-more, span-end, map-below-same, map-span-length, map-span-at, map-below-at, members-once}
+use Rattle.scheme.proofs.Tests.{and-both, and-joined}
+use Rattle.scheme.proofs.Lists.{span-in, in-span, span-once, span-length, span-more, span-end, map-below-same, map-span-length, map-span-at, map-below-at, members-once, all-of-in, at-all-of, in-at}
 use Rattle.scheme.proofs.Sums.{el-same, zero-small, sum-same, sum-el, sum-small, row-value-el, row-value-small}
 use Rattle.scheme.proofs.Sets.{users-in-in, user-in, users-in-size}
 use Rattle.scheme.proofs.Laws.{system-of}
 use Rattle.scheme.proofs.Whole.{total-fits, totals-whole}
 use Rattle.scheme.proofs.Keys.{each-at, key-mask, key-reply, elements-at, elements-map, list-elements}
-
-pub all-of-in : (t : ℕ → Bool) (l : List ℕ) → all-of t l ≡ true → (k : ℕ) → In k l → t k ≡ true
-unfolding all-of
-all-of-in t [] h k m = absurd m
-all-of-in t (i ∷ l) h k (inl e) = ap t e ∙ and-both (t i) (all-of t l) h .0
-all-of-in t (i ∷ l) h k (inr m) = all-of-in t l (and-both (t i) (all-of t l) h .1) k m
-
-pub at-all-of : (t : ℕ → Bool) (l : List ℕ) → ((a : ℕ) → a < length l → t (getD l a 0) ≡ true) → all-of t l ≡ true
-unfolding all-of
-at-all-of t [] h = refl
-at-all-of t (k ∷ l) h = and-joined (h 0 (omega arith)) (at-all-of t l (λ a i. h (suc a) (omega arith)))
-
-pub all-of-same : (s t : ℕ → Bool) (l : List ℕ) → ((k : ℕ) → In k l → s k ≡ t k) → all-of s l ≡ all-of t l
-unfolding all-of
-all-of-same s t [] h = refl
-all-of-same s t (k ∷ l) h = ap₂ (λ (a b : Bool). a && b) (h k (inl refl)) (all-of-same s t l (λ i m. h i (inr m)))
 
 module _ (t : ℕ → Bool) (n i : ℕ) where
   pub all-of-more : i < n → t i ≡ true → all-of t (span (n - (i + 1)) (i + 1)) ≡ all-of t (span (n - i) i)
@@ -68,18 +51,6 @@ module _ (t : ℕ → Bool) (n i : ℕ) where
   pub all-of-end : n ≤ i → all-of t (span (n - i) i) ≡ true
   unfolding all-of
   all-of-end h = rw (span-end n i h)
-
-pub in-at : (l : List ℕ) (a : ℕ) → a < length l → In (getD l a 0) l
-in-at [] a i = absurd (omega arith)
-in-at (k ∷ l) zero i = inl refl
-in-at (k ∷ l) (suc a) i = inr (in-at l a (omega arith))
-
--- a test of every pair of two lists, by either first
-pub all-of-swap : (s : (a b : ℕ) → Bool) (ks bs : List ℕ) → all-of (λ a. all-of (s a) bs) ks ≡ all-of (λ b. all-of (λ a. s a b) ks) bs
-all-of-swap s ks bs = same-test _ _ (turn s ks bs) (turn (λ b a. s a b) bs ks)
-  where
-    turn : (s : (a b : ℕ) → Bool) (ks bs : List ℕ) → all-of (λ a. all-of (s a) bs) ks ≡ true → all-of (λ b. all-of (λ a. s a b) ks) bs ≡ true
-    turn s ks bs h = at-all-of _ bs (λ j l. at-all-of _ ks (λ i k. all-of-in (s (getD ks i 0)) bs (all-of-in _ ks h _ (in-at ks i k)) _ (in-at bs j l)))
 
 pub at-apart : (l : List ℕ) → Distinct l → (a b : ℕ) → a < length l → b < length l → a ≢ b → getD l a 0 ≢ getD l b 0
 at-apart [] d a b i j ne = absurd (omega arith)

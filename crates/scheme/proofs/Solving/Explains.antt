@@ -17,10 +17,10 @@ use Rattle.scheme.specs.Lists.{span, padded, filled}
 use Rattle.scheme.specs.Scheme.{Arithmetic, Plan, row-value}
 use Rattle.scheme.specs.Laws.{Laws}
 use Rattle.scheme.specs.Solve.{Square, unknown-at, solution-of, value-of, fits-of}
-use Rattle.scheme.proofs.Lists.{span-in, in-span, map-span-length}
+use Rattle.scheme.proofs.Lists.{span-in, in-span, map-span-length, all-of-in, at-all-of, in-at}
 use Rattle.scheme.proofs.Sums.{sum-same}
 use Rattle.scheme.proofs.Keys.{elements-map}
-use Rattle.scheme.proofs.Pooling.Totals.{all-of-in, at-all-of, in-at, unknown, Explained}
+use Rattle.scheme.proofs.Pooling.Totals.{unknown, Explained}
 use Rattle.scheme.proofs.Solving.Closed.{value-row, solve-right}
 
 -- the values of m users, in order; U of them are solved for
