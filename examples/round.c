@@ -1,6 +1,6 @@
 /* Document 01's example round through the library, from C: the random list from raw bytes, keys, first messages, the service, the
- * replies to set 5, the total 40, the largest figure, a call for each refusal, and a round of signed figures. Prints what it gets on
- * standard error; exit status 1 where anything is not as expected. */
+ * replies to set 5, the total 40, where the shares for each set start, the largest figure, a call for each refusal, and a round of signed
+ * figures. Prints what it gets on standard error; exit status 1 where anything is not as expected. */
 #include <inttypes.h>
 #include <stdio.h>
 #include <string.h>
@@ -163,6 +163,63 @@ static void run_round(void)
     expect("finish", cutawheno_service_finish(LEND(s), totals), CUTAWHENO_TAKEN);
     expect_row("totals", totals, expected, CUTAWHENO_MOST_PLACES);
     expect_same("finished", &s, &(Service){{CUTAWHENO_IDLE, PLAN, PLACES, ROUND, 0}, {0}, {0}});
+}
+
+/* Of a set, as asked and as a reply names it: a sent end of the user answers it with the same number and start. */
+static void expect_start(const char *what, const uint32_t plan[4], uint32_t user, uint32_t set, uint32_t number, uint32_t start)
+{
+    static const uint16_t key[CUTAWHENO_LONGEST_KEY];
+    const size_t key_len = cutawheno_key_len(plan[0], plan[1], plan[2], plan[3]);
+    uint32_t end[CUTAWHENO_END] = {plan[0], plan[1], plan[2], plan[3], user, CUTAWHENO_SENT, CUTAWHENO_COUNTS, 0};
+    CutawhenoStart found = cutawheno_reply_start(plan[0], plan[1], plan[2], plan[3], user, set);
+    CutawhenoPart part = {number, start, number == CUTAWHENO_TAKEN ? plan[3] : 0};
+
+    expect(what, found.number, number);
+    expect(what, found.start, start);
+    expect_part(what, cutawheno_end_reply(key, key_len, end, set), part);
+}
+
+/* Where the shares start: document 01's keys are a mask and a share for each of three sets; of large plans, airfield 1's first set, behind
+ * 16 masks and behind 96, and its last. */
+static void run_starts(void)
+{
+    static const uint32_t plan[] = {PLAN}, large[] = {8, 2, 1, 16}, long_row[] = {8, 7, 1, 16};
+    static const uint32_t sets[USERS][3] = {{3, 5, 7}, {3, 6, 7}, {5, 6, 7}};
+
+    for (uint32_t user = 1; user <= USERS; user++)
+        for (uint32_t share = 0; share < 3; share++)
+            expect_start("start", plan, user, sets[user - 1][share], CUTAWHENO_TAKEN, 1 + share);
+    expect_start("first set", large, 1, 3, CUTAWHENO_TAKEN, 16);
+    expect_start("last set", large, 1, 255, CUTAWHENO_TAKEN, 2032);
+    expect_start("first set behind a long row", long_row, 1, 127, CUTAWHENO_TAKEN, CUTAWHENO_MOST_PLACES);
+}
+
+/* Each refusal, the earliest where several apply, with the start 0. */
+static void run_start_refusals(void)
+{
+    static const uint32_t plan[] = {PLAN}, bad[] = {3, 3, 1, 1}, too_long[] = {3, 2, 1, 17};
+
+    expect_start("bad plan", bad, 1, 7, CUTAWHENO_BAD_PLAN, 0);
+    expect_start("17 blocks", too_long, 1, 5, CUTAWHENO_BAD_PLAN, 0);
+    expect_start("bad plan, no user", bad, 0, 7, CUTAWHENO_BAD_PLAN, 0);
+    expect_start("bad plan, no set", bad, 1, 0, CUTAWHENO_BAD_PLAN, 0);
+    expect_start("bad plan, set of others", too_long, 1, 6, CUTAWHENO_BAD_PLAN, 0);
+    expect_start("user 0", plan, 0, 7, CUTAWHENO_BAD_USER, 0);
+    expect_start("user 4", plan, 4, 7, CUTAWHENO_BAD_USER, 0);
+    expect_start("last user", plan, UINT32_MAX, 7, CUTAWHENO_BAD_USER, 0);
+    expect_start("user 4, too few", plan, 4, 8, CUTAWHENO_BAD_USER, 0);
+    expect_start("user 4, set with it", plan, 4, 9, CUTAWHENO_BAD_USER, 0);
+    expect_start("no members", plan, 1, 0, CUTAWHENO_SET_UNUSABLE, 0);
+    expect_start("too few", plan, 1, 1, CUTAWHENO_SET_UNUSABLE, 0);
+    expect_start("too few, of others", plan, 1, 4, CUTAWHENO_SET_UNUSABLE, 0);
+    expect_start("member 4", plan, 1, 9, CUTAWHENO_SET_UNUSABLE, 0);
+    expect_start("member 4, of others", plan, 1, 10, CUTAWHENO_SET_UNUSABLE, 0);
+    expect_start("member 9", plan, 1, 256 + 5, CUTAWHENO_SET_UNUSABLE, 0);
+    expect_start("member 17", plan, 1, 65536 + 5, CUTAWHENO_SET_UNUSABLE, 0);
+    expect_start("last set number", plan, 1, UINT32_MAX, CUTAWHENO_SET_UNUSABLE, 0);
+    expect_start("set without 1", plan, 1, 6, CUTAWHENO_NOT_IN_SET, 0);
+    expect_start("set without 2", plan, 2, 5, CUTAWHENO_NOT_IN_SET, 0);
+    expect_start("set without 3", plan, 3, 3, CUTAWHENO_NOT_IN_SET, 0);
 }
 
 /* What the key maker refuses leaves its buffer as it came. */
@@ -405,6 +462,8 @@ int main(void)
     expect("version", CUTAWHENO_VERSION, 900);
     run_list();
     run_round();
+    run_starts();
+    run_start_refusals();
     run_key_refusals();
     run_end_refusals();
     run_figures();

@@ -1,5 +1,5 @@
-/* Key maker, airfield end and pooling service of document 01, and of document 02 the random list from raw bytes, the bound of figures and
- * signed figures, for C: the functions that crates/capi exports (rt staticlib capi gives libcapi.a).
+/* Key maker, airfield end and pooling service of document 01, and of document 02 the random list from raw bytes, the bound of figures,
+ * signed figures and finding a set's shares, for C: the functions that crates/capi exports (rt staticlib capi gives libcapi.a).
  *
  * A plan is four numbers: users (K), threshold (U), collusion (T) and blocks (M). A user is an airfield's number, 1 to K; a set of
  * users is a number whose bit k - 1 stands for user k. An element is a number below CUTAWHENO_Q. A row of figures, and a first
@@ -133,6 +133,12 @@ enum {
     CUTAWHENO_FIGURE_BEYOND = 32  /* a count above 65520 / users, or a signed figure further from zero than 32760 / users, rounded down */
 };
 
+/* What finding a set's shares answers: the refusal or 0; where in the user's key they start, 0 after a refusal. */
+typedef struct {
+    uint32_t number;
+    uint32_t start;
+} CutawhenoStart;
+
 /* What a reply answers: the refusal or 0; the shares, which are the `count` elements of the key from `start` on (none after a
  * refusal). */
 typedef struct {
@@ -178,6 +184,13 @@ uint32_t cutawheno_figure_bound(uint32_t users, uint32_t threshold, uint32_t col
 /* How far from zero, below and above, a signed figure of a plan may lie: 32760 / users, rounded down; 0 for a plan outside its ranges. */
 CUTAWHENO_ANSWER
 uint32_t cutawheno_signed_bound(uint32_t users, uint32_t threshold, uint32_t collusion, uint32_t blocks);
+
+/* Tells where in the user's key the shares for a set start: they are the `blocks` elements from there on, behind the masks and the shares
+ * for the smaller usable sets that hold the user. No key is looked at, and no share handed out. cutawheno_end_reply names the same place;
+ * send shares only as it names them, since it is the end that refuses a second set.
+ * Refusals, the earliest: BAD_PLAN, BAD_USER, SET_UNUSABLE, NOT_IN_SET. */
+CUTAWHENO_ANSWER
+CutawhenoStart cutawheno_reply_start(uint32_t users, uint32_t threshold, uint32_t collusion, uint32_t blocks, uint32_t user, uint32_t set);
 
 /* Fills the random list of a plan from raw random bytes: two bytes are a number, low byte first, each number above 65520 is skipped, and
  * bytes behind the last element of the list are unused, as is a byte that stands alone. The list has cutawheno_list_len elements; the

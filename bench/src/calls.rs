@@ -83,6 +83,16 @@ pub fn measure_reply(p: Plan) -> [f64; 2] {
     )
 }
 
+/// Where in a user's key the shares for a set start.
+pub fn measure_lookup(p: Plan, user: u32, set: u32) -> [f64; 2] {
+    let rust = black_box(Plan::find_reply as fn(Plan, u32, u32) -> Result<usize, u32>);
+    assert_eq!(ours(p).reply_start(user, set).ok(), rust(p, user, set).ok(), "set {set} under {}", named(p));
+    duel(
+        || assert!(black_box(ours(p).reply_start(user, set)).is_ok()),
+        || assert!(black_box(rust(p, user, set)).is_ok()),
+    )
+}
+
 /// Both services with a round open.
 fn opened(p: Plan) -> (cutawheno::Service, Service) {
     let (mut service, mut rust) = (cutawheno::Service::new(), Service::new());

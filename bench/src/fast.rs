@@ -1,4 +1,4 @@
-//! Document 01, and items 1 to 3 of document 02, in plain Rust, written for speed: the algorithms, tests and order of refusals of the
+//! Document 01, and items 1 to 4 of document 02, in plain Rust, written for speed: the algorithms, tests and order of refusals of the
 //! proved crates. Every call answers 0, or the number of its refusal, and then changes nothing.
 #![allow(dead_code)] // each program uses its part
 
@@ -122,8 +122,18 @@ impl Plan {
 
     /// The shares for a set of the plan's users start behind those for the smaller usable sets that hold the user.
     fn reply_start(self, user: u32, set: u32) -> usize {
-        let before: u32 = (0..set).map(|v| (self.threshold <= v.count_ones()) as u32 & v >> (user - 1)).sum();
+        let before: u32 = (0..set).map(|v| (holds(v, user) && self.threshold <= v.count_ones()) as u32).sum();
         self.places() + (before * self.blocks) as usize
+    }
+
+    /// The same of any plan, user and set, or the refusal's number.
+    pub fn find_reply(self, user: u32, set: u32) -> Result<usize, u32> {
+        match self.start_refusal(user) {
+            0 if !self.is_usable(set) => Err(5),
+            0 if !holds(set, user) => Err(6),
+            0 => Ok(self.reply_start(user, set)),
+            number => Err(number),
+        }
     }
 
     pub fn key_len(self) -> usize {

@@ -10,7 +10,7 @@ mod report;
 mod rounds;
 mod timing;
 
-use fast::Use;
+use fast::{Plan, Use};
 use report::Report;
 use rounds::{named, plan, Random, Round};
 use std::fs;
@@ -40,6 +40,7 @@ fn main() {
     for p in plans {
         report.call("reply", p, calls::measure_reply(p));
     }
+    measure_lookups(&mut report, p);
     for p in plans {
         report.call("first element", p, calls::measure_element(p));
     }
@@ -54,6 +55,17 @@ fn main() {
     program::measure(&mut report);
     report.proofs = proofs();
     report.write(&method());
+}
+
+/// The first and the last set of user 1.
+fn measure_lookups(report: &mut Report, p: Plan) {
+    report.lookups = [3, 255].map(|set| {
+        let times = calls::measure_lookup(p, 1, set);
+        report.call(&format!("lookup of set {set}"), p, times);
+        times[0]
+    });
+    let [near, far] = report.lookups;
+    eprintln!("lookups: set 3 in {near:.1} ns, set 255 in {far:.1} ns, {:.1} times as long", far / near);
 }
 
 /// What bench/proofs wrote: users and seconds.

@@ -17,6 +17,8 @@ pub struct Report {
     streams: Vec<(String, usize, usize, [f64; 3])>,
     /// KiB of ours and of Rust.
     pub memory: [u32; 2],
+    /// Nanoseconds of our lookups of user 1's sets 3 and 255 under 8 2 1 16.
+    pub lookups: [f64; 2],
     /// Plan, nanoseconds of our finish, and of FLINT block by block and by columns.
     pub solver: Vec<(String, f64, Option<[f64; 2]>)>,
     /// Users, nanoseconds of a key by ours and by Rust.
@@ -63,6 +65,11 @@ impl Report {
         for (name, [ours, rust]) in &self.calls {
             line(&format!("| {name} | {ours:.0} | {rust:.0} | {:.2} |", ours / rust));
         }
+        line("\n## Finding a reply\n");
+        line("A lookup goes through the set numbers and stops at the announced set: the first and the last set of airfield 1, by our calls of the rows above.\n");
+        line("| plan | set 3, ns | set 255, ns | times as long |\n|---|---|---|---|");
+        let [near, far] = self.lookups;
+        line(&format!("| 8 2 1 16 | {near:.1} | {far:.1} | {:.1} |", far / near));
         line("\n## Solving a round\n");
         line("A whole finish of ours, with its tests, the sums of the first messages and the clearing of the state, beside FLINT's `nmod_mat_solve` on the same systems modulo 65521 in matrices that are already filled; where more than U reply, FLINT sees by `nmod_mat_mul` and `nmod_mat_equal` whether the unknowns explain the others, as finish does. By block: M systems with one right side each; by columns, its best shape: one system with M right sides. Here a number above 1 says how many times faster ours is.\n");
         line("| plan and replies | our finish, ns | FLINT by block, ns | times | FLINT by columns, ns | times |\n|---|---|---|---|---|---|");

@@ -4,6 +4,8 @@
 //! - `list_from_bytes`: a random list from raw bytes, which document 02 adds as
 //!   item 1, refusals 1, 2, 31
 //! - `make_key`: the key maker, refusals 1, 4, 2, 3
+//! - `reply_start`: where in its key an airfield's shares for a set start, which
+//!   document 02's item 4 looks up, refusals 1, 4, 5, 6
 //! - `End`, `Stage`: an airfield end, its plan, number, use and stage
 //! - `End::start`: a fresh end, refusals 1, 4
 //! - `End::first_message`: refusals 18, 2, 3, and 32, which document 02 adds as
@@ -43,6 +45,15 @@ pub fn make_key(
     refuse_if(!all_elements(list), Refusal::NotElement)?;
     key.copy_from_slice(&scheme::key(&RandomList { plan: &plan, elements: list }, airfield));
     Ok(())
+}
+
+/// It needs no key: plan, airfield and set fix the place.
+pub fn reply_start(plan: [u8; 4], airfield: u8, set: Set) -> Result<usize, Refusal> {
+    let plan = Plan::new(plan)?;
+    refuse_if(!plan.has_airfield(airfield), Refusal::AirfieldNumber)?;
+    refuse_if(!plan.usable(set), Refusal::SetNotUsable)?;
+    refuse_if(!holds(set, airfield), Refusal::NotInSet)?;
+    Ok(scheme::reply_part(&plan, airfield, set).start)
 }
 
 #[derive(Clone, Copy, Debug, PartialEq, Eq)]

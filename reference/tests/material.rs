@@ -1,6 +1,8 @@
 //! The generated material is repeatable and reaches what it is meant to reach.
 
-use reference::material::{calls, damaged, drawn, plan_by_seed, read, rounds, whole};
+use reference::material::{
+    all_plans, calls, damaged, drawn, found, plan_by_seed, read, rounds, whole,
+};
 use reference::stream::{run, to_bytes, Records};
 use std::collections::BTreeSet;
 
@@ -94,7 +96,7 @@ fn answers(text: &str, at: fn(&str) -> usize) -> BTreeSet<String> {
 fn number_at(letter: &str) -> usize {
     match letter {
         "p" => 5,
-        "k" | "s" | "e" | "a" | "v" | "x" => 3,
+        "k" | "s" | "w" | "e" | "a" | "v" | "x" => 3,
         "d" | "f" | "r" | "o" => 2,
         _ => 1,
     }
@@ -180,6 +182,73 @@ fn drawn_lists_reach_every_answer() {
 }
 
 #[test]
+fn lookups_reach_every_answer() {
+    let text: String = found::cases(0, CASES).collect();
+    let expected = ["p 0", "p 1", "w 0", "w 1", "w 4", "w 5", "w 6"];
+    assert_eq!(answers(&text, number_at), set(&expected));
+}
+
+/// What a lookup asks for: the airfield, and the members of the set.
+fn asked([airfields, least]: [u16; 2], airfield: u16, set: u16) -> String {
+    let who = match airfield {
+        0 => "nobody",
+        _ if airfield > airfields => "above K",
+        _ if set >> (airfield - 1) & 1 == 1 => "inside",
+        _ => "outside",
+    };
+    let members = match set.count_ones() as u16 {
+        _ if set >> airfields != 0 => "some above K",
+        0 => "none",
+        count if count < least => "too few",
+        count if count == airfields => "everyone",
+        _ => "enough",
+    };
+    format!("{who}, {members}")
+}
+
+/// Every airfield of every plan is asked for either end of its shares. Lookups
+/// under plans outside their ranges are left aside.
+#[test]
+fn lookups_meet_every_set() {
+    let mut plan = [0; 4];
+    let mut met = BTreeSet::new();
+    let mut starts = BTreeSet::new();
+    for line in found::cases(0, CASES).collect::<String>().lines() {
+        let numbers: Vec<u16> = line.split(' ').skip(1).map(|word| word.parse().unwrap()).collect();
+        match (&line[..1], &numbers[..]) {
+            ("p", &[k, u, t, m, _]) => plan = [k, u, t, m],
+            ("w", &[airfield, set, number, start]) if number != 1 => {
+                met.insert(format!("{number} {}", asked([plan[0], plan[1]], airfield, set)));
+                starts.insert((plan, airfield, usize::from(start)));
+            }
+            _ => {}
+        }
+    }
+    let nowhere = ["nobody", "above K"].into_iter().flat_map(|who| {
+        ["none", "too few", "enough", "everyone", "some above K"]
+            .map(|members| format!("4 {who}, {members}"))
+    });
+    let expected = [
+        "0 inside, enough",
+        "0 inside, everyone",
+        "5 outside, none",
+        "5 inside, too few",
+        "5 outside, too few",
+        "5 inside, some above K",
+        "5 outside, some above K",
+        "6 outside, enough",
+    ];
+    assert_eq!(met, nowhere.chain(set(&expected)).collect());
+    for plan in all_plans() {
+        for airfield in 1..=plan.airfields() {
+            for start in [plan.row_length(), plan.key_length(airfield) - plan.blocks()] {
+                assert!(starts.contains(&(plan.numbers().map(u16::from), airfield.into(), start)));
+            }
+        }
+    }
+}
+
+#[test]
 fn readings_reach_every_answer() {
     let text: String = read::cases(0, CASES).collect();
     let expected = ["p 0", "p 1", "v 0", "v 3", "x 0", "x 1", "x 32"];
@@ -217,6 +286,7 @@ fn the_same_seed_gives_the_same_material() {
     assert_eq!(damaged::bytes(9, STEPS), damaged::bytes(9, STEPS));
     assert!(calls::cases(9, 4).eq(calls::cases(9, 4)));
     assert!(drawn::cases(9, 4).eq(drawn::cases(9, 4)));
+    assert!(found::cases(9, 4).eq(found::cases(9, 4)));
     assert!(read::cases(9, 4).eq(read::cases(9, 4)));
     assert!(whole::cases(9, 4).eq(whole::cases(9, 4)));
 }

@@ -1,5 +1,6 @@
 //! Document 01's example round through the library, from Rust: the random list from raw bytes, keys, first messages, the service, the
-//! replies to set 5, the total 40, the largest figure, signed figures, and some refusals. Exit status 101 where anything is not as expected.
+//! replies to set 5, the total 40, where the shares for each set start, the largest figure, signed figures, and some refusals. Exit status
+//! 101 where anything is not as expected.
 use cutawheno::{read_total, End, Plan, Refusal, Service, Use, LONGEST_KEY, LONGEST_LIST, MOST_PLACES};
 
 const PLAN: Plan = Plan { users: 3, threshold: 2, collusion: 1, blocks: 1 };
@@ -76,6 +77,17 @@ fn run_list() {
     assert_eq!(list, [7; 7]);
     assert_eq!(PLAN.list_from_bytes(&BYTES, &mut list), Ok(()));
     assert_eq!(list, LIST);
+}
+
+/// The keys are a mask and a share for each of three sets; refusals go by 1, 4, 5, 6.
+fn run_starts() {
+    for (user, sets) in [(1, [3, 5, 7]), (2, [3, 6, 7]), (3, [5, 6, 7])] {
+        assert_eq!(sets.map(|set| PLAN.reply_start(user, set)), [Ok(1), Ok(2), Ok(3)]);
+    }
+    let large = Plan { users: 8, threshold: 2, collusion: 1, blocks: 16 };
+    assert_eq!([3, 255].map(|set| large.reply_start(1, set)), [Ok(16), Ok(2032)]);
+    assert_eq!((BAD.reply_start(0, 7), PLAN.reply_start(0, 1)), (Err(Refusal::BadPlan), Err(Refusal::BadUser)));
+    assert_eq!((PLAN.reply_start(1, 2), PLAN.reply_start(1, 6)), (Err(Refusal::SetUnusable), Err(Refusal::NotInSet)));
 }
 
 /// A first message of airfield 1 from a fresh end: the element, or the refusal, which leaves buffer and end as they were.
@@ -170,6 +182,7 @@ fn main() {
     assert_eq!(service.plan(PLAN), Ok(()));
     run_list();
     run_round(&mut service);
+    run_starts();
     run_figures();
     run_signed(&mut service);
     run_refusals();

@@ -1,5 +1,5 @@
-//! Pooled sums that nobody has to take on trust: random list from raw bytes, key maker, airfield end and pooling service, safe over the
-//! proved functions that include/cutawheno.h declares (static library libcapi.a; build.rs finds it).
+//! Pooled sums that nobody has to take on trust: random list from raw bytes, key maker, lookup, airfield end, pooling service and reader,
+//! safe over the proved functions that include/cutawheno.h declares (static library libcapi.a; build.rs finds it).
 //!
 //! A slice carries its own length, and the buffer to be written overlaps no other: what the header asks of a caller always holds.
 //! Every call answers or refuses with the specification's number, and a refusal changes neither state nor lent memory.
@@ -15,6 +15,7 @@
 //! let mut key = vec![0; plan.key_len()];
 //! plan.make_key(1, &list, &mut key)?;
 //! assert_eq!(key, [100, 154, 220, 340]);
+//! assert_eq!(plan.reply_start(1, 5)?, 2);
 //! let mut end = End::start(plan, 1, Use::Counts)?;
 //! let mut message = [0];
 //! end.first_message(&key, &[10], &mut message)?;
@@ -165,6 +166,12 @@ pub struct Service {
 }
 
 #[repr(C)]
+struct Start {
+    number: u32,
+    start: u32,
+}
+
+#[repr(C)]
 struct Part {
     number: u32,
     start: u32,
@@ -197,6 +204,7 @@ extern "C" {
     fn cutawheno_key_len(users: u32, threshold: u32, collusion: u32, blocks: u32) -> u32;
     fn cutawheno_figure_bound(users: u32, threshold: u32, collusion: u32, blocks: u32) -> u32;
     fn cutawheno_signed_bound(users: u32, threshold: u32, collusion: u32, blocks: u32) -> u32;
+    fn cutawheno_reply_start(users: u32, threshold: u32, collusion: u32, blocks: u32, user: u32, set: u32) -> Start;
     fn cutawheno_list_from_bytes(
         bytes: *const u8, bytes_len: usize, list: *mut u16, list_len: usize,
         users: u32, threshold: u32, collusion: u32, blocks: u32,
@@ -297,6 +305,15 @@ impl Plan {
         };
         // SAFETY: numbers alone.
         unsafe { bound(self.users, self.threshold, self.collusion, self.blocks) as u16 }
+    }
+
+    /// Where in the user's key the shares for a set start: they are the M elements from there on. No key is looked at, and no share handed
+    /// out: what is sent is what [`End::reply`] gives, from the same place, since it is the end that refuses a second set.
+    pub fn reply_start(self, user: u32, set: u32) -> Result<usize, Refusal> {
+        // SAFETY: numbers alone.
+        let found = unsafe { cutawheno_reply_start(self.users, self.threshold, self.collusion, self.blocks, user, set) };
+        outcome(found.number)?;
+        Ok(found.start as usize)
     }
 
     /// The element as which a signed figure is lent: itself from 0 on, and below 0 itself plus 65521.

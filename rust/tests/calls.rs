@@ -330,6 +330,64 @@ fn an_end_keeps_its_use() {
     }
 }
 
+/// All sets of airfields as their members, each at its number: those with a further airfield follow those without it.
+fn member_lists(users: u32) -> Vec<Vec<u32>> {
+    (1..=users).fold(vec![vec![]], |sets: Vec<Vec<u32>>, user| {
+        let with_it: Vec<_> = sets.iter().map(|members| [&members[..], &[user]].concat()).collect();
+        [sets, with_it].concat()
+    })
+}
+
+/// Document 01's key: behind the masks, for each usable set holding the airfield, in rising number, M shares, and nothing else. A reply
+/// tells the same of every set number.
+#[test]
+fn shares_start_where_the_key_has_them() {
+    for plan in plans() {
+        let (blocks, all) = (plan.blocks as usize, member_lists(plan.users));
+        // each element tells its place
+        let key: Vec<u16> = (0..plan.key_len() as u16).collect();
+        let usable = |set: &u32| all.get(*set as usize).map_or(false, |members| members.len() >= plan.threshold as usize);
+        for user in 1..=plan.users {
+            let holding: Vec<u32> = (0..1 << plan.users).filter(usable).filter(|&set| all[set as usize].contains(&user)).collect();
+            let masks = blocks * (plan.threshold - plan.collusion) as usize;
+            assert_eq!(masks + blocks * holding.len(), key.len());
+            for set in (0..(1 << plan.users) + 9).chain([256, 1 << 16, 1 << 31, u32::MAX].map(|above| above | holding[0])) {
+                let unheld = if usable(&set) { Refusal::NotInSet } else { Refusal::SetUnusable };
+                let start = holding.binary_search(&set).map(|smaller| masks + blocks * smaller).map_err(|_| unheld);
+                assert_eq!(plan.reply_start(user, set), start);
+                let mut sent = End::resume([plan.users, plan.threshold, plan.collusion, plan.blocks, user, 1, 0, 0]);
+                assert_eq!(sent.reply(&key, set), start.map(|start| &key[start..][..blocks]));
+            }
+        }
+    }
+}
+
+/// Document 01's example and its largest keys; then 1, 4, 5, 6, whatever else applies.
+#[test]
+fn starts_are_told_or_refused() {
+    let of = |[users, threshold, collusion, blocks]: [u32; 4], user, sets: [u32; 4]| {
+        sets.map(|set| Plan { users, threshold, collusion, blocks }.reply_start(user, set))
+    };
+    let (small, large) = ([3, 2, 1, 1], [8, 2, 1, 16]);
+    assert_eq!(of(small, 1, [3, 5, 7, 6]), [Ok(1), Ok(2), Ok(3), Err(Refusal::NotInSet)]);
+    assert_eq!(of(small, 2, [3, 6, 7, 5]), [Ok(1), Ok(2), Ok(3), Err(Refusal::NotInSet)]);
+    assert_eq!(of(small, 3, [5, 6, 7, 3]), [Ok(1), Ok(2), Ok(3), Err(Refusal::NotInSet)]);
+    assert_eq!(of(large, 1, [3, 255, 1, 254]), [Ok(16), Ok(2032), Err(Refusal::SetUnusable), Err(Refusal::NotInSet)]);
+    for user in [1, 2, 3] {
+        // too few, with the airfield or without it; a member above K; all bits
+        assert_eq!(of(small, user, [1, 2, 4, 0]), [Err(Refusal::SetUnusable); 4]);
+        assert_eq!(of(small, user, [9, 10, 15, u32::MAX]), [Err(Refusal::SetUnusable); 4]);
+    }
+    for user in [0, 4, 33, 257, 65537, u32::MAX] {
+        assert_eq!(of(small, user, [7, 1, 9, u32::MAX]), [Err(Refusal::BadUser); 4]);
+    }
+    for bad in [[2, 2, 1, 1], [9, 2, 1, 1], [3, 3, 1, 1], [3, 2, 2, 1], [3, 2, 0, 1], [3, 2, 1, 0], [3, 2, 1, 17], [259, 258, 257, 257]] {
+        for user in [0, 1, 3, 4, u32::MAX] {
+            assert_eq!(of(bad, user, [7, 6, 1, u32::MAX]), [Err(Refusal::BadPlan); 4]);
+        }
+    }
+}
+
 /// Bytes among which some numbers are skipped: one too few, just enough, and one to spare.
 #[test]
 fn lists_of_every_plan_are_drawn() {
@@ -369,6 +427,7 @@ fn any_numbers_are_answered() {
         assert_eq!(plan.list_len() == 0, plan.key_len() == 0 || plan.row_len() == 0);
         assert!([Use::Counts, Use::Signed].iter().all(|&usage| (plan.figure_bound(usage) == 0) == (plan.list_len() == 0)));
         assert!(plan.residue(random.any() as i32).map_or(true, |element| u32::from(element) < Q));
+        assert_eq!(plan.reply_start(random.any(), random.any()) == Err(Refusal::BadPlan), plan.list_len() == 0);
         let count = random.below(9) as usize;
         let (list, mut written) = (random.elements(count), vec![7; random.below(9) as usize]);
         let before = written.clone();

@@ -2,6 +2,7 @@
 --   same-length          as many usable sets hold each user
 --   ends-stand           call by call
 --   part-is-reply        by the definitions
+--   start-of-part        a lookup's tests are among those of a reply
 --   same-part            test 19 at the stage that the array has then
 -- Assumes nothing.
 use mathlib.Core.Path.{_≡_, refl, sym, ap, _∙_}
@@ -17,7 +18,7 @@ use Rattle.scheme.specs.Scheme as scheme
 use Rattle.scheme.specs.Scheme.{sixteen, places, is-user, key-length, reply-start, reply, is-fresh, open-to, after}
 use Rattle.scheme.proofs.Tests.{and-both}
 use Rattle.scheme.proofs.Good.{good}
-use Rattle.scheme.proofs.Refusals.{after-taken, after-refused, start-passes}
+use Rattle.scheme.proofs.Refusals.{after-taken, after-refused, start-passes, lookup-passes}
 use Rattle.plan.specs.declared.Plan as code
 use Rattle.plan.specs.Plan.{plan-of, code-use}
 use Rattle.plan.proofs.Counts.{with-same}
@@ -28,7 +29,7 @@ use Rattle.client.specs.declared.Client.{Client}
 use Rattle.client.specs.Client.{stage-of, stage-of-number, stage-number, begun-with, at-stage, moved, answer-refusal, reply-answer, part-of}
 use Rattle.client.proofs.Laws.{reply-answers, reply-taken}
 use Rattle.capi.specs.Ends.{end-length, code-stage, end-at, fresh-numbers, start-left, kept, part-by, part-answer}
-use Rattle.capi.specs.Promise.{Same-length, End-stands, Ends-stand, Part-is-reply, Same-part}
+use Rattle.capi.specs.Promise.{Same-length, End-stands, Ends-stand, Part-is-reply, Start-of-part, Same-part}
 use Rattle.capi.proofs.Laws.{stage-moved, kept-taken, part-taken, part-refused}
 
 pub same-length : Same-length
@@ -76,6 +77,14 @@ part-shares c ks v = either (ℕ-discrete (answer-refusal sixteen c ks v) 0)
 pub part-is-reply : Part-is-reply
 unfolding Part-is-reply part-by
 part-is-reply c ks v = record { number = refl; shares = part-shares c ks v }
+
+pub start-of-part : Start-of-part
+unfolding Start-of-part part-by
+start-of-part c ks v z =
+    let t = reply-answers _ z in
+    let n = lookup-passes _ _ _ (t .begun) (t .whole) (t .member) in
+    let s = reply-start (plan-of (c .plan)) (c .user) v in
+    λ i. record { number = n i; start = (after-taken n s 0 ∙ sym (after-taken z s 0)) i }
 
 -- a taken reply leaves the end that has answered the set
 module _ (e ks : List ℕ) (v : ℕ) (l : length e ≡ end-length) (z : part-answer (end-at e) ks v .number ≡ 0) where

@@ -3,6 +3,7 @@
 --   End-stands, Ends-stand    what the calls leave in an end's array stands for the end that the client's own calls hand back, so that
 --                     what client/specs/Promise.antt says of those holds of the array
 --   Part-given, Part-is-reply the part that a reply names is the one that the client's own reply hands back
+--   Start-of-part     a lookup finds what a reply names
 --   Same-part         "the same set asked again gets the same part", and the array stays
 --   New-stands        arrays of zeros are those of a new service, and stand for it
 --   Calls-stand       what the calls leave in lent arrays stands for the state that the service's own calls hand back, so that what
@@ -17,13 +18,14 @@ use lib.ListN.{length, take, drop}
 use Rattle.scheme.specs.Scheme.{sixteen, Plan, plan-good, is-user, key-length}
 use Rattle.solve.specs.Solve.{laws16}
 use Rattle.plan.specs.declared.Plan as code
-use Rattle.plan.specs.Plan.{code-use}
+use Rattle.plan.specs.Plan.{plan-of, code-use}
 use Rattle.plan.specs.Lengths.{key-len}
 use Rattle.client.specs.declared.Client.{Client}
 use Rattle.client.specs.Client.{begun, first-answer, reply-answer, part-of}
 use Rattle.service.specs.Calls.{new-service, plan-step, open-step, first-left, first-step, close-step, reply-left, reply-step}
 use Rattle.finish.specs.Finish.{finish-step}
 use Rattle.capi.specs.Ends.{end-length, end-at, start-left, kept, part-answer}
+use Rattle.capi.specs.Found.{start-found}
 use Rattle.capi.specs.Lent.{Arrays, arrays, zeros, arrays-of, head-at, state, plan-left, open-left, close-left, finish-left}
 
 unfoldable pub Same-length : Type 0
@@ -44,6 +46,12 @@ pub record Part-given (c : Client) (ks : List ℕ) (v : ℕ) : Type 0 where
 
 unfoldable pub Part-is-reply : Type 0
 Part-is-reply = (c : Client) (ks : List ℕ) (v : ℕ) → Part-given c ks v
+
+-- without the key, and whatever the stage was
+unfoldable pub Start-of-part : Type 0
+Start-of-part =
+    (c : Client) (ks : List ℕ) (v : ℕ) → part-answer c ks v .number ≡ 0 →
+    start-found (plan-of (c .plan)) (c .user) v ≡ record { number = 0; start = part-answer c ks v .start }
 
 unfoldable pub Same-part : Type 0
 Same-part =

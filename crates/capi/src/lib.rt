@@ -1,6 +1,8 @@
-// Random list from bytes, key maker, airfield end and pooling service for callers in C and Rust: include/cutawheno.h declares these functions.
+// Random list from bytes, key maker, lookup, airfield end, pooling service and reader for callers in C and Rust, which include/cutawheno.h
+// declares.
 //   cutawheno_row_len, cutawheno_list_len, cutawheno_key_len    the lengths that a plan fixes, 0 for a plan that test 1 refuses
 //   cutawheno_figure_bound, cutawheno_signed_bound    the largest count, and how far from zero a signed figure may lie, 0 for such a plan
+//   cutawheno_reply_start, CutawhenoStart    where in a user's key the shares for a set start
 //   cutawheno_list_from_bytes, cutawheno_make_key    the random list from raw bytes; a user's key from the random list
 //   ends                    the airfield end
 //   meaning                 what a total means, and the way in for a signed figure
@@ -13,6 +15,7 @@ ghost use Rattle.scheme.specs.Scheme.{sixteen, counts, signed, key-refusal, key
 ghost use Rattle.scheme.specs.Drawn.{list-refusal, list-left};
 ghost use Rattle.plan.specs.Plan.{plan-of, code-plan};
 ghost use Rattle.plan.specs.Lengths.{row-len, list-len, key-len, largest-figure};
+ghost use Rattle.capi.specs.Found.{start-found};
 
 pub mod ends;
 pub mod meaning;
@@ -99,6 +102,36 @@ pub extern "C" fn cutawheno_signed_bound(
         blocks,
     };
     plan::figure_bound(plan, Use::Signed)
+}
+
+#[repr(C)]
+pub struct CutawhenoStart {
+    pub number: u32,
+    pub start: u32,
+}
+
+// 1, 4, 5, 6. It hands out no share.
+#[no_mangle]
+pub extern "C" fn cutawheno_reply_start(
+    users: u32,
+    threshold: u32,
+    collusion: u32,
+    blocks: u32,
+    user: u32,
+    set: u32,
+) -> CutawhenoStart
+    ensures { λ r. ⌜ r ≡ start-found (plan-of (code-plan users threshold collusion blocks)) user set ⌝ }
+{
+    let plan = Plan {
+        users,
+        threshold,
+        collusion,
+        blocks,
+    };
+    let found = plan::find_reply(plan, user, set);
+    let number = found.number;
+    let start = found.start as u32;
+    CutawhenoStart { number, start }
 }
 
 // 1, 2, 31.

@@ -24,17 +24,17 @@ use Rattle.reading.specs.Reading as Reading
 use Rattle.service.specs.View as View
 use Rattle.service.specs.Calls as Calls
 use Rattle.finish.specs.Finish as Finish
-use Rattle.cases.specs.Cases.{drawn, key-from, key-of, message, sent-by, changed, asked, tried, planned, opened, firsts, replies, pooled, finish-tells, finish-tells-5, finish-tells-7, Cases}
+use Rattle.cases.specs.Cases.{drawn, key-from, key-of, message, sent-by, changed, asked, looked-up, tried, planned, opened, firsts, replies, pooled, finish-tells, finish-tells-5, finish-tells-7, Cases}
 
 pub cases : Cases
-unfolding drawn key-from key-of message sent-by changed asked tried planned opened firsts replies pooled finish-tells finish-tells-5 finish-tells-7
+unfolding drawn key-from key-of message sent-by changed asked looked-up tried planned opened firsts replies pooled finish-tells finish-tells-5 finish-tells-7
     sub inverse inverse-from modular-laws padded unknown-at shown
     Lengths.largest-figure Scheme.reach Scheme.figure-bound Scheme.within Scheme.is-near Scheme.near Scheme.figures-good
     Signed.residue Signed.meant Reading.reading Reading.residue-refusal Reading.residue-by
     Lists.rank Scheme.elements Scheme.sum Scheme.plan-good Scheme.items Scheme.places Scheme.is-user Scheme.in-set Scheme.ones Scheme.usable Scheme.usable-with
     Scheme.users-in Scheme.usable-sets Scheme.sets-with Scheme.list-length Scheme.mask Scheme.noise-start Scheme.noise Scheme.column Scheme.row-value
     Scheme.share Scheme.shares Scheme.key Scheme.key-length Scheme.first-message Scheme.reply-start Scheme.reply Scheme._then_ unless
-    Scheme.is-fresh Scheme.open-to Scheme.start-refusal Scheme.key-refusal Scheme.message-refusal Scheme.reply-refusal Scheme.after
+    Scheme.is-fresh Scheme.open-to Scheme.start-refusal Scheme.key-refusal Scheme.message-refusal Scheme.reply-refusal Scheme.lookup-refusal Scheme.after
     Drawn.numbers-in Drawn.elements-in Drawn.fills Drawn.drawn Drawn.list-refusal
     Lists.all-of Totals.explains Totals.explains-all Totals.total-of Totals.totals
     Delta.colluders-in Delta.kept Delta.unsolved Delta.shift Delta.delta Delta.translation Delta.difference Delta.table-delta Delta.partner
@@ -112,4 +112,10 @@ cases = record {
   set-5-of-2 = refl;
   set-5 = refl;
   then-set-7 = refl;
+  lookups-1 = refl;
+  lookups-2 = refl;
+  lookups-3 = refl;
+  lookups-8 = refl;
+  lookup-4 = refl;
+  lookup-first = refl;
 }

@@ -1,11 +1,12 @@
--- The starred examples of document 01 ("Example round") as document 02 changes them, and some of raw bytes, of the bounds on figures and
--- of signed figures, about the definitions that the contracts name: one table, a row for each example.
+-- The starred examples of document 01 ("Example round") as document 02 changes them, and some of raw bytes, of the bounds on figures, of
+-- signed figures and of lookups, about the definitions that the contracts name: one table, a row for each example.
 --   plan, random, partner-list, bad-list, figures   K, U, T, M = 3, 2, 1, 1; the random list, its partner, one that is refused; tables of figures
 --   changes                                         whole numbers at both ends of what is read back, and about zero
 --   drawn, six-numbers                              number and list that raw bytes leave of a lent list; most of the example list as bytes
 --   key-of, end-of, message                         a user's key; its airfield end; its first message
 --   sent-by, changed                                number and stage that a fresh end of a plan hands back; a first message of a signed figure
 --   handed, asked, part                             number and end handed back; what a reply to a set hands back, and its part alone
+--   looked-up                                       number and start that a lookup of a set hands back
 --   tried                                           the numbers that the service and an airfield end have for a plan
 --   planned, opened, pooled, finish-tells           a service with the plan; in a round; with the replies; what its finish tells
 --   Cases                                           THE TABLE
@@ -31,6 +32,7 @@ use Rattle.plan.specs.declared.Use.{Use}
 use Rattle.plan.specs.declared.Use.the-variants.{Counts, Signed}
 use Rattle.plan.specs.Plan.{plan-of, code-plan}
 use Rattle.plan.specs.Lengths.{largest-figure}
+use Rattle.plan.specs.Found.{found}
 use Rattle.client.specs.declared.Stage.{Stage}
 use Rattle.client.specs.declared.Stage.the-variants.{Fresh, Sent, Answered}
 use Rattle.client.specs.declared.Client.{Client}
@@ -109,6 +111,9 @@ asked v c = (reply-answer sixteen c (key-of (c .user)) v, part-of sixteen c (key
 -- the part, of an end that has sent
 abbrev pub part : (set k : ℕ) → List ℕ
 part v k = asked v (end-of k Sent) .1
+
+unfoldable pub looked-up : Plan → (k set : ℕ) → ℕ × ℕ
+looked-up p k v = (found (plan-of p) k v .number, found (plan-of p) k v .start)
 
 -- ---- THE SERVICE
 unfoldable pub tried : Plan → List ℕ
@@ -227,3 +232,11 @@ pub record Cases : Type 0 where
   pub set-5-of-2 : asked 5 (end-of 2 Sent) ≡ (handed 6 (end-of 2 Sent), [])
   pub set-5 : asked 5 (end-of 1 Sent) ≡ (handed 0 (end-of 1 (Answered 5)), 220 ∷ [])
   pub then-set-7 : asked 7 (end-of 1 (Answered 5)) ≡ (handed 19 (end-of 1 (Answered 5)), [])
+  -- lookups: every set of three airfields, and two with a fourth; the first part and the last of a key of 2048; 1 comes before 4, 4 before 5, 5 before 6
+  pub lookups-1 : map (looked-up plan 1) (span 10 0)
+      ≡ (5, 0) ∷ (5, 0) ∷ (5, 0) ∷ (0, 1) ∷ (5, 0) ∷ (0, 2) ∷ (6, 0) ∷ (0, 3) ∷ (5, 0) ∷ (5, 0) ∷ []
+  pub lookups-2 : map (looked-up plan 2) (3 ∷ 4 ∷ 5 ∷ 6 ∷ 7 ∷ []) ≡ (0, 1) ∷ (5, 0) ∷ (6, 0) ∷ (0, 2) ∷ (0, 3) ∷ []
+  pub lookups-3 : map (looked-up plan 3) (3 ∷ 4 ∷ 5 ∷ 6 ∷ 7 ∷ []) ≡ (6, 0) ∷ (5, 0) ∷ (0, 1) ∷ (0, 2) ∷ (0, 3) ∷ []
+  pub lookups-8 : map (looked-up (code-plan 8 2 1 16) 1) (3 ∷ 255 ∷ 259 ∷ []) ≡ (0, 16) ∷ (0, 2032) ∷ (5, 0) ∷ []
+  pub lookup-4 : map (λ k. looked-up plan k 1) (0 ∷ 4 ∷ []) ≡ replicate 2 (4, 0)
+  pub lookup-first : looked-up (code-plan 3 3 1 1) 0 1 ≡ (1, 0)

@@ -10,18 +10,20 @@
 //   reach_of                                          how far from zero a total can be told
 //   figure_bound, bound_of                            how far from zero a figure may lie: 0 for what test 1 refuses; of what it has let pass
 //   count_sets, reply_start                           how many sets; where a reply lies in the key
+//   Found, find_reply                                 where a reply lies, of any plan, user and set, or the number of tests 1, 4, 5 and 6
 // Document 01's airfield is a user here. What has a `requires` is for plans that passed test 1.
 ghost use mathlib.Core.Path.{_≡_};
 ghost use Prim.Native.Nat.{_+_, _*_, _^_, _≤_, _<_};
 ghost use lib.ListN.{length};
 ghost use Rattle.scheme.specs.Limits.{most-users, most-places, most-sets, most-list, most-key};
 ghost use Rattle.scheme.specs.Lists.{rank};
-ghost use Rattle.scheme.specs.Scheme.{q, sixteen, plan-good, reach, figure-bound, start-refusal, in-set, usable, usable-with, usable-sets, sets-with, places, list-length, key-length, reply-start};
+ghost use Rattle.scheme.specs.Scheme.{q, sixteen, plan-good, reach, figure-bound, start-refusal, in-set, usable, usable-with, usable-sets, sets-with, places, list-length, key-length, reply-start, lookup-refusal};
 ghost use Rattle.scheme.specs.Good.{Good};
 ghost use Rattle.plan.specs.Plan.{plan-of, use-of, code-use};
 ghost use Rattle.plan.specs.Limits.{document-limits};
 ghost use Rattle.plan.specs.Counts.{fewest, counts, sets-of, sets-rule};
 ghost use Rattle.plan.specs.Lengths.{row-len, list-len, key-len, largest-figure};
+ghost use Rattle.plan.specs.Found.{found};
 
 // "K airfields, 3 to 8 .. T at least 1 .. M blocks, 1 to 16"
 pub const LEAST_USERS: u32 = 3;
@@ -103,6 +105,12 @@ pub struct Plan {
 pub enum Use {
     Counts,
     Signed,
+}
+
+// What a lookup answers: 0 or the refusal's number, and where the shares start, 0 after a refusal.
+pub struct Found {
+    pub number: u32,
+    pub start: usize,
 }
 
 // 0 is counts, anything else is signed.
@@ -194,14 +202,15 @@ pub fn has_enough(p: Plan, set: u32) -> bool
     p.threshold <= u32::count_ones(set)
 }
 
+// The user's bit is looked at first, since it costs less than the count of ones.
 fn is_usable_with(p: Plan, user: u32, set: u32) -> bool
     requires { ⌜ (set < 2 ^ p .users) × (1 ≤ user) × (user ≤ most-users) ⌝ }
     ensures { λ r. ⌜ r ≡ usable-with (plan-of p) user set ⌝ }
 {
-    if !has_enough(p, set) {
-        return false;
+    if holds(set, user) {
+        return has_enough(p, set);
     }
-    holds(set, user)
+    false
 }
 
 // The counts have a row for each number of users, from one less than the least K on, and in it an entry for each threshold below USERS.
@@ -298,20 +307,22 @@ fn count_holding(p: Plan, user: u32) -> usize
     count_of(p.users - 1, p.threshold - 1)
 }
 
-// The place of a set in a user's key: how many smaller usable sets hold the user.
+// The place of a set in a user's key: how many smaller usable sets hold the user. "Let the walk stop at the announced set itself."
 fn set_place(p: Plan, user: u32, set: u32) -> u32
     requires { ⌜ (set ≤ 2 ^ p .users) × (1 ≤ user) × (user ≤ most-users) ⌝ }
     ensures { λ r. ⌜ (r ≡ rank (usable-with (plan-of p) user) set) × (r ≤ set) ⌝ }
 {
-    let mut count: u32 = 0;
+    let mut place: u32 = 0;
     let mut v: u32 = 0;
-    while v < set {
+    loop {
+        if v == set {
+            break place;
+        }
         if is_usable_with(p, user, v) {
-            count += 1;
+            place += 1;
         }
         v += 1;
     }
-    count
 }
 
 // L = M × (U − T).
@@ -401,4 +412,33 @@ pub fn reply_start(p: Plan, user: u32, set: u32) -> usize
     ensures { λ r. ⌜ (r ≡ reply-start (plan-of p) user set) × (r ≤ most-key) ⌝ }
 {
     places_of(p) + set_place(p, user, set) as usize * p.blocks as usize
+}
+
+// 1, 4, 5, 6, of a lookup.
+fn lookup_refusal(p: Plan, user: u32, set: u32) -> u32
+    ensures { λ r. ⌜ r ≡ lookup-refusal (plan-of p) user set ⌝ }
+{
+    let number = start_refusal(p, user);
+    if number != 0 {
+        return number;
+    }
+    if !is_usable(p, set) {
+        return 5;
+    }
+    if !holds(set, user) {
+        return 6;
+    }
+    0
+}
+
+// Where the M shares for a set start, of any plan, user and set. It needs no key, and hands out no share.
+pub fn find_reply(p: Plan, user: u32, set: u32) -> Found
+    ensures { λ r. ⌜ (r ≡ found (plan-of p) user set) × (r .start ≤ most-key) ⌝ }
+{
+    let number = lookup_refusal(p, user, set);
+    if number != 0 {
+        return Found { number, start: 0 };
+    }
+    let start = reply_start(p, user, set);
+    Found { number: 0, start }
 }

@@ -1,10 +1,11 @@
 -- What a line shows of a call's answer.
 --   judged                the first that differs: number, stage, elements; or that the answer agrees
---   judged-close          the same of a close: number, set
+--   judged-pair           the same of a number and what comes with it: a set, a start
 --   agreed                whether a line agrees
 --   lent-right            a list that is lent must fit
 --   served, opened, closed   what the lines o and c leave and show
 --   end-of, begun-as, started     what the line s leaves and shows: the fresh end, or after a refusal the old one
+--   found-shown, lookup-shown     what the line w shows: the case stays
 --   value-of, same-value          the value that two numbers of a line stand for; whether two values are the same
 --   judged-value                  the first that differs of a reading: number, value
 --   read-shown, total-shown       what the line v shows: the case stays
@@ -19,6 +20,8 @@ use lib.IntN.{ℤ, pos, negsuc, negℤ}
 use lib.ListN.{getD}
 use Rattle.scheme.specs.Scheme.{sixteen}
 use Rattle.plan.specs.Plan.{plan-of, use-of, code-use}
+use Rattle.plan.specs.declared.Found.{Found}
+use Rattle.plan.specs.Found.{found}
 use Rattle.client.specs.declared.Client.{Client}
 use Rattle.client.specs.Client.{Begun, begun}
 use Rattle.reading.specs.declared.Reading.{Reading}
@@ -37,8 +40,9 @@ unfoldable pub judged : (got wanted : ℕ) (stage elements : Bool) → Verdict
 judged got wanted stage elements =
     cond (eqb got wanted) (cond stage (cond elements verdict.Agrees verdict.Elements) verdict.Stage) verdict.Number
 
-unfoldable pub judged-close : (number wanted set expected : ℕ) → Verdict
-judged-close number wanted set expected = cond (eqb number wanted) (cond (eqb set expected) verdict.Agrees verdict.Set) verdict.Number
+-- the last is the verdict where what comes with the number differs
+unfoldable pub judged-pair : (number wanted second expected : ℕ) → Verdict → Verdict
+judged-pair number wanted second expected otherwise = cond (eqb number wanted) (cond (eqb second expected) verdict.Agrees otherwise) verdict.Number
 
 unfoldable pub agreed : Verdict → Bool
 agreed verdict.Agrees = true
@@ -46,6 +50,7 @@ agreed verdict.Damaged = false
 agreed verdict.Number = false
 agreed verdict.Stage = false
 agreed verdict.Set = false
+agreed verdict.Start = false
 agreed verdict.Value = false
 agreed verdict.Elements = false
 
@@ -62,7 +67,7 @@ opened c l =
 abbrev pub closed : Case → (line : List ℕ) → Checked
 closed c l =
     served c (close-step (c .service) .service)
-    (judged-close (close-step (c .service) .number) (getD l 0 0) (close-step (c .service) .set) (getD l 1 0))
+    (judged-pair (close-step (c .service) .number) (getD l 0 0) (close-step (c .service) .set) (getD l 1 0) verdict.Set)
 
 unfoldable pub end-of : Case → Option Client → Client
 end-of c none = c .end
@@ -77,6 +82,12 @@ begun-as c b wanted =
 
 abbrev pub started : Case → (line : List ℕ) → Checked
 started c l = begun-as c (begun (c .plan) (getD l 0 0) (code-use (getD l 1 0))) (getD l 2 0)
+
+abbrev pub found-shown : Found → (wanted expected : ℕ) → Verdict
+found-shown f wanted expected = judged-pair (f .number) wanted (f .start) expected verdict.Start
+
+abbrev pub lookup-shown : Case → (line : List ℕ) → Checked
+lookup-shown c l = record { case = c; verdict = found-shown (found (plan-of (c .plan)) (getD l 0 0) (getD l 1 0)) (getD l 2 0) (getD l 3 0) }
 
 -- 0 and n stand for n, anything else and n for −n
 unfoldable pub value-of : (below size : ℕ) → ℤ

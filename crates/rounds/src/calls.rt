@@ -2,18 +2,21 @@
 // writes such lines (reference/src/material/vectors.rs sets them out).
 //   maker, ends, pooling       the lines of the key office, of an airfield end, and of the service
 //   meaning                    the lines of the reader of totals, and of the way in for a signed figure
+//   lookup                     the line of a lookup
 //   input, line                the input, line by line; one line
 //   Verdict, Case, Checked     whether a call answered as the line says, or what differs; what the lines of a case have made so far; both
-//   judge, agree, new_case     what differs first; a case of a plan
+//   judge, agree, judge_pair   what differs first
+//   new_case                   a case of a plan
 //   fits, check                how many numbers a line has; the call of one line
-// Every answer is compared whole: number, stage, set, value, and the lent buffer to its end.
+// Every answer is compared whole: number, stage, set, start, value, and the lent buffer to its end.
 ghost use mathlib.Core.Path.{_≡_};
 ghost use mathlib.Core.Bool.{true};
-ghost use Rattle.rounds.specs.Judged.{judged};
+ghost use Rattle.rounds.specs.Judged.{judged, judged-pair};
 
 pub mod ends;
 pub mod input;
 pub mod line;
+pub mod lookup;
 pub mod maker;
 pub mod meaning;
 pub mod pooling;
@@ -34,6 +37,7 @@ pub enum Verdict {
     Number,
     Stage,
     Set,
+    Start,
     Value,
     Elements,
 }
@@ -74,6 +78,19 @@ fn agree(got: u32, wanted: u32) -> Verdict
     judge(got, wanted, true, true)
 }
 
+// Number of an answer and what comes with it, the first that differs; `otherwise` is the verdict where it is the second.
+fn judge_pair(number: u32, wanted: u32, second: u32, expected: u32, otherwise: Verdict) -> Verdict
+    ensures { λ r. ⌜ r ≡ judged-pair number wanted second expected otherwise ⌝ }
+{
+    if number != wanted {
+        return Verdict::Number;
+    }
+    if second != expected {
+        return otherwise;
+    }
+    Verdict::Agrees
+}
+
 // A case of a plan, with a service that has nothing yet.
 fn new_case(plan: Plan, service: Service) -> Case {
     let end = Client {
@@ -95,7 +112,7 @@ fn new_case(plan: Plan, service: Service) -> Case {
 fn fits(letter: u8, count: usize) -> bool {
     match letter {
         b'p' | b'v' => count == 5,
-        b'x' => count == 4,
+        b'w' | b'x' => count == 4,
         b's' => count == 3,
         b'o' | b'c' => count == 2,
         b'd' | b'k' | b'r' | b'e' | b'a' => 3 <= count,
@@ -120,6 +137,7 @@ fn check(case: Case, letter: u8, line: &[u16], lent: &mut [u16; SPACE]) -> Check
         b's' => ends::check_start(case, line),
         b'f' => ends::check_first(case, line, lent),
         b'r' => ends::check_reply(case, line, lent),
+        b'w' => lookup::check_found(case, line),
         b'v' => meaning::check_total(case, line),
         b'x' => meaning::check_residue(case, line),
         _ => pooling::check_service(case, letter, line),

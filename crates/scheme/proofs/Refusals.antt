@@ -11,13 +11,14 @@
 --   after-taken, after-refused       what a call leaves
 --   after-in                         and what it leaves of a part leaves the whole
 --   start-passes, start-taken        start's tests let a good plan with one of its users pass, and nothing else
+--   lookup-passes, lookup-taken      a lookup's tests let these pass with a usable set that holds the user, and nothing else
 -- Assumes nothing.
 use mathlib.Core.Path.{_≡_, refl, sym, ap, ap₂, _∙_}
 use mathlib.Core.Bool.{Bool, true, false}
 use Prim.Native.Nat.{ℕ, zero, suc, _≤_}
 use native.Mathlib.Omega.{arith}
 use borrow.Author.Tests.{leb-true, le-leb}
-use Rattle.scheme.specs.Scheme.{Plan, is-user, _then_, unless, start-refusal, after}
+use Rattle.scheme.specs.Scheme.{Plan, is-user, in-set, usable, _then_, unless, start-refusal, lookup-refusal, after}
 use Rattle.scheme.specs.Good.{Good}
 use Rattle.scheme.proofs.Tests.{and-both}
 use Rattle.scheme.proofs.Good.{good, good-back}
@@ -98,3 +99,15 @@ start-taken p k e =
     let s = then-zero _ _ e in
     let u = and-both _ _ (unless-zero _ _ (s .1)) in
     (good p (unless-zero _ _ (s .0)), leb-true _ _ (u .0), leb-true _ _ (u .1))
+
+module _ (p : Plan) (k v : ℕ) where
+  pub lookup-passes : start-refusal p k ≡ 0 → usable p v ≡ true → in-set v k ≡ true → lookup-refusal p k v ≡ 0
+  unfolding lookup-refusal unless _then_
+  lookup-passes s u e = simp (s, u, e)
+
+  pub lookup-taken : lookup-refusal p k v ≡ 0 → (start-refusal p k ≡ 0) × (usable p v ≡ true) × (in-set v k ≡ true)
+  unfolding lookup-refusal
+  lookup-taken e =
+      let s = then-zero _ _ e in
+      let u = test-held _ _ _ (s .1) in
+      (s .0, u .0, unless-zero _ _ (u .1))

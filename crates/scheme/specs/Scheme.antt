@@ -10,7 +10,7 @@
 --   column, row-value, share, key      shares and keys
 --   first-message, reply               messages
 --   total-at, whole-total              totals, in an arithmetic and as whole numbers
---   Stage, start-refusal, key-refusal, message-refusal, reply-refusal, after, key-left    what the calls answer and leave
+--   Stage, start-refusal, key-refusal, message-refusal, reply-refusal, lookup-refusal, after, key-left    what the calls answer and leave
 -- Document 01's airfield is a user here, and its S of an airfield is that user's mask. Assumes nothing: these are definitions.
 use mathlib.Core.Bool.{Bool, true, false, _&&_, _||_, not, cond}
 use mathlib.Core.List.{List, [], _∷_, _++_, map}
@@ -240,6 +240,10 @@ unfoldable pub reply-refusal : Arithmetic → Plan → (k : ℕ) → Stage → (
 reply-refusal A p k g ks v =
     start-refusal p k then unless (not (is-fresh g)) 18 then unless (eqb (length ks) (key-length p k)) 2 then unless (elements A ks) 3
     then unless (usable p v) 5 then unless (in-set v k) 6 then unless (open-to v g) 19
+
+-- of the lookup of a set's shares in a user's key: 1, 4, 5, 6
+unfoldable pub lookup-refusal : Plan → (k set : ℕ) → ℕ
+lookup-refusal p k v = start-refusal p k then unless (usable p v) 5 then unless (in-set v k) 6
 
 -- what a call leaves, of its state or in a lent buffer: the new value, or after a refusal the old one
 unfoldable pub after : {A : Type 0} → (refusal : ℕ) → (new old : A) → A

@@ -8,11 +8,11 @@
 //! least one of which gives a list; and it makes keys from them. Behind each
 //! fourth case stands another one, with a plan outside its ranges.
 
-use super::plan_by_seed;
 use super::vectors::Case;
+use super::{plan_by_seed, wrong_numbers};
 use crate::field::{Element, LARGEST, Q};
 use crate::random::Random;
-use crate::scheme::{Plan, MAX_AIRFIELDS, MAX_BLOCKS};
+use crate::scheme::Plan;
 
 /// A case draws about this many elements, and lists in so many ways at least.
 const CASE_ELEMENTS: usize = 560;
@@ -75,22 +75,8 @@ fn draws(plan: &Plan, random: &mut Random) -> Case {
 /// One number of the plan is wrong. The room may be wrong too, or none at all,
 /// and the bytes too few.
 fn wrong_plan(plan: &Plan, random: &mut Random) -> Case {
-    let mut numbers = plan.numbers();
-    let [airfields, least, ..] = numbers;
-    let (at, number) = random.pick(&[
-        (0, least),
-        (0, MAX_AIRFIELDS + 1),
-        (1, 0),
-        (1, airfields),
-        (2, 0),
-        (2, least),
-        (3, 0),
-        (3, MAX_BLOCKS + 1),
-        (3, u8::MAX),
-    ]);
-    numbers[at] = number;
     let length = plan.list_length();
-    let mut case = Case::new(numbers);
+    let mut case = Case::new(wrong_numbers(plan, random));
     case.draw_list(&bytes(&with_skipped(length, random)), length);
     case.draw_list(&few_bytes(random), length);
     case.draw_list(&few_bytes(random), random.pick(&[length - 1, length + 1]));

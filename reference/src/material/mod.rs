@@ -6,9 +6,11 @@
 //! - `vectors`: calls with their answers as text, one a line
 //! - `calls`: cases for the key maker and the airfield end, by `vectors`
 //! - `drawn`: cases for random lists from raw bytes, by `vectors`
+//! - `found`: cases for where replies lie in keys, by `vectors`
 //! - `read`: cases for the reader and for residues, by `vectors`
 //! - `whole`: whole rounds from keys to totals, by `vectors`
 //! - `all_plans`, `plan_by_seed`: every plan there is, one for each seed
+//! - `wrong_numbers`: a plan's numbers, one of them outside its range
 //! - `Row`, `row`, `table`: the figures of one airfield, and of all of them
 //! - `whole_sums`, `totals`: what they add up to, and the residues of it
 //! - `common_use`: the use of the airfields of a set, if they have one
@@ -17,6 +19,7 @@
 pub mod calls;
 pub mod damaged;
 pub mod drawn;
+pub mod found;
 pub mod read;
 pub mod rounds;
 pub mod vectors;
@@ -52,6 +55,25 @@ pub fn plan_by_seed(seed: u64) -> Plan {
     let plans = all_plans();
     let count = plans.len() as u64;
     plans[(seed % count * PLAN_STRIDE % count) as usize]
+}
+
+/// Wrong by itself, or beside the others.
+pub fn wrong_numbers(plan: &Plan, random: &mut Random) -> [u8; 4] {
+    let mut numbers = plan.numbers();
+    let [airfields, least, ..] = numbers;
+    let (at, number) = random.pick(&[
+        (0, least),
+        (0, MAX_AIRFIELDS + 1),
+        (1, 0),
+        (1, airfields),
+        (2, 0),
+        (2, least),
+        (3, 0),
+        (3, MAX_BLOCKS + 1),
+        (3, u8::MAX),
+    ]);
+    numbers[at] = number;
+    numbers
 }
 
 /// The figures of one airfield, as whole numbers.

@@ -16,6 +16,7 @@
 //! | `s airfield use number` | a fresh end; its use is 0 for counts, 1 for signed figures |
 //! | `f room number stage n figures.. message..` | first message of the end for n figures, into a buffer of `room` elements |
 //! | `r set number stage part..` | reply of the end |
+//! | `w airfield set number start` | where the shares for the set start in the airfield's key; 0 if it is refused |
 //! | `o round number` | open |
 //! | `e airfield place number elements..` | first elements from this place on, each with this answer |
 //! | `c number set` | close; the set is 0 if it is refused |
@@ -29,7 +30,7 @@
 //! No number of a line lies below zero, so a value takes two: 1 if it lies
 //! below zero and 0 if not, and how far from zero it lies.
 
-use crate::client::{list_from_bytes, make_key, End, Stage};
+use crate::client::{list_from_bytes, make_key, reply_start, End, Stage};
 use crate::field::Element;
 use crate::reading::{read_total, residue_of};
 use crate::refusal::Refusal;
@@ -125,6 +126,12 @@ impl Case {
         let part = result.unwrap_or_default();
         self.line('r', &[&head, &part[..]].concat());
         part
+    }
+
+    pub fn find_reply(&mut self, airfield: u8, set: Set) {
+        let result = reply_start(self.plan, airfield, set);
+        let number = number_of(&result);
+        self.line('w', &[airfield.into(), set, number, short(result.unwrap_or(0))]);
     }
 
     pub fn open(&mut self, round: u16) {

@@ -1,4 +1,4 @@
--- `plan::set_place` meets its contract. The loop's invariant: the count is the rank of the set that comes next.
+-- `plan::set_place` meets its contract. The loop's invariant: the place so far is the rank of the set that comes next.
 -- The measure is how many sets are left. Assumes nothing.
 use mathlib.Core.Path.{sym, _∙_}
 use mathlib.Core.Logic.{⊎-elim}
@@ -11,10 +11,10 @@ use Rattle.plan.proofs.set_place.Statement.{statement}
 use Rattle.plan.proofs.set_place.Tie as tie
 
 abbrev Inv-loop : tie.InvT-loop
-Inv-loop p user set count₀ v₀ count v = Counting (usable-with (plan-of p) user) set v count
+Inv-loop p user set place₀ v₀ place v = Counting (usable-with (plan-of p) user) set v place
 
 abbrev μ-loop : tie.MeasureT-loop
-μ-loop p user set count₀ v₀ count v = set - v
+μ-loop p user set place₀ v₀ place v = set - v
 
 loop-holds : tie.Need-loop-holds Inv-loop μ-loop
 loop-holds c = counting-start _ _
@@ -22,8 +22,8 @@ loop-holds c = counting-start _ _
 is-usable-with-requires : tie.Need-is-usable-with-requires Inv-loop μ-loop
 is-usable-with-requires c κs = search needs
 
-add-count : tie.Need-add-count Inv-loop μ-loop
-add-count c = search needs
+add-place : tie.Need-add-place Inv-loop μ-loop
+add-place c = search needs
 
 add-v : tie.Need-add-v Inv-loop μ-loop
 add-v c = search needs
@@ -34,14 +34,14 @@ loop-less c = search needs
 loop-again : tie.Need-loop-again Inv-loop μ-loop
 loop-again c =
     let l = c .before .before .before .loop in
-    let h = c .before .before .loop-test .taken in
+    let h = c .before .before .if1 .left in
     let e = sym (c .before .is-usable-with .ensures) in
-    ⊎-elim (λ w. rw (w .1) (counting-more-in _ _ (l .v) (l .count) (l .inv) h (e ∙ w .0 .taken)))
-    (λ w. rw (w .1) (counting-more-out _ _ (l .v) (l .count) (l .inv) h (e ∙ w .0 .left)))
-    (c .if1 .came)
+    ⊎-elim (λ w. rw (w .1) (counting-more-in _ _ (l .v) (l .place) (l .inv) h (e ∙ w .0 .taken)))
+    (λ w. rw (w .1) (counting-more-out _ _ (l .v) (l .place) (l .inv) h (e ∙ w .0 .left)))
+    (c .if2 .came)
 
 returns : tie.Need-returns Inv-loop μ-loop
-returns c = counting-end _ _ _ _ (c .before .loop .inv) (c .loop-test .left)
+returns c = counting-end _ _ _ _ (c .before .loop .inv) (c .if1 .taken)
 
 pub set-place-spec : {M : Type 1} → statement M
-set-place-spec = tie.close (tie.spec Inv-loop μ-loop loop-holds is-usable-with-requires add-count add-v loop-less loop-again returns)
+set-place-spec = tie.close (tie.spec Inv-loop μ-loop loop-holds is-usable-with-requires add-place add-v loop-less loop-again returns)

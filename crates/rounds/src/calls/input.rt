@@ -70,6 +70,7 @@ fn tell(run: Run) {
         Verdict::Number => say(b": another number is answered\n"),
         Verdict::Stage => say(b": the end is at another stage\n"),
         Verdict::Set => say(b": another set is handed back\n"),
+        Verdict::Start => say(b": another start is told\n"),
         Verdict::Value => say(b": another value is read\n"),
         Verdict::Elements => say(b": other elements are handed back\n"),
     }
@@ -84,6 +85,7 @@ fn agrees(verdict: Verdict) -> bool
         Verdict::Number => false,
         Verdict::Stage => false,
         Verdict::Set => false,
+        Verdict::Start => false,
         Verdict::Value => false,
         Verdict::Elements => false,
     }

@@ -2,18 +2,19 @@
 //   check_plan, check_open          p, o
 //   Given, give_first, give_reply, handed    elements to the service, one place or block after the other
 //   check_elements, check_answers   e, a
-//   judge_close, check_close        what differs first of a close; c
+//   check_close                     c
 //   total_count, check_finish       how many totals a finish hands back; t
 //   check_service                   the call of one line
 // Each line is the call, and every number of its answer compared.
 ghost use mathlib.Core.Path.{_≡_};
 ghost use Rattle.scheme.specs.Scheme.{after};
-ghost use Rattle.rounds.specs.Judged.{judged-close, opened, closed};
+ghost use Rattle.rounds.specs.Judged.{opened, closed};
 use super::Case;
 use super::Checked;
 use super::Verdict;
 use super::agree;
 use super::judge;
+use super::judge_pair;
 use super::new_case;
 use crate::lists::holds_just;
 use crate::lists::number_at;
@@ -139,19 +140,6 @@ fn check_answers(case: Case, line: &[u16]) -> Checked {
     handed(case, took)
 }
 
-// Number and set of a close, the first that differs.
-fn judge_close(number: u32, wanted: u32, set: u32, expected: u32) -> Verdict
-    ensures { λ r. ⌜ r ≡ judged-close number wanted set expected ⌝ }
-{
-    if number != wanted {
-        return Verdict::Number;
-    }
-    if set != expected {
-        return Verdict::Set;
-    }
-    Verdict::Agrees
-}
-
 // c number set: the close, and the survivors.
 fn check_close(mut case: Case, line: &[u16]) -> Checked
     ensures { λ r. ⌜ r ≡ closed case (now (line .entry)) ⌝ }
@@ -160,11 +148,12 @@ fn check_close(mut case: Case, line: &[u16]) -> Checked
     let closed = service.close();
     let next = closed.service;
     case.service = next;
-    let verdict = judge_close(
+    let verdict = judge_pair(
         closed.number,
         number_at(line, 0),
         closed.set,
         number_at(line, 1),
+        Verdict::Set,
     );
     Checked { case, verdict }
 }

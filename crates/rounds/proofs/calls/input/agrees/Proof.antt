@@ -26,6 +26,9 @@ enum-told-6 c = search needs
 enum-told-7 : tie.Need-enum-told-7
 enum-told-7 c = search needs
 
+enum-told-8 : tie.Need-enum-told-8
+enum-told-8 c = search needs
+
 returns : tie.Need-returns
 unfolding agreed
 returns c = simp (c .enum-told .given .1)
@@ -54,6 +57,10 @@ returns-7 : tie.Need-returns-7
 unfolding agreed
 returns-7 c = simp (c .enum-told7 .given .1)
 
+returns-8 : tie.Need-returns-8
+unfolding agreed
+returns-8 c = simp (c .enum-told8 .given .1)
+
 pub agrees-spec : {M : Type 1} → statement M
 agrees-spec =
     tie.close
@@ -65,10 +72,12 @@ agrees-spec =
     enum-told-5
     enum-told-6
     enum-told-7
+    enum-told-8
     returns
     returns-2
     returns-3
     returns-4
     returns-5
     returns-6
-    returns-7)
+    returns-7
+    returns-8)

@@ -13,15 +13,15 @@ number-at-requires c κs = search needs
 number-at-requires-2 : tie.Need-number-at-requires-2
 number-at-requires-2 c κs = search needs
 
-judge-close-requires : tie.Need-judge-close-requires
-judge-close-requires c κs = search needs
+judge-pair-requires : tie.Need-judge-pair-requires
+judge-pair-requires c κs = search needs
 
 returns : tie.Need-returns
 returns c =
     let f = c .before .before in
-    cc (c .judge-close .ensures, c .before .number-at2 .ensures .0, f .number-at .ensures .0, f .before .before .close .ensures)
+    cc (c .judge-pair .ensures, c .before .number-at2 .ensures .0, f .number-at .ensures .0, f .before .before .close .ensures)
 
 pub check-close-spec : {M : Type 1} → statement M
 check-close-spec =
     tie.close
-    (tie.spec close-requires number-at-requires number-at-requires-2 judge-close-requires returns)
+    (tie.spec close-requires number-at-requires number-at-requires-2 judge-pair-requires returns)
