@@ -198,28 +198,36 @@ static void run_starts(void)
 static void run_start_refusals(void)
 {
     static const uint32_t plan[] = {PLAN}, bad[] = {3, 3, 1, 1}, too_long[] = {3, 2, 1, 17};
+    static const struct {
+        const char *what;
+        const uint32_t *plan;
+        uint32_t user, set, number;
+    } refused[] = {
+        {"bad plan", bad, 1, 7, CUTAWHENO_BAD_PLAN},
+        {"17 blocks", too_long, 1, 5, CUTAWHENO_BAD_PLAN},
+        {"bad plan, no user", bad, 0, 7, CUTAWHENO_BAD_PLAN},
+        {"bad plan, no set", bad, 1, 0, CUTAWHENO_BAD_PLAN},
+        {"bad plan, set of others", too_long, 1, 6, CUTAWHENO_BAD_PLAN},
+        {"user 0", plan, 0, 7, CUTAWHENO_BAD_USER},
+        {"user 4", plan, 4, 7, CUTAWHENO_BAD_USER},
+        {"last user", plan, UINT32_MAX, 7, CUTAWHENO_BAD_USER},
+        {"user 4, too few", plan, 4, 8, CUTAWHENO_BAD_USER},
+        {"user 4, set with it", plan, 4, 9, CUTAWHENO_BAD_USER},
+        {"no members", plan, 1, 0, CUTAWHENO_SET_UNUSABLE},
+        {"too few", plan, 1, 1, CUTAWHENO_SET_UNUSABLE},
+        {"too few, of others", plan, 1, 4, CUTAWHENO_SET_UNUSABLE},
+        {"member 4", plan, 1, 9, CUTAWHENO_SET_UNUSABLE},
+        {"member 4, of others", plan, 1, 10, CUTAWHENO_SET_UNUSABLE},
+        {"member 9", plan, 1, 256 + 5, CUTAWHENO_SET_UNUSABLE},
+        {"member 17", plan, 1, 65536 + 5, CUTAWHENO_SET_UNUSABLE},
+        {"last set number", plan, 1, UINT32_MAX, CUTAWHENO_SET_UNUSABLE},
+        {"set without 1", plan, 1, 6, CUTAWHENO_NOT_IN_SET},
+        {"set without 2", plan, 2, 5, CUTAWHENO_NOT_IN_SET},
+        {"set without 3", plan, 3, 3, CUTAWHENO_NOT_IN_SET},
+    };
 
-    expect_start("bad plan", bad, 1, 7, CUTAWHENO_BAD_PLAN, 0);
-    expect_start("17 blocks", too_long, 1, 5, CUTAWHENO_BAD_PLAN, 0);
-    expect_start("bad plan, no user", bad, 0, 7, CUTAWHENO_BAD_PLAN, 0);
-    expect_start("bad plan, no set", bad, 1, 0, CUTAWHENO_BAD_PLAN, 0);
-    expect_start("bad plan, set of others", too_long, 1, 6, CUTAWHENO_BAD_PLAN, 0);
-    expect_start("user 0", plan, 0, 7, CUTAWHENO_BAD_USER, 0);
-    expect_start("user 4", plan, 4, 7, CUTAWHENO_BAD_USER, 0);
-    expect_start("last user", plan, UINT32_MAX, 7, CUTAWHENO_BAD_USER, 0);
-    expect_start("user 4, too few", plan, 4, 8, CUTAWHENO_BAD_USER, 0);
-    expect_start("user 4, set with it", plan, 4, 9, CUTAWHENO_BAD_USER, 0);
-    expect_start("no members", plan, 1, 0, CUTAWHENO_SET_UNUSABLE, 0);
-    expect_start("too few", plan, 1, 1, CUTAWHENO_SET_UNUSABLE, 0);
-    expect_start("too few, of others", plan, 1, 4, CUTAWHENO_SET_UNUSABLE, 0);
-    expect_start("member 4", plan, 1, 9, CUTAWHENO_SET_UNUSABLE, 0);
-    expect_start("member 4, of others", plan, 1, 10, CUTAWHENO_SET_UNUSABLE, 0);
-    expect_start("member 9", plan, 1, 256 + 5, CUTAWHENO_SET_UNUSABLE, 0);
-    expect_start("member 17", plan, 1, 65536 + 5, CUTAWHENO_SET_UNUSABLE, 0);
-    expect_start("last set number", plan, 1, UINT32_MAX, CUTAWHENO_SET_UNUSABLE, 0);
-    expect_start("set without 1", plan, 1, 6, CUTAWHENO_NOT_IN_SET, 0);
-    expect_start("set without 2", plan, 2, 5, CUTAWHENO_NOT_IN_SET, 0);
-    expect_start("set without 3", plan, 3, 3, CUTAWHENO_NOT_IN_SET, 0);
+    for (size_t i = 0; i < sizeof refused / sizeof *refused; i++)
+        expect_start(refused[i].what, refused[i].plan, refused[i].user, refused[i].set, refused[i].number, 0);
 }
 
 /* What the key maker refuses leaves its buffer as it came. */
