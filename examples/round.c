@@ -1,6 +1,6 @@
 /* Document 01's example round through the library, from C: the random list from raw bytes, keys, first messages, the service, the
- * replies to set 5, the total 40, where the shares for each set start, the largest figure, a call for each refusal, and a round of signed
- * figures. Prints what it gets on standard error; exit status 1 where anything is not as expected. */
+ * replies to set 5, the total 40, where the shares for each set start, the largest figure, a call for each refusal, elements that come
+ * again, and a round of signed figures. Prints what it gets on standard error; exit status 1 where anything is not as expected. */
 #include <inttypes.h>
 #include <stdio.h>
 #include <string.h>
@@ -392,7 +392,7 @@ static void run_signed_round(void)
     expect_reading("total, as it is meant", cutawheno_read_total(totals[0], CUTAWHENO_SIGNED), CUTAWHENO_TAKEN, -9);
 }
 
-/* The three report; then what is refused leaves every array as it came. */
+/* The three report; then what is refused leaves every array as it came, and so does an element that comes again. */
 static void run_service_refusals(void)
 {
     const uint16_t untouched[CUTAWHENO_MOST_PLACES] = {7}, shares[USERS] = {340, 230, 175};
@@ -414,7 +414,10 @@ static void run_service_refusals(void)
     expect("element", cutawheno_service_first_element(s.head, s.first, 2, 0, CUTAWHENO_Q), CUTAWHENO_BAD_ELEMENT);
     expect("element of 17 bits", cutawheno_service_first_element(s.head, s.first, 2, 0, 65536 + 220), CUTAWHENO_BAD_ELEMENT);
     expect("last element", cutawheno_service_first_element(s.head, s.first, 2, 0, UINT32_MAX), CUTAWHENO_BAD_ELEMENT);
-    expect("held", cutawheno_service_first_element(s.head, s.first, 1, 0, 110), CUTAWHENO_HELD);
+    expect("first again", cutawheno_service_first_element(s.head, s.first, 1, 0, 110), CUTAWHENO_TAKEN);
+    expect("another first", cutawheno_service_first_element(s.head, s.first, 1, 0, 111), CUTAWHENO_HELD);
+    expect("first behind another", cutawheno_service_first_element(s.head, s.first, 1, 0, 110), CUTAWHENO_TAKEN);
+    expect("first of 17 bits", cutawheno_service_first_element(s.head, s.first, 1, 0, 65536 + 110), CUTAWHENO_BAD_ELEMENT);
     expect("early reply", cutawheno_service_reply_element(s.head, s.reply, 1, 0, 340), CUTAWHENO_OTHER_PHASE);
     expect("early finish", cutawheno_service_finish(LEND(s), totals), CUTAWHENO_OTHER_PHASE);
     CutawhenoClosed closed = cutawheno_service_close(LEND(s));
@@ -430,7 +433,9 @@ static void run_service_refusals(void)
         expect("reply", cutawheno_service_reply_element(s.head, s.reply, user, 0, shares[user - 1]), CUTAWHENO_TAKEN);
     before = s;
     expect("unexplained", cutawheno_service_finish(LEND(s), totals), CUTAWHENO_UNEXPLAINED);
-    expect("reply held", cutawheno_service_reply_element(s.head, s.reply, 3, 0, 174), CUTAWHENO_HELD);
+    expect("reply again", cutawheno_service_reply_element(s.head, s.reply, 3, 0, 175), CUTAWHENO_TAKEN);
+    expect("another reply", cutawheno_service_reply_element(s.head, s.reply, 3, 0, 174), CUTAWHENO_HELD);
+    expect("reply behind another", cutawheno_service_reply_element(s.head, s.reply, 3, 0, 175), CUTAWHENO_TAKEN);
     expect("block 1", cutawheno_service_reply_element(s.head, s.reply, 3, 1, 174), CUTAWHENO_BAD_PLACE);
     expect("second close", cutawheno_service_close(LEND(s)).number, CUTAWHENO_OTHER_PHASE);
     expect_same("replying", &s, &before);

@@ -23,9 +23,10 @@
  * same records.
  *
  * Each call answers CUTAWHENO_TAKEN or the earliest refusal that applies, in the order that its comment gives. A refused call
- * writes nothing into a lent buffer or array. No input makes a call fail in any other way, provided that each pointer leads to as many
- * elements as the length beside it or in its brackets says, and that what is to be written overlaps nothing else that is lent. A list
- * of length 0 may come with any pointer, also a null pointer.
+ * leaves every lent buffer and array as it came; where an element call answers HELD it may have written the held element back. No
+ * input makes a call fail in any other way, provided that each pointer leads to as many elements as the length beside it or in its
+ * brackets says, and that what is to be written overlaps nothing else that is lent. A list of length 0 may come with any pointer, also a
+ * null pointer.
  */
 #ifndef CUTAWHENO_H
 #define CUTAWHENO_H
@@ -122,7 +123,7 @@ enum {
     CUTAWHENO_BAD_PLACE = 8,      /* a place or block that the plan has not */
     CUTAWHENO_PLAN_ORDER = 11,    /* no plan yet, or a second plan */
     CUTAWHENO_OTHER_PHASE = 12,   /* not in this phase */
-    CUTAWHENO_HELD = 13,          /* that place or block is held already */
+    CUTAWHENO_HELD = 13,          /* another element is held at that place or block */
     CUTAWHENO_NO_SURVIVOR = 14,   /* the user is not a survivor */
     CUTAWHENO_TOO_FEW = 15,       /* fewer complete users than the threshold */
     CUTAWHENO_UNEXPLAINED = 16,   /* no sums and noise explain all complete replies */
@@ -241,7 +242,8 @@ CUTAWHENO_ANSWER
 uint32_t cutawheno_service_open(uint32_t head[CUTAWHENO_HEAD], uint16_t first[CUTAWHENO_FIRSTS], uint16_t reply[CUTAWHENO_REPLIES],
                                 uint32_t round);
 
-/* Holds an element of a user's first message, while gathering.
+/* Holds an element of a user's first message, while gathering. Where the same element is held already it is a repeat: the answer is
+ * CUTAWHENO_TAKEN, and nothing changes.
  * Refusals, the earliest: PLAN_ORDER, OTHER_PHASE, BAD_USER, BAD_PLACE, BAD_ELEMENT, HELD. */
 CUTAWHENO_ANSWER
 uint32_t cutawheno_service_first_element(const uint32_t head[CUTAWHENO_HEAD], uint16_t first[CUTAWHENO_FIRSTS],
@@ -253,7 +255,8 @@ CUTAWHENO_ANSWER
 CutawhenoClosed cutawheno_service_close(uint32_t head[CUTAWHENO_HEAD], const uint16_t first[CUTAWHENO_FIRSTS],
                                         uint16_t reply[CUTAWHENO_REPLIES]);
 
-/* Holds an element of a survivor's reply, while replying.
+/* Holds an element of a survivor's reply, while replying. Where the same element is held already it is a repeat: the answer is
+ * CUTAWHENO_TAKEN, and nothing changes.
  * Refusals, the earliest: PLAN_ORDER, OTHER_PHASE, BAD_USER, BAD_PLACE, BAD_ELEMENT, NO_SURVIVOR, HELD. */
 CUTAWHENO_ANSWER
 uint32_t cutawheno_service_reply_element(const uint32_t head[CUTAWHENO_HEAD], uint16_t reply[CUTAWHENO_REPLIES],

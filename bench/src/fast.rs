@@ -1,4 +1,4 @@
-//! Document 01, and items 1 to 4 of document 02, in plain Rust, written for speed: the algorithms, tests and order of refusals of the
+//! Document 01, and items 1 to 5 of document 02, in plain Rust, written for speed: the algorithms, tests and order of refusals of the
 //! proved crates. Every call answers 0, or the number of its refusal, and then changes nothing.
 #![allow(dead_code)] // each program uses its part
 
@@ -406,6 +406,19 @@ pub struct Service {
 const NO_FIRST: [[u16; MOST_PLACES]; MOST_USERS] = [[0; MOST_PLACES]; MOST_USERS];
 const NO_REPLY: [Blocks; MOST_USERS] = [[0; MOST_BLOCKS]; MOST_USERS];
 
+/// Holds an element where none is held. A repeat changes nothing, and of another one 13 is answered. A new element and a repeat take the
+/// same way, so that there is no branch between them to predict.
+fn hold(held: &mut u16, element: u32) -> u32 {
+    let wanted = element as u16 + 1;
+    let left = if *held == 0 { wanted } else { *held };
+    *held = left;
+    if left == wanted {
+        0
+    } else {
+        13
+    }
+}
+
 /// The users whose first `each` elements are held.
 fn complete_set<const N: usize>(held: &[[u16; N]], each: usize) -> u32 {
     held.iter().enumerate().filter(|(_, row)| row[..each].iter().all(|&x| x != 0)).map(|(k, _)| 1 << k).sum()
@@ -468,12 +481,7 @@ impl Service {
         if Q <= element {
             return 3;
         }
-        let held = &mut self.first[user as usize - 1][place as usize];
-        if *held != 0 {
-            return 13;
-        }
-        *held = element as u16 + 1;
-        0
+        hold(&mut self.first[user as usize - 1][place as usize], element)
     }
 
     pub fn close(&mut self) -> u32 {
@@ -508,12 +516,7 @@ impl Service {
         if !holds(self.survivors, user) {
             return 14;
         }
-        let held = &mut self.reply[user as usize - 1][block as usize];
-        if *held != 0 {
-            return 13;
-        }
-        *held = element as u16 + 1;
-        0
+        hold(&mut self.reply[user as usize - 1][block as usize], element)
     }
 
     /// The totals go to the first L places.

@@ -123,30 +123,44 @@ impl Records {
         self.0.push(6);
     }
 
-    /// Round upon round, with nothing refused; each figure is one more than in the round before, and 0 behind the bound.
+    /// Round upon round, with nothing refused.
     pub fn accepted(size: usize) -> Records {
+        Records::rounds(size, 1)
+    }
+
+    /// The same with every record twice: elements are taken again, and the others refused.
+    pub fn repeated(size: usize) -> Records {
+        Records::rounds(size, 2)
+    }
+
+    /// Each figure is one more than in the round before, and 0 behind the bound. Each record comes so many times.
+    fn rounds(size: usize, times: usize) -> Records {
         let round = Round::new(plan(8, 2, 1, 16), &mut Random(1));
         let figures = round.plan.bound(Use::Counts) as u32 + 1;
-        let mut records = Records::plan(round.plan);
+        let mut records = Records(Records::plan(round.plan).0.repeat(times));
         let mut number = 0;
         while records.0.len() < size {
             number += 1;
-            records.open(number);
+            records.repeat(times, |records| records.open(number));
             for (user, place, x) in round.firsts_of(|figure| (figure + number) % figures) {
-                records.first(user, place, x);
+                records.repeat(times, |records| records.first(user, place, x));
             }
-            records.close();
+            records.repeat(times, Records::close);
             for (k, row) in round.replies.iter().enumerate() {
                 for (block, &x) in row.iter().enumerate() {
-                    records.reply(k as u32 + 1, block as u32, x as u32);
+                    records.repeat(times, |records| records.reply(k as u32 + 1, block as u32, x as u32));
                 }
             }
-            records.finish();
+            records.repeat(times, Records::finish);
         }
         records
     }
 
-    /// One round is opened and all its first elements are held; everything behind that is refused, for eight reasons in turn.
+    fn repeat(&mut self, times: usize, put: impl Fn(&mut Records)) {
+        (0..times).for_each(|_| put(self));
+    }
+
+    /// One round is opened and all its first elements are held; everything behind that is refused, in eight ways in turn.
     pub fn refused(size: usize) -> Records {
         let round = Round::new(plan(8, 2, 1, 16), &mut Random(1));
         let firsts = round.firsts();
@@ -158,10 +172,10 @@ impl Records {
         while records.0.len() < size {
             for chunk in firsts.chunks_exact(8) {
                 let (user, place, x) = chunk[0];
-                records.first(user, place, x); // held
+                records.first(user, place, (x + 1) % Q); // another is held
                 records.reply(user, 0, x); // not in this phase
                 records.first(9, place, x); // no such user
-                records.first(user, place, x ^ 1); // held
+                records.first(user, place, (x + Q - 1) % Q); // another is held
                 records.first(user, 16, x); // no such place
                 records.first(user, place, Q); // no element
                 records.finish(); // not in this phase
@@ -171,7 +185,8 @@ impl Records {
         records
     }
 
-    /// Rounds in which each first element and each reply comes twice, the second now or later by chance, and one user drops out.
+    /// Rounds in which each first element comes twice, by chance at once, as it was or changed, or behind the close; beside each reply stands
+    /// one for no such block, and one user drops out.
     pub fn mixed(size: usize) -> Records {
         let mut random = Random(2);
         let round = Round::new(plan(8, 7, 1, 16), &mut random);
@@ -183,10 +198,10 @@ impl Records {
             let mut late = vec![];
             for (user, place, x) in round.firsts() {
                 records.first(user, place, x);
-                if random.below(2) == 0 {
-                    records.first(user, place, x);
-                } else {
-                    late.push((user, place, x));
+                match random.below(4) {
+                    0 => records.first(user, place, x),
+                    1 => records.first(user, place, (x + 1) % Q), // another is held
+                    _ => late.push((user, place, x)),
                 }
             }
             records.close();

@@ -17,7 +17,7 @@ pub enum Refusal {
     PlaceOrBlock = 8,
     PlanMissingOrRepeated = 11,
     WrongPhase = 12,
-    AlreadyHeld = 13,
+    OtherHeld = 13,
     NotSurvivor = 14,
     TooFew = 15,
     Unexplained = 16,

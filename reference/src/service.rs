@@ -1,6 +1,7 @@
 //! The pooling service: "The stream" without its bytes, one call for each
 //! kind of record, refusals in document 01's order. A refused call changes
-//! nothing.
+//! nothing, and neither does a repeat of an element that is held (document 02,
+//! item 5).
 //!
 //! - `Service`: the plan, the last opened number and the phase
 //! - `Service::plan`: refusals 11, 1
@@ -70,9 +71,7 @@ impl Service {
         refuse_if(!plan.has_airfield(airfield), Refusal::AirfieldNumber)?;
         refuse_if(place >= plan.row_length(), Refusal::PlaceOrBlock)?;
         refuse_if(!is_element(element), Refusal::NotElement)?;
-        refuse_if(firsts.contains_key(&(airfield, place)), Refusal::AlreadyHeld)?;
-        firsts.insert((airfield, place), element);
-        Ok(())
+        hold(firsts, (airfield, place), element)
     }
 
     /// Gives the round and the survivors.
@@ -105,9 +104,7 @@ impl Service {
         refuse_if(block >= plan.blocks(), Refusal::PlaceOrBlock)?;
         refuse_if(!is_element(element), Refusal::NotElement)?;
         refuse_if(!holds(*survivors, airfield), Refusal::NotSurvivor)?;
-        refuse_if(replies.contains_key(&(airfield, block)), Refusal::AlreadyHeld)?;
-        replies.insert((airfield, block), element);
-        Ok(())
+        hold(replies, (airfield, block), element)
     }
 
     /// Gives the round and the L totals. Every complete reply counts, partial
@@ -131,6 +128,13 @@ impl Service {
     fn accepted_plan(&self) -> Result<Plan, Refusal> {
         self.plan.ok_or(Refusal::PlanMissingOrRepeated)
     }
+}
+
+/// Holds the element where none is held. What is held stays: the same element
+/// is a repeat, and only another one is refused.
+fn hold(held: &mut Held, at: (u8, usize), element: Element) -> Result<(), Refusal> {
+    let first = *held.entry(at).or_insert(element);
+    refuse_if(first != element, Refusal::OtherHeld)
 }
 
 /// All held elements of one airfield, by rising place or block.

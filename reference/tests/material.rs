@@ -1,7 +1,7 @@
 //! The generated material is repeatable and reaches what it is meant to reach.
 
 use reference::material::{
-    all_plans, calls, damaged, drawn, found, plan_by_seed, read, rounds, whole,
+    all_plans, calls, damaged, drawn, found, plan_by_seed, read, repeated, rounds, whole,
 };
 use reference::stream::{run, to_bytes, Records};
 use std::collections::BTreeSet;
@@ -48,6 +48,26 @@ fn rounds_reach_every_line_they_can() {
     ];
     assert_eq!(heads(&outputs), set(&expected));
     assert!(outputs.contains("total 4294967295 "));
+}
+
+#[test]
+fn repeated_streams_reach_every_line_they_can() {
+    let outputs: String =
+        (0..SEEDS).map(|seed| run(&to_bytes(&repeated::records(seed, ROUNDS)))).collect();
+    let expected = [
+        "plan",
+        "open",
+        "survivors",
+        "total",
+        "refused 11",
+        "refused 12",
+        "refused 13",
+        "refused 14",
+        "refused 15",
+        "refused 16",
+        "refused 17",
+    ];
+    assert_eq!(heads(&outputs), set(&expected));
 }
 
 #[test]
@@ -271,18 +291,25 @@ fn whole_rounds_reach_every_answer_they_can() {
     let text: String = whole::cases(0, CASES).collect();
     let expected = [
         "p 0", "k 0", "s 0", "f 0", "r 0", "r 5", "r 6", "r 19", "o 0", "o 17", "e 0", "e 3",
-        "e 4", "e 8", "e 12", "e 13", "c 0", "c 15", "a 0", "a 4", "a 8", "a 12", "a 14", "t 0",
-        "t 12", "t 15", "t 16", "v 0",
+        "e 4", "e 8", "e 12", "e 13", "c 0", "c 15", "a 0", "a 4", "a 8", "a 12", "a 13", "a 14",
+        "t 0", "t 12", "t 15", "t 16", "v 0",
     ];
     assert_eq!(answers(&text, number_at), set(&expected));
     for read in ["v 0 65520 0 0 65520", "v 1 32760 0 0 32760", "v 1 32761 0 1 32760"] {
         assert!(text.lines().any(|line| line == read), "no line {read}");
+    }
+    for letter in ["e", "a"] {
+        let lines: Vec<&str> = text.lines().filter(|line| line.starts_with(letter)).collect();
+        let taken = |line: &str| line.split(' ').nth(number_at(letter)) == Some("0");
+        let again = |pair: &[&str]| pair[0] == pair[1] && taken(pair[0]);
+        assert!(lines.windows(2).any(again), "no {letter} comes again");
     }
 }
 
 #[test]
 fn the_same_seed_gives_the_same_material() {
     assert_eq!(rounds::records(9, ROUNDS), rounds::records(9, ROUNDS));
+    assert_eq!(repeated::records(9, ROUNDS), repeated::records(9, ROUNDS));
     assert_eq!(damaged::bytes(9, STEPS), damaged::bytes(9, STEPS));
     assert!(calls::cases(9, 4).eq(calls::cases(9, 4)));
     assert!(drawn::cases(9, 4).eq(drawn::cases(9, 4)));

@@ -1,6 +1,6 @@
 //! Document 01's example round through the library, from Rust: the random list from raw bytes, keys, first messages, the service, the
-//! replies to set 5, the total 40, where the shares for each set start, the largest figure, signed figures, and some refusals. Exit status
-//! 101 where anything is not as expected.
+//! replies to set 5, the total 40, where the shares for each set start, the largest figure, signed figures, elements that come again, and
+//! some refusals. Exit status 101 where anything is not as expected.
 use cutawheno::{read_total, End, Plan, Refusal, Service, Use, LONGEST_KEY, LONGEST_LIST, MOST_PLACES};
 
 const PLAN: Plan = Plan { users: 3, threshold: 2, collusion: 1, blocks: 1 };
@@ -37,14 +37,24 @@ fn airfield(user: u32) -> Airfield {
     Airfield { user, end: End::resume(end.numbers()), key, message }
 }
 
-/// Airfields 1 and 3 report, 2 comes too late, and the survivors' figures add up to 40.
+/// An element that comes again is taken and changes nothing; only another one is refused, and the first stays.
+fn send_repeatedly(service: &mut Service, element: u16, send: impl Fn(&mut Service, u32) -> Result<(), Refusal>) {
+    let element = u32::from(element);
+    assert_eq!(send(service, element), Ok(()));
+    let held = service.clone();
+    assert_eq!(send(service, element), Ok(()));
+    assert_eq!(send(service, element + 1), Err(Refusal::Held));
+    assert_eq!(send(service, element), Ok(()));
+    assert_eq!(*service, held);
+}
+
+/// Airfields 1 and 3 report, 2 comes too late, and the survivors' figures add up to 40. Every element comes again.
 fn run_round(service: &mut Service) {
     let mut airfields = [1, 2, 3].map(airfield);
     assert_eq!(service.open(7), Ok(()));
     for a in [&airfields[0], &airfields[2]] {
         assert_eq!(service.close(), Err(Refusal::TooFew));
-        assert_eq!(service.first_element(a.user, 0, a.message[0].into()), Ok(()));
-        assert_eq!(service.first_element(a.user, 0, a.message[0].into()), Err(Refusal::Held));
+        send_repeatedly(service, a.message[0], |service, element| service.first_element(a.user, 0, element));
     }
     let set = service.close();
     assert_eq!(set, Ok(5));
@@ -59,7 +69,7 @@ fn run_round(service: &mut Service) {
         if let Ok(shares) = reply {
             assert_eq!(a.end.reply(&a.key, 7), Err(Refusal::OtherSet));
             assert_eq!(service.finish(&mut [0; MOST_PLACES]), Err(Refusal::TooFew));
-            assert_eq!(service.reply_element(a.user, 0, shares[0].into()), Ok(()));
+            send_repeatedly(service, shares[0], |service, element| service.reply_element(a.user, 0, element));
         }
     }
     let mut totals = [7; MOST_PLACES];

@@ -76,7 +76,7 @@ pub enum Refusal {
     PlanOrder = 11,
     /// Not in this phase.
     OtherPhase = 12,
-    /// That place or block is held already.
+    /// Another element is held at that place or block.
     Held = 13,
     /// The airfield is not a survivor.
     NoSurvivor = 14,
@@ -114,7 +114,7 @@ impl Refusal {
             Refusal::BadPlace => "the place or block is one that the plan has not",
             Refusal::PlanOrder => "no plan yet, or a second plan",
             Refusal::OtherPhase => "not in this phase",
-            Refusal::Held => "that place or block is held already",
+            Refusal::Held => "another element is held at that place or block",
             Refusal::NoSurvivor => "the airfield is not a survivor",
             Refusal::TooFew => "fewer than U complete airfields",
             Refusal::Unexplained => "no sums and noise explain all complete replies",
@@ -431,7 +431,7 @@ impl Service {
         outcome(unsafe { cutawheno_service_open(&mut self.head, &mut self.first, &mut self.reply, round) })
     }
 
-    /// Holds an element of a user's first message.
+    /// Holds an element of a user's first message. A repeat of the element that is held there is taken, and changes nothing.
     pub fn first_element(&mut self, user: u32, place: u32, element: u32) -> Result<(), Refusal> {
         outcome(unsafe { cutawheno_service_first_element(&self.head, &mut self.first, user, place, element) })
     }
@@ -443,7 +443,7 @@ impl Service {
         Ok(closed.set)
     }
 
-    /// Holds an element of a survivor's reply.
+    /// Holds an element of a survivor's reply. A repeat of the element that is held there is taken, and changes nothing.
     pub fn reply_element(&mut self, user: u32, block: u32, element: u32) -> Result<(), Refusal> {
         outcome(unsafe { cutawheno_service_reply_element(&self.head, &mut self.reply, user, block, element) })
     }

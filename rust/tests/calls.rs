@@ -418,6 +418,47 @@ fn the_longest_lengths_are_reached_and_not_passed() {
     assert_eq!([longest(Plan::row_len), longest(Plan::list_len), longest(Plan::key_len)], [MOST_PLACES, LONGEST_LIST, LONGEST_KEY]);
 }
 
+/// Sends an element where none is held; then repeats of it are taken, others are refused, and neither changes anything.
+fn send_repeatedly(service: &mut Service, element: u32, send: impl Fn(&mut Service, u32) -> Result<(), Refusal>) {
+    assert_eq!(send(service, element), Ok(()));
+    let held = service.clone();
+    for other in [0, 1, 65519, 65520, (element + 1) % Q, (element + Q - 1) % Q] {
+        assert_eq!(send(service, other), if other == element { Ok(()) } else { Err(Refusal::Held) });
+        assert_eq!(send(service, element), Ok(()));
+        assert_eq!(*service, held);
+    }
+    for no_element in [65521, 65535, element + 65521, element + 65536] {
+        assert_eq!(send(service, no_element), Err(Refusal::BadElement));
+    }
+    assert_eq!(*service, held);
+}
+
+/// First elements and replies may come again in their phase, also 0 and 65520; behind it they are refused, and behind an open they are new.
+#[test]
+fn elements_may_come_again() {
+    let mut random = Random(16);
+    let mut element = move || [0, 65520, random.below(Q)][random.below(3) as usize];
+    for plan in plans() {
+        let mut service = Service::new();
+        service.plan(plan).unwrap();
+        for round in 1..=2 {
+            service.open(round).unwrap();
+            for (user, place) in (1..=plan.users).flat_map(|user| (0..plan.row_len() as u32).map(move |place| (user, place))) {
+                assert_eq!(service.reply_element(user, 0, 0), Err(Refusal::OtherPhase));
+                send_repeatedly(&mut service, element(), |service, element| service.first_element(user, place, element));
+            }
+            assert_eq!(service.close(), Ok((1 << plan.users) - 1));
+            for (user, block) in (1..=plan.threshold).flat_map(|user| (0..plan.blocks).map(move |block| (user, block))) {
+                assert_eq!(service.first_element(user, 0, 0), Err(Refusal::OtherPhase));
+                send_repeatedly(&mut service, element(), |service, element| service.reply_element(user, block, element));
+            }
+            // the replies of just U airfields are always explained
+            assert!(service.finish(&mut [0; MOST_PLACES]).is_ok());
+            assert_eq!([service.first_element(1, 0, 0), service.reply_element(1, 0, 0)], [Err(Refusal::OtherPhase); 2]);
+        }
+    }
+}
+
 /// Any numbers get an answer, and a refusal changes neither state nor buffer.
 #[test]
 fn any_numbers_are_answered() {
@@ -476,6 +517,7 @@ fn any_calls_on_a_service_are_answered() {
 #[test]
 fn refusals_have_numbers_and_words() {
     assert_eq!(Refusal::NotInSet.to_string(), "refused 6: the airfield is not in the set");
+    assert_eq!(Refusal::Held.to_string(), "refused 13: another element is held at that place or block");
     assert_eq!(
         Refusal::FigureBeyond.to_string(),
         "refused 32: a count is above 65520 / K, or a signed figure further from zero than 32760 / K, rounded down"

@@ -216,6 +216,24 @@ fn the_kept_message_is_printed_again() {
     folder.airfield(&["again", "end1", "10"]).ended(2, &["again takes END"]);
 }
 
+/// Shows that messages that are sent again leave the lines as they are, by the second implementation.
+#[test]
+fn what_is_sent_again_changes_no_line() {
+    let folder = Folder::with_ends("repeats");
+    let mut told = "plan 3 2 1 1\nopen 1\n".to_string();
+    for (end, figure) in [("end1", "10"), ("end3", "30")] {
+        told += &folder.airfield(&["first", end, figure]).done();
+        told += &folder.airfield(&["again", end]).done();
+    }
+    told += "close\n";
+    for end in ["end1", "end1", "end3", "end3"] {
+        told += &folder.airfield(&["reply", end, "5"]).done();
+    }
+    told += "finish\n";
+    let stream = reference::text::encode(&told).unwrap();
+    assert_eq!(run(&stream), "plan 3 2 1 1\nopen 1\nsurvivors 1 5\ntotal 1 40\n");
+}
+
 /// Shows that a refusal changes nothing, and that its message says what was wanted and what was found.
 #[test]
 fn refusals_say_what_was_wanted() {

@@ -1,5 +1,5 @@
 -- Sums and products over a list of indices.
---   In, Distinct   a number stands in a list; no number stands there twice
+--   In, Distinct   something stands in a list; no number stands there twice
 --   sum, product   over the indices of a list
 -- Assumes nothing: these are definitions.
 use mathlib.Core.Path.{_≡_}
@@ -8,7 +8,7 @@ use mathlib.Core.List.{List, [], _∷_}
 use Prim.Native.Nat.{ℕ}
 use Rattle.algebra.specs.Field.{Field}
 
-abbrev pub In : ℕ → List ℕ → Type 0
+abbrev pub In : {X : Type 0} → X → List X → Type 0
 In k [] = ⊥
 In k (l ∷ ls) = (k ≡ l) ⊎ In k ls
 

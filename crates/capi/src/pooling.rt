@@ -150,7 +150,7 @@ pub extern "C" fn cutawheno_service_open(
     0
 }
 
-// 11, 12, 4, 8, 3, 13.
+// 11, 12, 4, 8, 3, 13. The element that is held is taken again, and changes nothing.
 #[no_mangle]
 pub extern "C" fn cutawheno_service_first_element(
     head: &[u32; NUMBERS],
@@ -189,7 +189,7 @@ pub extern "C" fn cutawheno_service_close(
     CutawhenoClosed { number, set }
 }
 
-// 11, 12, 4, 8, 3, 14, 13.
+// 11, 12, 4, 8, 3, 14, 13. The element that is held is taken again, and changes nothing.
 #[no_mangle]
 pub extern "C" fn cutawheno_service_reply_element(
     head: &[u32; NUMBERS],

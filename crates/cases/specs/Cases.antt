@@ -1,5 +1,5 @@
 -- The starred examples of document 01 ("Example round") as document 02 changes them, and some of raw bytes, of the bounds on figures, of
--- signed figures and of lookups, about the definitions that the contracts name: one table, a row for each example.
+-- signed figures, of lookups and of repeats, about the definitions that the contracts name: one table, a row for each example.
 --   plan, random, partner-list, bad-list, figures   K, U, T, M = 3, 2, 1, 1; the random list, its partner, one that is refused; tables of figures
 --   changes                                         whole numbers at both ends of what is read back, and about zero
 --   drawn, six-numbers                              number and list that raw bytes leave of a lent list; most of the example list as bytes
@@ -9,6 +9,8 @@
 --   looked-up                                       number and start that a lookup of a set hands back
 --   tried                                           the numbers that the service and an airfield end have for a plan
 --   planned, opened, pooled, finish-tells           a service with the plan; in a round; with the replies; what its finish tells
+--   first-numbers, reply-numbers                    what airfield 1's elements for one place or block are answered, one behind the other
+--   closed-5, finished-5                            a service behind the close with survivors 1 and 3, and behind the finish
 --   Cases                                           THE TABLE
 -- Assumes nothing: these are definitions.
 use mathlib.Core.Path.{_≡_}
@@ -137,6 +139,21 @@ replies ((k, y) ∷ l) s = replies l (reply-step sixteen s k 0 y .service)
 unfoldable pub pooled : (sent answered : List (ℕ × ℕ)) → Service
 pooled xs ys = replies ys (close-step (firsts xs (opened 7)) .service)
 
+unfoldable pub first-numbers : (elements : List ℕ) → Service → List ℕ
+first-numbers [] s = []
+first-numbers (x ∷ l) s = let t = first-step sixteen s 1 0 x in t .number ∷ first-numbers l (t .service)
+
+unfoldable pub reply-numbers : (elements : List ℕ) → Service → List ℕ
+reply-numbers [] s = []
+reply-numbers (y ∷ l) s = let t = reply-step sixteen s 1 0 y in t .number ∷ reply-numbers l (t .service)
+
+-- survivors 1 and 3: before any reply, and behind the finish
+unfoldable pub closed-5 : Service
+closed-5 = pooled ((1, 110) ∷ (3, 330) ∷ []) []
+
+unfoldable pub finished-5 : Service
+finished-5 = finish-step sixteen laws16 (pooled ((1, 110) ∷ (3, 330) ∷ []) ((1, 220) ∷ (3, 112) ∷ [])) .service
+
 -- number and total
 unfoldable pub finish-tells : Finished → List ℕ
 finish-tells f = f .number ∷ take 1 (f .totals)
@@ -240,3 +257,14 @@ pub record Cases : Type 0 where
   pub lookups-8 : map (looked-up (code-plan 8 2 1 16) 1) (3 ∷ 255 ∷ 259 ∷ []) ≡ (0, 16) ∷ (0, 2032) ∷ (5, 0) ∷ []
   pub lookup-4 : map (λ k. looked-up plan k 1) (0 ∷ 4 ∷ []) ≡ replicate 2 (4, 0)
   pub lookup-first : looked-up (code-plan 3 3 1 1) 0 1 ≡ (1, 0)
+  -- repeats: of 0, of 110 and of 65520; another element is 13 and the first stays; 3, 12 and 14 come before
+  pub first-repeats : map (λ x. first-numbers (x ∷ x ∷ 111 ∷ x ∷ 65521 ∷ x ∷ []) (opened 7)) (0 ∷ 110 ∷ 65520 ∷ [])
+      ≡ replicate 3 (0 ∷ 0 ∷ 13 ∷ 0 ∷ 3 ∷ 0 ∷ [])
+  pub reply-repeats : map (λ y. reply-numbers (y ∷ y ∷ 111 ∷ y ∷ 65521 ∷ y ∷ []) closed-5) (0 ∷ 110 ∷ 65520 ∷ [])
+      ≡ replicate 3 (0 ∷ 0 ∷ 13 ∷ 0 ∷ 3 ∷ 0 ∷ [])
+  pub late-repeats : first-numbers (110 ∷ 111 ∷ []) closed-5 ++ first-numbers (110 ∷ []) finished-5 ++ reply-numbers (220 ∷ []) finished-5
+      ≡ replicate 4 12
+  pub not-survivor : reply-step sixteen closed-5 2 0 220 .number ≡ 14
+  pub total-5-repeated :
+      finish-tells (finish-step sixteen laws16
+      (pooled ((1, 110) ∷ (1, 110) ∷ (3, 330) ∷ (1, 111) ∷ []) ((1, 220) ∷ (3, 112) ∷ (1, 220) ∷ (3, 113) ∷ []))) ≡ 0 ∷ 40 ∷ []

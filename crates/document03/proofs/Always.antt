@@ -27,7 +27,7 @@ use Rattle.document03.specs.Ours.{our-plan, our-held, our-state, our-rec
 use Rattle.document03.specs.Service as S
 use Rattle.document03.specs.Conform.{Sound, Stays-sound, Answered, Always-answers}
 use Rattle.document03.proofs.Sets.{plan-good-same}
-use Rattle.document03.proofs.State.{planned-same, refusal-same}
+use Rattle.document03.proofs.State.{planned-same, taken-same}
 use Rattle.document03.proofs.Explains.{explained-same}
 use Rattle.document03.proofs.Answers.{finish-same}
 use Rattle.document03.proofs.Steps.{finish-good}
@@ -77,12 +77,12 @@ has-plan-here s h = eqb-false (s .phase) 0 (planned-same (s .phase) ∙ ap not h
 
 changed-sound : (r : S.Record) (s : S.State) → Sound s → S.record-refusal r s ≡ 0 → Sound (S.changed r s)
 unfolding S.changed S.planned S.gathered S.with-first S.closed S.with-reply S.idle-again our-record refusal
-changed-sound (S.a-plan p) s h e = λ z. plan-good-same p ∙ unless-zero _ _ (then-zero _ _ (sym (refusal-same (S.a-plan p) s) ∙ e) .1)
-changed-sound (S.open-round r) s h e = λ z. h (has-plan-here s (plan-here _ (then-zero _ _ (sym (refusal-same (S.open-round r) s) ∙ e) .0)))
+changed-sound (S.a-plan p) s h e = λ z. plan-good-same p ∙ unless-zero _ _ (then-zero _ _ (taken-same (S.a-plan p) s e) .1)
+changed-sound (S.open-round r) s h e = λ z. h (has-plan-here s (plan-here _ (then-zero _ _ (taken-same (S.open-round r) s e) .0)))
 changed-sound (S.first-element k i x) s h e = h
-changed-sound S.close-round s h e = λ z. h (has-plan-here s (gathers _ (then-zero _ _ (sym (refusal-same S.close-round s) ∙ e) .0) .0))
+changed-sound S.close-round s h e = λ z. h (has-plan-here s (gathers _ (then-zero _ _ (taken-same S.close-round s e) .0) .0))
 changed-sound (S.reply-element k b x) s h e = h
-changed-sound S.finish-round s h e = λ z. h (has-plan-here s (replies _ (then-zero _ _ (sym (refusal-same S.finish-round s) ∙ e) .0) .0))
+changed-sound S.finish-round s h e = λ z. h (has-plan-here s (replies _ (then-zero _ _ (taken-same S.finish-round s e) .0) .0))
 
 steps-sound : (r : S.Record) (s t : S.State) (l : S.Line) → Sound s → S.Steps r s l t → Sound t
 unfolding S.record-refusal S.changed

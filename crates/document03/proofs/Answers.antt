@@ -33,7 +33,7 @@ use Rattle.document03.proofs.Sets.{plan-good-same, places-same, in-set-
 use Rattle.document03.proofs.Shares.{total-at-same}
 use Rattle.document03.proofs.Keys.{key-same, places-in-key, first-message-same, reply-same}
 use Rattle.document03.proofs.Shown.{list-good-same, rows-same}
-use Rattle.document03.proofs.State.{held-same, held-value-same, replied-same, refusal-same}
+use Rattle.document03.proofs.State.{held-same, held-value-same, replied-same, taken-same}
 use Rattle.document03.proofs.Explains.{explained-same, totals-same}
 
 -- ---- an opened round
@@ -45,7 +45,7 @@ as-new r s t l (S.taken _ _ h e) d = refl
 -- ---- one answer
 pub finish-same : (s : S.State) → S.finish-refusal s ≡ 0 → refusal sixteen finish-record (our-state s) ≡ 0
 unfolding S.record-refusal our-record
-finish-same s e = sym (refusal-same S.finish-round s) ∙ e
+finish-same s e = taken-same S.finish-round s e
 
 module _ (s : S.State) (pg : D.plan-good (s .plan-of) ≡ true) (fine : S.finish-refusal s ≡ 0) where
   ok-plan : plan-good (our-plan (s .plan-of)) ≡ true

@@ -6,6 +6,7 @@ pub mod Shown
 pub mod Refusals
 pub mod Says
 pub mod State
+pub mod Repeats
 pub mod Explains
 pub mod Answers
 pub mod Counts

@@ -2,12 +2,13 @@
 --   held-same, held-value-same                  one element
 --   complete-same, gathered-same, replied-same  the airfields with all their elements held, as a set
 --   planned-same, gathering-same, replying-same the tests of a phase
---   refusal-same                                the numbers of all records
+--   quieted, refusal-same                       the numbers of all records: ours are document 03's, but 0 for the 13 of a repeat
+--   taken-same                                  a record that passes document 03's tests passes ours
 -- Assumes nothing.
 use mathlib.Core.Path.{_≡_, refl, sym, ap, ap₂, _∙_}
 use mathlib.Core.Bool.{Bool, true, false, _&&_, _||_, not, cond}
 use mathlib.Core.List.{List, [], _∷_}
-use mathlib.Core.Option.{Option, some}
+use mathlib.Core.Option.{Option, none, some}
 use Prim.Native.Nat.{ℕ, zero, suc, _+_, _-_, _^_, _≤_}
 use native.Mathlib.Decide.{decLe, ℕ-discrete}
 use native.Mathlib.Omega.{arith}
@@ -15,10 +16,10 @@ use borrow.Author.Tests.{le-ltb, lt-ltb, le-leb, lt-leb, eq-eqb, ne-eqb}
 use lib.Dec.{ltb, leb, eqb}
 use Rattle.scheme.specs.Lists.{span, all-of}
 use Rattle.scheme.specs.Scheme.{q, sixteen, places, is-user, ones, _then_, unless}
-use Rattle.scheme.specs.Service.{has-plan, is-gathering, is-replying, plan-missing, second-plan, not-gathering, not-replying, is-held, element-of, with-element, set-of, complete-set, gathered, replied, element-refusal, refusal}
-use Rattle.scheme.proofs.Tests.{not-not}
+use Rattle.scheme.specs.Service.{has-plan, is-gathering, is-replying, plan-missing, second-plan, not-gathering, not-replying, is-held, element-of, with-element, takes, set-of, complete-set, gathered, replied, element-refusal, refusal}
+use Rattle.scheme.proofs.Tests.{and-false, not-not}
 use Rattle.scheme.proofs.Refusals.{then-assoc}
-use Rattle.document03.specs.Ours.{our-plan, our-phase, our-held, our-state, our-record}
+use Rattle.document03.specs.Ours.{our-plan, our-phase, our-held, our-state, our-record, repeats}
 use Rattle.document03.specs.Scheme as D
 use Rattle.document03.specs.Service as S
 use Rattle.document03.proofs.Sets.{plan-good-same, places-same, in-set-same, ones-same}
@@ -152,16 +153,50 @@ unfolding element-refusal is-user
 refuse-element p k i v {m} e d =
     simp then-assoc (refuse-user p k (refuse-if _ _ (ap (λ (n : ℕ). leb n i) e ∙ leb-not m i) (refuse-if _ _ (leb-not q v) d)))
 
-pub refusal-same : (r : S.Record) (s : S.State) → S.record-refusal r s ≡ refusal sixteen (our-record r) (our-state s)
-unfolding S.record-refusal S.plan-refusal S.open-refusal S.first-refusal S.close-refusal S.reply-refusal S.finish-refusal refusal second-plan our-record
-refusal-same (S.a-plan p) s = refuse _ (planned-same (s .phase)) (refuse-last _ (plan-good-same p))
-refusal-same (S.open-round r) s = refuse-missing (s .phase) (refuse-if-last _ _ (leb-not r (s .round)))
+-- ---- repeats
+unfoldable pub quieted : (repeated : Bool) → (refusal : ℕ) → ℕ
+quieted r n = cond (r && eqb n 13) 0 n
+
+quieted-none : (n : ℕ) → quieted false n ≡ n
+unfolding quieted
+quieted-none n = refl
+
+-- the tests before that for 13 stay as they are
+quieted-later : (n : ℕ) → eqb n 13 ≡ false → (r a : Bool) (x : ℕ) → quieted r (cond a n x) ≡ cond a n (quieted r x)
+unfolding quieted
+quieted-later n h r true x = rw (h, and-false r)
+quieted-later n h r false x = refl
+
+quieted-element :
+    (r a b c d e : Bool) (x : ℕ) →
+    quieted r (cond a 11 (cond b 12 (cond c 4 (cond d 8 (cond e 3 x))))) ≡ cond a 11 (cond b 12 (cond c 4 (cond d 8 (cond e 3 (quieted r x)))))
+quieted-element r a b c d e x = simp (quieted-later 11 refl, quieted-later 12 refl, quieted-later 4 refl, quieted-later 8 refl, quieted-later 3 refl)
+
+takes-same : (o : Option ℕ) (x : ℕ) → quieted (is-held o && eqb (element-of o) x) (cond (is-held o) 13 0) ≡ unless (takes o x) 13
+unfolding quieted is-held element-of takes unless
+takes-same none x = refl
+takes-same (some y) x = elim (eqb y x) as (λ t. quieted t 13 ≡ unless t 13) [ true ↦ refl | false ↦ refl ]
+
+quieted-last :
+    (k i x : ℕ) (hs : List S.Held) →
+    quieted (S.held k i hs && eqb (S.held-value k i hs) x) (cond (S.held k i hs) 13 0) ≡ unless (takes (our-held hs k i) x) 13
+quieted-last k i x hs = rw (held-same k i hs, held-value-same k i hs) (takes-same (our-held hs k i) x)
+
+pub refusal-same : (r : S.Record) (s : S.State) → quieted (repeats r s) (S.record-refusal r s) ≡ refusal sixteen (our-record r) (our-state s)
+unfolding S.record-refusal S.plan-refusal S.open-refusal S.first-refusal S.close-refusal S.reply-refusal S.finish-refusal refusal second-plan our-record repeats
+refusal-same (S.a-plan p) s = simp quieted-none (refuse _ (planned-same (s .phase)) (refuse-last _ (plan-good-same p)))
+refusal-same (S.open-round r) s = simp quieted-none (refuse-missing (s .phase) (refuse-if-last _ _ (leb-not r (s .round))))
 refusal-same (S.first-element k i x) s =
-    refuse-gathering (s .phase)
-    (refuse-element (s .plan-of) k i x (places-same (s .plan-of)) (refuse-if-last _ _ (held-same k i (s .firsts) ∙ sym (not-not _))))
-refusal-same S.close-round s = refuse-gathering (s .phase) (refuse-if-last _ _ (few-same (s .plan-of .k) (s .plan-of .u) (gathered-same s)))
+    simp (quieted-element, quieted-last k i x (s .firsts))
+    (refuse-gathering (s .phase) (refuse-element (s .plan-of) k i x (places-same (s .plan-of)) refl))
+refusal-same S.close-round s =
+    simp quieted-none (refuse-gathering (s .phase) (refuse-if-last _ _ (few-same (s .plan-of .k) (s .plan-of .u) (gathered-same s))))
 refusal-same (S.reply-element k b x) s =
-    refuse-replying (s .phase)
-    (refuse-element (s .plan-of) k b x refl
-    (refuse _ (in-set-same (s .survivors) k) (refuse-if-last _ _ (held-same k b (s .replies) ∙ sym (not-not _)))))
-refusal-same S.finish-round s = refuse-replying (s .phase) (refuse-if-last _ _ (few-same (s .plan-of .k) (s .plan-of .u) (replied-same s)))
+    simp (quieted-element, quieted-later 14 refl, quieted-last k b x (s .replies))
+    (refuse-replying (s .phase) (refuse-element (s .plan-of) k b x refl (refuse _ (in-set-same (s .survivors) k) refl)))
+refusal-same S.finish-round s =
+    simp quieted-none (refuse-replying (s .phase) (refuse-if-last _ _ (few-same (s .plan-of .k) (s .plan-of .u) (replied-same s))))
+
+pub taken-same : (r : S.Record) (s : S.State) → S.record-refusal r s ≡ 0 → refusal sixteen (our-record r) (our-state s) ≡ 0
+unfolding quieted
+taken-same r s e = sym (refusal-same r s) ∙ ap (quieted (repeats r s)) e ∙ ap (λ (t : Bool). cond t 0 0) (and-false (repeats r s))

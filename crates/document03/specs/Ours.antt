@@ -3,12 +3,16 @@
 --   Client-of                      our end, which reports counts, where its plan, number and stage are document 03's numbers
 --   our-phase                      our phase of a number: 0 no plan, 2 gathering, 3 replying, all others idle
 --   our-held, our-state            the elements held as a function; our state of the service
---   our-record, our-answer         our records, and our answers of document 03's lines
+--   our-record                     our records
+--   repeats                        whether a record brings the very element that is held
+--   answer-in                      our answer to a record, in a state, where document 03 has a line: silent, if that is 13 for a repeat
 -- Assumes nothing: these are definitions.
 use mathlib.Core.Path.{_≡_}
+use mathlib.Core.Bool.{Bool, false, _&&_, cond}
 use mathlib.Core.List.{List, [], _∷_}
 use mathlib.Core.Option.{Option}
 use Prim.Native.Nat.{ℕ, zero, suc}
+use lib.Dec.{eqb}
 use Rattle.scheme.specs.Scheme.{Plan}
 use Rattle.scheme.specs.Service.{Phase, unplanned, idle, gathering, replying, State, nothing, with-element, Record, plan-record, open-record, first-record, close-record, reply-record, finish-record, Answer, silent, planned, opened, closed, totalled, refused}
 use Rattle.plan.specs.declared.Use.the-variants.{Counts}
@@ -61,10 +65,19 @@ our-record S.close-round = close-record
 our-record (S.reply-element k b x) = reply-record k b x
 our-record S.finish-round = finish-record
 
-unfoldable pub our-answer : S.Line → Answer
-our-answer S.silent = silent
-our-answer (S.told-plan p) = planned (our-plan p)
-our-answer (S.told-open r) = opened r
-our-answer (S.told-close r v) = closed r v
-our-answer (S.told-total r l) = totalled r l
-our-answer (S.refused n) = refused n
+unfoldable pub repeats : S.Record → S.State → Bool
+repeats (S.a-plan p) s = false
+repeats (S.open-round r) s = false
+repeats (S.first-element k i x) s = S.held k i (s .firsts) && eqb (S.held-value k i (s .firsts)) x
+repeats S.close-round s = false
+repeats (S.reply-element k b x) s = S.held k b (s .replies) && eqb (S.held-value k b (s .replies)) x
+repeats S.finish-round s = false
+
+-- document 03's line, but for item 5 of document 02: a repeat is taken quietly, and 13 is for another element alone
+unfoldable pub answer-in : S.Record → S.State → S.Line → Answer
+answer-in r s S.silent = silent
+answer-in r s (S.told-plan p) = planned (our-plan p)
+answer-in r s (S.told-open n) = opened n
+answer-in r s (S.told-close n v) = closed n v
+answer-in r s (S.told-total n l) = totalled n l
+answer-in r s (S.refused n) = cond (repeats r s && eqb n 13) silent (refused n)

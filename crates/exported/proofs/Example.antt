@@ -31,7 +31,7 @@ unfolding inverse inverse-from modular-laws padded unknown-at
     Scheme.is-fresh Scheme.open-to Scheme.start-refusal Scheme.key-refusal Scheme.figures-good Scheme.message-refusal Scheme.reply-refusal Scheme.after
     Lists.all-of Totals.explains Totals.explains-all Totals.total-of Totals.totals
     Service.has-plan Service.is-gathering Service.is-replying Service.plan-missing Service.second-plan Service.not-gathering Service.not-replying
-    Service.element-refusal Service.is-held Service.element-of Service.set-of Service.complete-set Service.gathered
+    Service.element-refusal Service.is-held Service.element-of Service.takes Service.set-of Service.complete-set Service.gathered
     Service.replied Service.explained-by Service.totals-by
     Client.stage-of Client.stage-of-number Client.stage-number
     View.phase-of View.stored View.look View.view

@@ -5,7 +5,7 @@
 --   Sent-in            what is taken of the survivors' first messages, and of the replies of those that replied whole, is what their calls gave
 --   opened-by, arrays-behind    the arrays behind any calls and an open, and behind the round's calls too
 --   Pooled             such a round: arrays from zeros, any calls and rounds before; between, any other calls, and refused ones of survivors
---                      too: doubled (13), late (12), out of place (8), no elements (3)
+--                      too: another element (13), late (12), out of place (8), no elements (3)
 --   Round-residues     the total modulo 65521, the survivors' uses in any mix
 --   Round-right        where the survivors report counts: the whole-number total
 --   Signed-total       where they report signed figures: what cutawheno_read_total reads is the whole-number total

@@ -24,6 +24,7 @@ use Rattle.scheme.proofs.Good.{good}
 use Rattle.scheme.proofs.Whole.{total-fits, totals-whole}
 use Rattle.scheme.proofs.Refusals.{then-taken, then-zero, then-same, then-assoc, unless-held, after-taken}
 use Rattle.scheme.proofs.Laws.{laws-of}
+use Rattle.scheme.proofs.Pooling.Held.{state-same}
 use Rattle.scheme.proofs.Pooling.Totals.{Explained, explained, explained-back, settled}
 use Rattle.scheme.proofs.Pooling.Well.{replies, finishing}
 use Rattle.scheme.proofs.Pooling.Service as service
@@ -33,7 +34,6 @@ use Rattle.service.specs.View.{phase-of, view, Formed}
 use Rattle.service.specs.Calls.{nothing-first, nothing-reply}
 use Rattle.service.specs.Promise.{told, Is-step}
 use Rattle.service.proofs.View.{look-nothing}
-use Rattle.service.proofs.Same.{state-same}
 use Rattle.service.proofs.Steps.{refuse, take as take-step, first-long, reply-long}
 use Rattle.finish.specs.Finish.{choice, finish-refusal, finished, finish-answer, finish-step}
 use Rattle.finish.specs.Promise.{Finish-steps, Finish-right, Finish-residues, Refused-unchanged}

@@ -1,6 +1,7 @@
 -- That what the program writes are the lines of what it reads, however the input is cut into reads.
 --   run-right              every run stands as specs/Promise.antt says
 --   output-right           a run that no failure ended has written the lines of all that it read
+--   repeats-quiet          of an input with repeats added, at its own offsets
 --   Sure, cost, forward    no failure, and no read behind the end of the input; the turns that are left at most, and that each turn has fewer
 --   over-said              a run that is over has said all
 --   reads-right            what is printed over any reads are the lines of the whole input
@@ -11,15 +12,22 @@ use mathlib.Core.List.{List, [], _∷_, _++_, append-nil, append-assoc}
 use Prim.Native.Nat.{ℕ, zero, suc, _+_, _-_, _^_, _≤_, _<_}
 use native.Mathlib.Decide.{decLe}
 use native.Mathlib.Omega.{arith}
+use lib.Dec.{lit<}
 use lib.ListN.{length, take, drop, length-append, length-drop, List·getD-append}
+use Rattle.scheme.specs.Scheme.{sixteen}
 use Rattle.scheme.proofs.Tests.{holds}
 use Rattle.service.specs.declared.Service.{Service}
+use Rattle.service.specs.Calls.{new-service}
+use Rattle.service.specs.Promise.{New-formed}
+use Rattle.service.proofs.Steps.{new-formed}
 use Rattle.lines.specs.Put.{room}
 use Rattle.stream.specs.declared.Stop.{Stop}
 use Rattle.stream.specs.declared.Stop.the-variants.{Used, Unknown, Partial, Full, Far}
 use Rattle.stream.specs.Stream.{record-length, items-from, items, answers, text, lines, fed}
 use Rattle.stream.specs.Promise.{all-taken, last-state, Stops, Fed-says, Fed-right}
+use Rattle.stream.specs.Repeats as stream
 use Rattle.stream.proofs.Promise.{fed-right}
+use Rattle.stream.proofs.Repeats as quiet
 use Rattle.pool.specs.declared.Why.{Why}
 use Rattle.pool.specs.declared.Why.the-variants.{EndOfInput, CutShort, UnknownKind, TooFar, ReadFailed, WriteFailed}
 use Rattle.pool.specs.declared.Next.{Next}
@@ -27,7 +35,7 @@ use Rattle.pool.specs.declared.Next.the-variants.{Await, Feed, Refuse, O
 use Rattle.pool.specs.Turns.{Came, came-bytes, Turn, first-turn, comes, fed-turn, at-end, step-by, step, Due, none, more}
 use Rattle.pool.specs.declared.Live.{Live}
 use Rattle.pool.specs.Turns.{next-came, left-reads, printed-from, whole, printed}
-use Rattle.pool.specs.Promise.{said, Unfinished, Broken, Ends, Stands, So-far, Run-right, by-itself, Output-right, Reads-right}
+use Rattle.pool.specs.Promise.{said, Unfinished, Broken, Ends, Stands, So-far, Run-right, by-itself, Output-right, Repeats-quiet, Reads-right}
 use Rattle.pool.proofs.Standing.{seven-said, step-so-far, sent-so-far}
 
 start : So-far first-turn [] []
@@ -56,6 +64,11 @@ output-right n r y big g e h =
     let x : g .turn .next ≡ Over y = sym (ap (λ (l : Live). l .next) (g .result)) ∙ e in
     ends-said y (f .used) (g .turn .waiting) (g .written) (subst (λ (z : Next). Stands z (f .used) (g .turn .waiting) (g .written)) x (f .stands)) h
     ∙ ap said (f .same)
+
+pub repeats-quiet : Repeats-quiet
+unfolding Repeats-quiet Output-right stream.Repeats-quiet New-formed
+repeats-quiet n r y b m big g e h p =
+    output-right n r y big g e h ∙ quiet.repeats-quiet new-service 0 b 0 (g .read) m (new-formed sixteen (lit< tt) .1) p .printed
 
 -- ---- a list of reads
 unfoldable Sure-why : Why → (reads : List (List ℕ)) → Type 0

@@ -4,6 +4,7 @@
 --   Ends, Stands, So-far     where a run stands: what is used, what waits and what is written, by what comes next, or by why it is over
 --   Run-right                every run stands so, whatever its reads bring and its writes take
 --   by-itself, Output-right  what `run` ensures: a run that no failure ended has written the lines of all that it read
+--   Repeats-quiet            and where it read another input with repeats added: the answers to that one, at the offsets of the same records
 --   Reads-right              what is printed over any reads are the lines of the whole input
 -- Assumes nothing: these are definitions.
 use mathlib.Core.Path.{_≡_}
@@ -11,10 +12,12 @@ use mathlib.Core.Bool.{Bool, true, false}
 use mathlib.Core.List.{List, [], _++_}
 use Prim.Native.Nat.{ℕ, _+_, _^_, _≤_, _<_}
 use lib.ListN.{length, getD}
+use Rattle.scheme.specs.Service.{Answer}
 use Rattle.service.specs.Calls.{new-service}
 use Rattle.lines.specs.Put.{room}
-use Rattle.stream.specs.Stream.{record-length, items, lines}
+use Rattle.stream.specs.Stream.{record-length, items, text, lines}
 use Rattle.stream.specs.Promise.{all-taken, last-state}
+use Rattle.stream.specs.Repeats.{placed, With-repeats}
 use Rattle.pool.specs.declared.Why.{Why}
 use Rattle.pool.specs.declared.Why.the-variants.{EndOfInput, CutShort, UnknownKind, TooFar, ReadFailed, WriteFailed}
 use Rattle.pool.specs.declared.Next.{Next}
@@ -76,6 +79,11 @@ by-itself WriteFailed = false
 
 unfoldable pub Output-right : Type 0
 Output-right = (n : ℕ) (r : Live) (y : Why) → room ≤ n → (g : Ran n r) → r .next ≡ Over y → by-itself y ≡ true → g .written ≡ said (g .read)
+
+unfoldable pub Repeats-quiet : Type 0
+Repeats-quiet =
+    (n : ℕ) (r : Live) (y : Why) (b : List ℕ) (m : List Answer) → room ≤ n → (g : Ran n r) → r .next ≡ Over y → by-itself y ≡ true →
+    With-repeats new-service 0 b 0 (g .read) m → g .written ≡ text (placed (items 0 (g .read)) m)
 
 unfoldable pub Reads-right : Type 0
 Reads-right = (n : ℕ) (reads : List (List ℕ)) → room ≤ n → length (whole reads) < 2 ^ 64 → printed n reads ≡ said (whole reads)

@@ -3,10 +3,11 @@
 --   then-stops                       the first has answered, and not 0
 --   then-zero                        both are 0
 --   then-same                        refusals that agree once the first is passed
---   then-assoc                       three in a row
+--   then-assoc, then-last            three in a row, and one more behind those
 --   unless-held, unless-failed       one test
 --   unless-zero                      the number is not 0, so the test held
 --   test-held                        the same of a test that others follow
+--   then-not, test-not, passed-not   refusals that are not a given number
 --   both-passed, test-passed, test-refused     what follows: of two that are 0, of a test that held, of one that failed
 --   after-taken, after-refused       what a call leaves
 --   after-in                         and what it leaves of a part leaves the whole
@@ -14,10 +15,12 @@
 --   lookup-passes, lookup-taken      a lookup's tests let these pass with a usable set that holds the user, and nothing else
 -- Assumes nothing.
 use mathlib.Core.Path.{_≡_, refl, sym, ap, ap₂, _∙_}
+use mathlib.Core.Logic.{_≢_}
 use mathlib.Core.Bool.{Bool, true, false}
 use Prim.Native.Nat.{ℕ, zero, suc, _≤_}
 use native.Mathlib.Omega.{arith}
-use borrow.Author.Tests.{leb-true, le-leb}
+use lib.Dec.{eqb}
+use borrow.Author.Tests.{eqb-false, leb-true, le-leb}
 use Rattle.scheme.specs.Scheme.{Plan, is-user, in-set, usable, _then_, unless, start-refusal, lookup-refusal, after}
 use Rattle.scheme.specs.Good.{Good}
 use Rattle.scheme.proofs.Tests.{and-both}
@@ -50,6 +53,9 @@ unfolding _then_
 then-assoc zero b c = refl
 then-assoc (suc a) b c = refl
 
+pub then-last : (a b c : ℕ) {d : ℕ} → d ≡ (b then c) → (a then d) ≡ ((a then b) then c)
+then-last a b c e = ap (λ (n : ℕ). a then n) e ∙ sym (then-assoc a b c)
+
 pub unless-held : {b : Bool} → b ≡ true → (n : ℕ) → unless b n ≡ 0
 unfolding unless
 unless-held e n = ap (λ (b : Bool). unless b n) e
@@ -65,6 +71,19 @@ unless-zero false n e = absurd (omega arith)
 
 pub test-held : (b : Bool) (n m : ℕ) → (unless b (suc n) then m) ≡ 0 → (b ≡ true) × (m ≡ 0)
 test-held b n m e = let s = then-zero (unless b (suc n)) m e in (unless-zero b n (s .0), s .1)
+
+pub then-not : {n a b : ℕ} → a ≢ n → b ≢ n → (a then b) ≢ n
+unfolding _then_
+then-not {a = zero} h l = l
+then-not {a = suc a} h l = h
+
+pub test-not : (b : Bool) (m : ℕ) {n : ℕ} → eqb m (suc n) ≡ false → unless b m ≢ suc n
+unfolding unless
+test-not true m h = λ e. omega arith
+test-not false m h = eqb-false m _ h
+
+pub passed-not : {b : Bool} → b ≡ true → (m : ℕ) {n : ℕ} → unless b m ≢ suc n
+passed-not h m e = omega (arith, e, unless-held h m)
 
 pub both-passed : {a b : ℕ} → a ≡ 0 → b ≡ 0 → (c : ℕ) → c ≡ (a then b then c)
 both-passed e f c = sym (then-taken e _ ∙ then-taken f c)

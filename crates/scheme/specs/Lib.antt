@@ -1,7 +1,7 @@
 -- Read Scheme, then Promise: the definitions of document 01 and the promise of demand 3. Laws and Delta serve its proof, and Modular is
--- the arithmetic with its laws. Totals, Service and ServicePromise are demands 1 and 2, and Signed is what totals of signed figures mean.
--- Weighed and Solve are what key maker and solver compute, and KeyParts the parts of a key. Drawn is the random list from raw bytes,
--- DrawnParts how it is filled, Evenly its promises.
+-- the arithmetic with its laws. Totals, Service, Repeats and ServicePromise are demands 1 and 2, and Signed is what totals of signed
+-- figures mean. Weighed and Solve are what key maker and solver compute, and KeyParts the parts of a key. Drawn is the random list from
+-- raw bytes, DrawnParts how it is filled, Evenly its promises.
 pub mod Limits
 pub mod Lists
 pub mod Scheme
@@ -13,6 +13,7 @@ pub mod DrawnParts
 pub mod Evenly
 pub mod Totals
 pub mod Service
+pub mod Repeats
 pub mod ServicePromise
 pub mod Laws
 pub mod Modular

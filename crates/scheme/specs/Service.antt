@@ -2,6 +2,7 @@
 --   Phase, State, new-state        what the service holds
 --   has-plan, is-gathering, is-replying     tests of a phase
 --   plan-missing, second-plan, not-gathering, not-replying     the refusals of a phase
+--   takes                          whether a place takes an element
 --   complete-set, gathered, replied         the users with all their elements held, as a set: of first messages, of replies
 --   Record, Answer                 what comes in, and what is answered
 --   element-refusal                the tests that both kinds of element share
@@ -94,6 +95,11 @@ element-of (some x) = x
 unfoldable pub with-element : (k at element : ℕ) → ((k at : ℕ) → Option ℕ) → (k at : ℕ) → Option ℕ
 with-element k i x f l j = cond (eqb l k && eqb j i) (some x) (f l j)
 
+-- a place takes an element if it holds none, or that very one: a repeat
+unfoldable pub takes : Option ℕ → (element : ℕ) → Bool
+takes none x = true
+takes (some y) x = eqb y x
+
 -- of the n users from k on, those that pass the test, as a set
 unfoldable pub set-of : (test : ℕ → Bool) → (n k : ℕ) → ℕ
 set-of t zero k = 0
@@ -136,11 +142,11 @@ unfoldable pub refusal : Arithmetic → Record → State → ℕ
 refusal A (plan-record p) s = second-plan (s .phase) then unless (plan-good p) 1
 refusal A (open-record r) s = plan-missing (s .phase) then unless (ltb (s .round) r) 17
 refusal A (first-record k i x) s =
-    not-gathering (s .phase) then element-refusal A (s .plan .users) (places (s .plan)) k i x then unless (not (is-held (s .firsts k i))) 13
+    not-gathering (s .phase) then element-refusal A (s .plan .users) (places (s .plan)) k i x then unless (takes (s .firsts k i) x) 13
 refusal A close-record s = not-gathering (s .phase) then unless (leb (s .plan .threshold) (ones (s .plan .users) (gathered s))) 15
 refusal A (reply-record k b x) s =
     not-replying (s .phase) then element-refusal A (s .plan .users) (s .plan .blocks) k b x then unless (in-set (s .survivors) k) 14
-    then unless (not (is-held (s .replies k b))) 13
+    then unless (takes (s .replies k b) x) 13
 refusal A finish-record s = not-replying (s .phase) then unless (leb (s .plan .threshold) (ones (s .plan .users) (replied s))) 15
 
 -- ---- the states that records lead to

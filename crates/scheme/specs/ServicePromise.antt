@@ -1,11 +1,12 @@
 -- The promises of demands 1 and 2, about the abstract service.
---   One-answer, Answered, Always-answers, Refused-unchanged    each record has one answer, and a refusal changes nothing
+--   One-answer, One-run, Answered, Always-answers, Refused-unchanged     each record has one answer, and a refusal changes nothing
 --   As-new                                           a round keeps nothing but the plan of what was before
 --   Finish-right, Finish-residues                    replies that follow the rules give the survivors' whole-number total of counts;
 --                                                    behind it, of any table, the total in the arithmetic
 --   Unexplained, Sixteen-exactly, Never-sixteen      when 16 is given, and when never
 --   Stays-well                                       every run stays well-formed
---   Demand-2                                         all of them modulo 65521, and that totals of signed figures are read as what they are
+--   Demand-2                                         all of them modulo 65521, that totals of signed figures are read as what they are, and
+--                                                    that repeats are quiet
 -- Assumes nothing: these are definitions.
 use mathlib.Core.Path.{_≡_}
 use mathlib.Core.Logic.{_↔_}
@@ -18,10 +19,15 @@ use Rattle.scheme.specs.Promise.{Table, admissible, list-good}
 use Rattle.scheme.specs.Signed.{Signed-read}
 use Rattle.scheme.specs.Totals.{Follows, Totals-fit}
 use Rattle.scheme.specs.Service.{State, new-state, replied, Record, open-record, finish-record, Answer, opened, totalled, refused, refusal, planned-state, values, explained-by, Steps, Runs, Well}
+use Rattle.scheme.specs.Repeats.{Thirteen-exactly, Repeat-silent, Repeats-quiet, Twice-repeats}
 
 -- each record has at most one answer
 unfoldable pub One-answer : Arithmetic → Type 0
 One-answer A = (r : Record) (s t u : State) (a b : Answer) → Well A s → Steps A r s a t → Steps A r s b u → (a ≡ b) × (t ≡ u)
+
+-- and a list of records has one run
+unfoldable pub One-run : Arithmetic → Type 0
+One-run A = (rs : List Record) (s t u : State) (l m : List Answer) → Well A s → Runs A rs s l t → Runs A rs s m u → (l ≡ m) × (t ≡ u)
 
 -- and it has one, and leads to a state of the same kind
 pub record Answered (A : Arithmetic) (r : Record) (s : State) : Type 0 where
@@ -78,6 +84,7 @@ Stays-well A = (rs : List Record) (l : List Answer) (s : State) → Runs A rs ne
 pub record Demand-2 : Type 0 where
   pub stays-well : Stays-well sixteen
   pub one-answer : One-answer sixteen
+  pub one-run : One-run sixteen
   pub always-answers : Always-answers sixteen
   pub refused-unchanged : Refused-unchanged sixteen
   pub as-new : As-new sixteen
@@ -86,3 +93,7 @@ pub record Demand-2 : Type 0 where
   pub signed-read : (p : Plan) → Signed-read sixteen p
   pub sixteen-exactly : Sixteen-exactly sixteen
   pub never-sixteen : Never-sixteen sixteen
+  pub thirteen-exactly : Thirteen-exactly sixteen
+  pub repeat-silent : Repeat-silent sixteen
+  pub repeats-quiet : Repeats-quiet sixteen
+  pub twice-repeats : Twice-repeats sixteen

@@ -1,22 +1,26 @@
 -- What the calls hand back, refused and taken.
---   beyond, within, not-free, is-free     tests of a place in an array, where the code has found it
---   array-refused, array-taken      the number and the array, of an element
+--   beyond, within                  tests of a place in an array, where the code has found it
+--   Behind, behind-takes, behind-put, behind-refuses, behind-kept     what is left in it behind an element that comes
+--   array-refused, array-kept, array-taken     the number and the array, of an element
 --   step-refused, step-taken        the number and the state, of a plan or an open
 --   close-refused, close-taken      what close hands back
 -- Assumes nothing.
-use mathlib.Core.Path.{_≡_, sym, ap, _∙_}
+use mathlib.Core.Path.{_≡_, sym, ap, ap₂, _∙_}
+use mathlib.Core.Logic.{_≢_}
 use mathlib.Core.Bool.{true, false}
 use mathlib.Core.List.{List}
 use Prim.Native.Nat.{ℕ, _≤_, _<_}
 use native.Mathlib.Omega.{arith}
-use lib.Dec.{ltb, eqb}
-use lib.ListN.{getD}
-use borrow.Author.Tests.{lt-ltb, le-ltb, eq-eqb, ne-eqb}
+use lib.Dec.{ltb}
+use lib.ListN.{getD, set}
+use lib.Seq.{set-getD}
+use borrow.Author.Tests.{lt-ltb, le-ltb}
 use Rattle.scheme.specs.Scheme.{_then_, after}
-use Rattle.scheme.specs.Service.{gathered}
+use Rattle.scheme.specs.Service.{takes, gathered}
 use Rattle.scheme.proofs.Refusals.{after-taken, after-refused}
 use Rattle.service.specs.declared.Service.{Service}
-use Rattle.service.specs.View.{view}
+use Rattle.service.specs.View.{held-as, stored, left-in, view}
+use Rattle.service.proofs.View.{left-taken, left-refused}
 use Rattle.service.specs.Calls.{by-refusal, close-refusal, closed, close-step}
 
 module _ {at place : ℕ} (e : at ≡ place) where
@@ -26,11 +30,31 @@ module _ {at place : ℕ} (e : at ≡ place) where
   pub within : {n : ℕ} → at < n → ltb place n ≡ true
   within {n} h = lt-ltb place n (omega arith)
 
-  pub not-free : (xs : List ℕ) → (getD xs at 0 ≡ 0 → ⊥) → eqb (getD xs place 0) 0 ≡ false
-  not-free xs h = ne-eqb _ _ (λ z. h (ap (λ (n : ℕ). getD xs n 0) e ∙ z))
+-- behind an element x that comes, where the code has found its place
+pub record Behind (xs : List ℕ) (place x at new left : ℕ) : Type 0 where
+  pub found : at ≡ place
+  pub made : new ≡ held-as x
+  pub stays : left ≡ left-in (getD xs at 0) new
 
-  pub is-free : (xs : List ℕ) → getD xs at 0 ≡ 0 → eqb (getD xs place 0) 0 ≡ true
-  is-free xs h = eq-eqb _ _ (sym (ap (λ (n : ℕ). getD xs n 0) e) ∙ h)
+-- what is left is the element, which is put there; or it is another, which stays
+module _ {xs : List ℕ} {place x at new left : ℕ} (b : Behind xs place x at new left) where
+  stays-there : left ≡ left-in (getD xs place 0) (held-as x)
+  stays-there = b .stays ∙ ap₂ left-in (ap (λ (n : ℕ). getD xs n 0) (b .found)) (b .made)
+
+  pub behind-takes : left ≡ new → takes (stored (getD xs place 0)) x ≡ true
+  behind-takes h = left-taken _ x (sym stays-there ∙ h ∙ b .made)
+
+  pub behind-put : left ≡ new → set xs at left ≡ set xs place (held-as x)
+  behind-put h = ap₂ (λ (n y : ℕ). set xs n y) (b .found) (h ∙ b .made)
+
+  other : left ≢ new → (takes (stored (getD xs place 0)) x ≡ false) × (left-in (getD xs place 0) (held-as x) ≡ getD xs place 0)
+  other h = left-refused _ x (λ z. h (stays-there ∙ z ∙ sym (b .made)))
+
+  pub behind-refuses : left ≢ new → takes (stored (getD xs place 0)) x ≡ false
+  behind-refuses h = other h .0
+
+  pub behind-kept : left ≢ new → set xs at left ≡ xs
+  behind-kept h = ap₂ (λ (n y : ℕ). set xs n y) (b .found) (stays-there ∙ other h .1) ∙ set-getD xs place 0
 
 -- ---- the old value after a refusal n, and the new one after none
 kept : {X : Type 0} {n m : ℕ} → (n ≡ 0 → ⊥) → n ≡ m → (new old : X) → old ≡ after m new old
@@ -41,6 +65,9 @@ moved {new = new} e d old = d ∙ sym (after-taken (sym e) new old)
 
 pub array-refused : {n m : ℕ} → (n ≡ 0 → ⊥) → n ≡ m → (new old : List ℕ) → (n ≡ m) × (old ≡ after m new old)
 array-refused h e new old = (e, kept h e new old)
+
+pub array-kept : {n m : ℕ} {xs old : List ℕ} → (n ≡ 0 → ⊥) → n ≡ m → xs ≡ old → (new : List ℕ) → (n ≡ m) × (xs ≡ after m new old)
+array-kept {old = old} h e d new = (e, d ∙ kept h e new old)
 
 pub array-taken : {m : ℕ} {xs new : List ℕ} → 0 ≡ m → xs ≡ new → (old : List ℕ) → (0 ≡ m) × (xs ≡ after m new old)
 array-taken e d old = (e, moved e d old)

@@ -1,38 +1,37 @@
 -- On a well-formed state the calls refuse as document 01 does, for the guards never act, and what they leave is what it leaves.
 --   plan-same, open-same, first-same, reply-same, close-same     the refusals
---   state-same                 states with the same elements
 --   new-view, planned-view, opened-view, first-view, reply-view, closed-view     the states
 -- Assumes nothing.
 use mathlib.Core.Path.{_≡_, refl, sym, ap, _∙_}
-use mathlib.Core.Bool.{Bool, true, not}
+use mathlib.Core.Bool.{true}
 use mathlib.Core.List.{List}
 use mathlib.Core.Option.{Option, none}
 use Prim.Native.Nat.{ℕ, _<_}
 use native.Mathlib.Omega.{arith}
-use lib.Dec.{ltb, eqb}
+use lib.Dec.{ltb}
 use lib.ListN.{getD}
 use borrow.Author.Tests.{lt-ltb}
 use Rattle.scheme.specs.Limits.{most-blocks, most-places, firsts, cells}
 use Rattle.scheme.specs.Scheme.{Arithmetic, places, _then_, unless}
-use Rattle.scheme.specs.Scheme as basis
 use Rattle.scheme.specs.Good.{Good}
-use Rattle.scheme.specs.Service.{has-plan, is-held, plan-record, open-record, first-record, close-record, reply-record, element-refusal, refusal, planned-state, opened-state, next-state, gathered}
+use Rattle.scheme.specs.Service.{has-plan, takes, plan-record, open-record, first-record, close-record, reply-record, element-refusal, refusal, planned-state, opened-state, next-state, gathered}
 use Rattle.scheme.specs.Service as scheme
 use Rattle.scheme.proofs.Good.{good}
 use Rattle.scheme.proofs.Refusals.{then-taken, then-zero, then-same, unless-held}
+use Rattle.scheme.proofs.Pooling.Held.{state-same}
 use Rattle.scheme.proofs.Pooling.Well.{gathers, replies, Fits, fits}
 use Rattle.plan.specs.declared.Plan.{Plan}
 use Rattle.plan.specs.Plan.{plan-of}
 use Rattle.scheme.proofs.PlanBounds.{places-le}
 use Rattle.service.specs.declared.Service.{Service}
-use Rattle.service.specs.View.{phase-of, slot, put, look, view, Formed}
+use Rattle.service.specs.View.{phase-of, stored, slot, put, look, view, Formed}
 use Rattle.service.specs.Calls.{nothing-first, nothing-reply, new-service, plan-refusal, planned, open-refusal, opened, first-refusal, reply-refusal, close-refusal, closed}
-use Rattle.service.proofs.View.{In-row, look-free, look-nothing, look-put}
+use Rattle.service.proofs.View.{In-row, look-at, look-nothing, look-put}
 
 -- ---- a place of the array's row: the guard does not act, and what stands there is what is held
-module _ (w n : ℕ) (xs : List ℕ) (k i : ℕ) (a : In-row w k i) where
-  free : unless (eqb (getD xs (slot w k i) 0) 0) 13 ≡ unless (not (is-held (look w xs k i))) 13
-  free = ap (λ (t : Bool). unless t 13) (sym (look-free w xs k i a))
+module _ (w n : ℕ) (xs : List ℕ) (k i x : ℕ) (a : In-row w k i) where
+  taken : unless (takes (stored (getD xs (slot w k i) 0)) x) 13 ≡ unless (takes (look w xs k i) x) 13
+  taken = ap (λ (o : Option ℕ). unless (takes o x) 13) (sym (look-at w xs k i a))
 
   unguarded : slot w k i < n → (m : ℕ) → (unless (ltb (slot w k i) n) 8 then m) ≡ m
   unguarded h m = then-taken (unless-held (lt-ltb _ _ h) 8) m
@@ -67,14 +66,14 @@ module _ (A : Arithmetic) (s : Service) where
         let p = gathers _ g .0 in
         then-same (ap (λ (n : ℕ). element-refusal A (s .head .plan .users) n k i x) (w .ready p)) (λ e.
         let a = first-in p k i x (fits A _ _ _ _ _ e) in
-        unguarded most-places firsts (s .first) k i a (omega arith) _ ∙ free most-places firsts (s .first) k i a))
+        unguarded most-places firsts (s .first) k i x a (omega arith) _ ∙ taken most-places firsts (s .first) k i x a))
 
     pub reply-same : (k b x : ℕ) → reply-refusal A (s .head) (s .reply) k b x ≡ refusal A (reply-record k b x) (view s)
     unfolding reply-refusal refusal view
     reply-same k b x =
         then-same refl (λ g. then-same refl (λ e.
         let a = reply-in (replies _ g .0) k b x (fits A _ _ _ _ _ e) in
-        unguarded most-blocks cells (s .reply) k b a (omega arith) _ ∙ then-same refl (λ v. free most-blocks cells (s .reply) k b a)))
+        unguarded most-blocks cells (s .reply) k b x a (omega arith) _ ∙ then-same refl (λ v. taken most-blocks cells (s .reply) k b x a)))
 
     pub close-same : close-refusal s ≡ refusal A close-record (view s)
     unfolding close-refusal refusal view
@@ -88,12 +87,6 @@ first-empty k i = look-nothing most-places firsts k i
 reply-empty : (k b : ℕ) → look most-blocks nothing-reply k b ≡ none
 unfolding nothing-reply
 reply-empty k b = look-nothing most-blocks cells k b
-
-pub state-same : {g : scheme.Phase} {p : basis.Plan} {r v : ℕ} {xs xs′ ys ys′ : (k at : ℕ) → Option ℕ} →
-    ((k i : ℕ) → xs k i ≡ xs′ k i) → ((k b : ℕ) → ys k b ≡ ys′ k b) →
-    _≡_ {A = scheme.State} (record { phase = g; plan = p; round = r; survivors = v; firsts = xs; replies = ys })
-    (record { phase = g; plan = p; round = r; survivors = v; firsts = xs′; replies = ys′ })
-state-same {g} {p} {r} {v} e d = λ t. record { phase = g; plan = p; round = r; survivors = v; firsts = λ k i. e k i t; replies = λ k b. d k b t }
 
 pub new-view : view new-service ≡ scheme.new-state
 unfolding view new-service phase-of scheme.new-state

@@ -1,15 +1,16 @@
 -- Laws of the view.
 --   stored-held       whether a stored number is an element
+--   left-held, left-taken, left-refused     what is held stays; an element that comes is taken where it is what is left, or else refused
 --   In-row            a user and a place of its row
 --   look-at, held-at  what stands in a place of the array, and its element
---   look-free         a place is free where 0 stands
 --   look-nothing      nothing is held
 --   look-put          one element more is held
 -- Assumes nothing.
 use mathlib.Core.Path.{_≡_, refl, sym, ap, _∙_}
+use mathlib.Core.Logic.{_≢_}
 use mathlib.Core.Bool.{Bool, true, false, _&&_, not, cond}
 use mathlib.Core.List.{List}
-use mathlib.Core.Option.{Option, none, some}
+use mathlib.Core.Option.{none, some}
 use Prim.Native.Nat.{ℕ, zero, suc, _-_, _/_, _%_, _≤_, _<_}
 use native.Mathlib.Numerals.{add-one}
 use native.Mathlib.Omega.{arith}
@@ -18,10 +19,10 @@ use lib.ListN.{length, getD, replicate}
 use lib.Seq.{getD-set-same, getD-set-other}
 use borrow.Author.Tests.{le-leb, lt-ltb, eq-eqb, ne-eqb, eqb-true, eqb-false, leb-true, ltb-true}
 use Rattle.scheme.specs.Limits.{most-users}
-use Rattle.scheme.specs.Service.{is-held, element-of, with-element}
-use Rattle.scheme.proofs.Tests.{and-both, not-not}
+use Rattle.scheme.specs.Service.{is-held, element-of, with-element, takes}
+use Rattle.scheme.proofs.Tests.{and-both}
 use Rattle.scheme.proofs.Lists.{zeros-at, high, low}
-use Rattle.service.specs.View.{held-as, stored, slot, put, look, held-in}
+use Rattle.service.specs.View.{held-as, stored, left-in, slot, put, look, held-in}
 
 by-test : {P : Type 0} (b : Bool) → (b ≡ true → P) → (b ≡ false → P) → P
 by-test true f g = f refl
@@ -31,6 +32,21 @@ pub stored-held : (n : ℕ) → is-held (stored n) ≡ not (eqb n 0)
 unfolding is-held stored
 stored-held zero = refl
 stored-held (suc n) = simp (ne-eqb (suc n) 0 (λ z. omega arith))
+
+pub left-held : (h n : ℕ) → h ≢ 0 → h ≡ left-in h n
+unfolding left-in
+left-held zero n e = absurd (e refl)
+left-held (suc h) n e = refl
+
+pub left-taken : (n x : ℕ) → left-in n (held-as x) ≡ held-as x → takes (stored n) x ≡ true
+unfolding left-in takes stored
+left-taken zero x e = refl
+left-taken (suc n) x e = eq-eqb n x (omega arith)
+
+pub left-refused : (n x : ℕ) → left-in n (held-as x) ≢ held-as x → (takes (stored n) x ≡ false) × (left-in n (held-as x) ≡ n)
+unfolding left-in takes stored
+left-refused zero x h = absurd (h refl)
+left-refused (suc n) x h = (ne-eqb n x (λ e. h (omega arith)), refl)
 
 abbrev inside : (w k i : ℕ) → Bool
 inside w k i = leb 1 k && (leb k most-users && ltb i w)
@@ -44,10 +60,6 @@ module _ (w : ℕ) (xs : List ℕ) (k i : ℕ) where
   pub look-at : In-row w k i → look w xs k i ≡ stored (getD xs (slot w k i) 0)
   unfolding look
   look-at a = simp (le-leb _ _ (a .low), le-leb _ _ (a .high), lt-ltb _ _ (a .place))
-
-  pub look-free : In-row w k i → not (is-held (look w xs k i)) ≡ eqb (getD xs (slot w k i) 0) 0
-  look-free a =
-      ap (λ (o : Option ℕ). not (is-held o)) (look-at a) ∙ ap not (stored-held (getD xs (slot w k i) 0)) ∙ not-not (eqb (getD xs (slot w k i) 0) 0)
 
   pub held-at : 1 ≤ k → k ≤ most-users → i < w → held-in w xs k i ≡ getD xs (slot w k i) 0 - 1
   unfolding element-of stored

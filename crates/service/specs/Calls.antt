@@ -8,11 +8,11 @@
 -- Assumes nothing: these are definitions.
 use mathlib.Core.List.{List}
 use Prim.Native.Nat.{ℕ}
-use lib.Dec.{ltb, leb, eqb}
+use lib.Dec.{ltb, leb}
 use lib.ListN.{getD, replicate}
 use Rattle.scheme.specs.Limits.{most-blocks, most-places, firsts, cells}
 use Rattle.scheme.specs.Scheme.{Arithmetic, plan-good, places, in-set, ones, _then_, unless, after}
-use Rattle.scheme.specs.Service.{plan-missing, second-plan, not-gathering, not-replying, element-refusal, gathered}
+use Rattle.scheme.specs.Service.{plan-missing, second-plan, not-gathering, not-replying, element-refusal, takes, gathered}
 use Rattle.plan.specs.declared.Plan.{Plan}
 use Rattle.plan.specs.Plan.{plan-of}
 use Rattle.service.specs.declared.Phase.the-variants.{Unplanned, Idle, Gathering, Replying}
@@ -22,7 +22,7 @@ use Rattle.service.specs.declared.Stepped.{Stepped}
 use Rattle.service.specs.declared.Closed.{Closed}
 use Rattle.service.specs.declared.SteppedHead.{SteppedHead}
 use Rattle.service.specs.declared.ClosedHead.{ClosedHead}
-use Rattle.service.specs.View.{phase-of, slot, put, view}
+use Rattle.service.specs.View.{phase-of, stored, slot, put, view}
 
 unfoldable pub nothing-first : List ℕ
 nothing-first = replicate firsts 0
@@ -91,7 +91,7 @@ open-step s r = by-refusal (open-refusal (s .head) r) (opened (s .head) r) s
 unfoldable pub first-refusal : Arithmetic → Head → (first : List ℕ) → (k place element : ℕ) → ℕ
 first-refusal A h xs k i x =
     not-gathering (phase-of (h .phase)) then element-refusal A (h .plan .users) (h .places) k i x
-    then unless (ltb (slot most-places k i) firsts) 8 then unless (eqb (getD xs (slot most-places k i) 0) 0) 13
+    then unless (ltb (slot most-places k i) firsts) 8 then unless (takes (stored (getD xs (slot most-places k i) 0)) x) 13
 
 unfoldable pub first-left : Arithmetic → Head → (first : List ℕ) → (k place element : ℕ) → List ℕ
 first-left A h xs k i x = after (first-refusal A h xs k i x) (put most-places xs k i x) xs
@@ -108,7 +108,7 @@ unfoldable pub reply-refusal : Arithmetic → Head → (reply : List ℕ) → (k
 reply-refusal A h ys k b x =
     not-replying (phase-of (h .phase)) then element-refusal A (h .plan .users) (h .plan .blocks) k b x
     then unless (ltb (slot most-blocks k b) cells) 8 then unless (in-set (h .survivors) k) 14
-    then unless (eqb (getD ys (slot most-blocks k b) 0) 0) 13
+    then unless (takes (stored (getD ys (slot most-blocks k b) 0)) x) 13
 
 unfoldable pub reply-left : Arithmetic → Head → (reply : List ℕ) → (k block element : ℕ) → List ℕ
 reply-left A h ys k b x = after (reply-refusal A h ys k b x) (put most-blocks ys k b x) ys

@@ -1,6 +1,7 @@
 -- What a service's state stands for in scheme/specs/Service.antt.
 --   phase-of           document 01's phase of the enum
 --   held-as, stored    an element is held as itself plus 1, and 0 stands where none is held
+--   left-in            what a place holds once an element has come, both as they are held
 --   row-start, slot    user k's elements stand together, from (k - 1) * stride on
 --   put                an array with one element more
 --   look, held-in      what an array holds of a user; the element, or 0 where none is held
@@ -37,6 +38,10 @@ held-as x = x + 1
 unfoldable pub stored : ℕ → Option ℕ
 stored zero = none
 stored (suc x) = some x
+
+unfoldable pub left-in : (held new : ℕ) → ℕ
+left-in zero n = n
+left-in (suc h) n = suc h
 
 abbrev pub row-start : (stride k : ℕ) → ℕ
 row-start w k = (k - 1) * w

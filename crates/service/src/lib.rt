@@ -5,7 +5,7 @@
 //   SteppedHead, ClosedHead      what their leaves hand back: the same, with the head alone
 //   plan_missing, second_plan, open_refusal, not_gathering, not_replying     the refusals that the head alone decides
 //   element_refusal              the tests that both kinds of element share
-//   held_as, element_of, row_start     how an element is held, and where: there and back
+//   held_as, element_of, left_in, row_start     how an element is held, there and back, what a place keeps, and where it stands
 //   put_first, put_reply         the leaves that hold an element, on a lent array: the hot path
 //   complete_set                 the users with all their elements held
 //   nothing_first, nothing_reply, clear     no elements held; drops all
@@ -19,7 +19,7 @@ ghost use Rattle.scheme.specs.Limits.{most-users, most-places};
 ghost use Rattle.scheme.specs.Scheme.{q, sixteen};
 ghost use Rattle.scheme.specs.Service.{plan-missing, second-plan, not-gathering, not-replying, element-refusal, complete-set};
 ghost use Rattle.plan.specs.Plan.{plan-of};
-ghost use Rattle.service.specs.View.{phase-of, held-as, row-start, row-held, look};
+ghost use Rattle.service.specs.View.{phase-of, held-as, left-in, row-start, row-held, look};
 ghost use Rattle.service.specs.Calls.{nothing-first, nothing-reply, new-service, plan-step, open-refusal, open-step, first-refusal, first-left, first-step, reply-refusal, reply-left, reply-step, close-step, lent, stepped, closing, not-closed};
 use plan::BLOCKS;
 use plan::CELLS;
@@ -180,6 +180,16 @@ pub fn element_of(held: u16) -> u16
     held - 1
 }
 
+// What a place holds once an element has come, both as they are held: what it held, or else the new one.
+fn left_in(held: u16, new: u16) -> u16
+    ensures { λ r. ⌜ r ≡ left-in held new ⌝ }
+{
+    if 0 < held {
+        return held;
+    }
+    new
+}
+
 // Where a user's elements start, which stand together: `stride` behind those of the user before.
 pub fn row_start(user: u32, stride: usize) -> usize
     requires { ⌜ (1 ≤ user) × (stride ≤ most-places) ⌝ }
@@ -188,7 +198,8 @@ pub fn row_start(user: u32, stride: usize) -> usize
     (user as usize - 1) * stride
 }
 
-// Holds a first element and answers 0, or answers why not: 11, 12, 4, 8, 3, 13.
+// Holds a first element and answers 0, or answers why not: 11, 12, 4, 8, 3, 13. What is held stays; a new element and a repeat take the
+// same way, so that there is no branch between them to predict.
 pub fn put_first(head: Head, first: &mut [u16; FIRSTS], user: u32, place: u32, element: u32) -> u32
     ensures number { λ r. ⌜ r ≡ first-refusal sixteen head (now (first .entry)) user place element ⌝ }
     ensures left { λ r. ⌜ now (first .exit) ≡ first-left sixteen head (now (first .entry)) user place element ⌝ }
@@ -207,14 +218,16 @@ pub fn put_first(head: Head, first: &mut [u16; FIRSTS], user: u32, place: u32, e
     if FIRSTS <= at {
         return 8;
     }
-    if first[at] != 0 {
+    let new = held_as(element as u16);
+    let left = left_in(first[at], new);
+    first[at] = left;
+    if left != new {
         return 13;
     }
-    first[at] = held_as(element as u16);
     0
 }
 
-// Holds a reply element and answers 0, or answers why not: 11, 12, 4, 8, 3, 14, 13.
+// Holds a reply element and answers 0, or answers why not: 11, 12, 4, 8, 3, 14, 13, in the same way.
 pub fn put_reply(head: Head, reply: &mut [u16; CELLS], user: u32, block: u32, element: u32) -> u32
     ensures number { λ r. ⌜ r ≡ reply-refusal sixteen head (now (reply .entry)) user block element ⌝ }
     ensures left { λ r. ⌜ now (reply .exit) ≡ reply-left sixteen head (now (reply .entry)) user block element ⌝ }
@@ -236,10 +249,12 @@ pub fn put_reply(head: Head, reply: &mut [u16; CELLS], user: u32, block: u32, el
     if !plan::holds(head.survivors, user) {
         return 14;
     }
-    if reply[at] != 0 {
+    let new = held_as(element as u16);
+    let left = left_in(reply[at], new);
+    reply[at] = left;
+    if left != new {
         return 13;
     }
-    reply[at] = held_as(element as u16);
     0
 }
 
@@ -469,7 +484,7 @@ impl Service {
         Stepped { number, service }
     }
 
-    // 11, 12, 4, 8, 3, 13.
+    // 11, 12, 4, 8, 3, 13. The element that is held is taken again, and changes nothing.
     pub fn first_element(mut self, user: u32, place: u32, element: u16) -> Stepped
         ensures { λ r. ⌜ r ≡ first-step sixteen self user place element ⌝ }
     {
@@ -481,7 +496,7 @@ impl Service {
         }
     }
 
-    // 11, 12, 4, 8, 3, 14, 13.
+    // 11, 12, 4, 8, 3, 14, 13. The element that is held is taken again, and changes nothing.
     pub fn reply_element(mut self, user: u32, block: u32, element: u16) -> Stepped
         ensures { λ r. ⌜ r ≡ reply-step sixteen self user block element ⌝ }
     {

@@ -1,5 +1,7 @@
 //! `generate KIND SEED [COUNT]`: test material on standard output.
 //! - `rounds`: a record stream of COUNT rounds
+//! - `repeated`: a record stream of COUNT rounds and one more, in which every
+//!   record comes twice
 //! - `damaged`: a record stream that must be refused in many places, with
 //!   COUNT random records in it
 //! - `calls`: COUNT cases for the key maker and the airfield end,
@@ -9,12 +11,13 @@
 //! - `whole`: COUNT cases of whole rounds, as text for the program `rounds`;
 //!   src/material/vectors.rs sets it out
 
-use reference::material::{calls, damaged, drawn, found, read, rounds, whole};
+use reference::material::{calls, damaged, drawn, found, read, repeated, rounds, whole};
 use reference::stream::to_bytes;
 use std::io::{self, BufWriter, Write};
 use std::process::ExitCode;
 
-const USAGE: &str = "usage: generate rounds|damaged|calls|drawn|found|read|whole SEED [COUNT]";
+const USAGE: &str =
+    "usage: generate rounds|repeated|damaged|calls|drawn|found|read|whole SEED [COUNT]";
 const DEFAULT_COUNT: u32 = 20;
 
 fn main() -> io::Result<ExitCode> {
@@ -29,6 +32,7 @@ fn main() -> io::Result<ExitCode> {
     let mut out = BufWriter::new(io::stdout());
     match kind {
         "rounds" => out.write_all(&to_bytes(&rounds::records(seed, count)))?,
+        "repeated" => out.write_all(&to_bytes(&repeated::records(seed, count)))?,
         "damaged" => out.write_all(&damaged::bytes(seed, count))?,
         "calls" => calls::cases(seed, count).try_for_each(|case| write!(out, "{case}"))?,
         "drawn" => drawn::cases(seed, count).try_for_each(|case| write!(out, "{case}"))?,

@@ -6,10 +6,11 @@
 //!
 //! In order: every kind before a plan; plans outside their ranges; the plan;
 //! every kind, and each value at its bound and one past it, when idle, when
-//! gathering and when replying; a round with just U replies, one with replies
-//! drawn at random; `steps` random records; the last round number; and one
-//! ending: none, an unknown kind, each kind cut after each length, or random
-//! bytes. With the last ending the stream is random bytes from the start.
+//! gathering and when replying; a round with just U replies, in which all
+//! elements come again, and one with replies drawn at random; `steps` random
+//! records; the last round number; and one ending: none, an unknown kind, each
+//! kind cut after each length, or random bytes. With the last ending the stream
+//! is random bytes from the start.
 
 use super::{first_records, plan_by_seed, reply_records};
 use crate::field::{LARGEST, Q};
@@ -122,11 +123,12 @@ fn every_phase(plan: &Plan, random: &mut Random) -> Vec<Record> {
     let bounds = [firsts.clone(), replies.clone()].concat();
     let enough = plan.least() as u8;
     let all = plan.airfields();
+    let twice = |records: Vec<Record>| [records.clone(), records].concat();
     [
         [bounds.clone(), kinds.clone()].concat(),
-        [vec![Record::Open(1)], kinds.clone(), replies, firsts].concat(),
-        [vec![Record::Open(2)], rows(plan, enough, random), vec![Record::Close]].concat(),
-        [kinds.clone(), bounds.clone(), answers(plan, enough, random)].concat(),
+        [vec![Record::Open(1)], kinds.clone(), replies, twice(firsts)].concat(),
+        [vec![Record::Open(2)], twice(rows(plan, enough, random)), vec![Record::Close]].concat(),
+        [kinds.clone(), bounds.clone(), twice(answers(plan, enough, random))].concat(),
         [vec![Record::Finish], kinds.clone(), bounds].concat(),
         [vec![Record::Open(3)], rows(plan, all, random), vec![Record::Close]].concat(),
         [answers(plan, all, random), vec![Record::Finish; 2], vec![Record::Open(3)]].concat(),

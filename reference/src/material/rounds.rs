@@ -1,14 +1,16 @@
 //! Streams of whole rounds under one plan, the plan taken by the seed.
 //!
 //! - `records`: the plan, `count` rounds, then opens that must be refused
+//! - `Round`: one of the rounds; `Round::draw`, `Round::records`
 //!
 //! Each round draws fresh figures within the bound, counts or signed ones or
-//! both, and a fresh random list. It may have airfields that drop out before or after the close, unfinished rows,
-//! rows and replies in any order, places sent twice, a close or finish asked
-//! too early, first messages after the close, replies of others than survivors,
-//! partial replies, more replies than needed, one garbled reply, and it may be
-//! left before its finish. Round numbers start at 1, or spread over all
-//! numbers, or run up to 4294967295.
+//! both, and a fresh random list. It may have airfields that drop out before or
+//! after the close, unfinished rows, rows and replies in any order, elements
+//! that come again as they were or changed, a close or finish asked too early,
+//! first messages after the close, replies of others than survivors, partial
+//! replies, more replies than needed, one garbled reply, and it may be left
+//! before its finish. Round numbers start at 1, or spread over all numbers, or
+//! run up to 4294967295.
 
 use super::{first_records, plan_by_seed, reply_records, table};
 use crate::field::{add, Element, LARGEST};
@@ -18,8 +20,11 @@ use crate::stream::Record;
 
 /// How often something happens, in a hundred.
 pub(super) const RARE: usize = 10;
-pub(super) const GARBLED: usize = 20;
+pub(super) const SOMETIMES: usize = 20;
 pub(super) const OFTEN: usize = 50;
+
+/// Elements that come again in a batch with repeats, at most.
+const REPEATS: usize = 6;
 
 pub fn records(seed: u64, count: u32) -> Vec<Record> {
     let mut random = Random::new(seed);
@@ -46,7 +51,7 @@ fn round_numbers(random: &mut Random, count: u32) -> Vec<u32> {
     }
 }
 
-struct Round<'a> {
+pub(super) struct Round<'a> {
     plan: &'a Plan,
     number: u32,
     list: Vec<Element>,
@@ -57,7 +62,7 @@ struct Round<'a> {
 }
 
 impl Round<'_> {
-    fn draw<'a>(plan: &'a Plan, number: u32, random: &mut Random) -> Round<'a> {
+    pub(super) fn draw<'a>(plan: &'a Plan, number: u32, random: &mut Random) -> Round<'a> {
         let list = random.elements(plan.list_length());
         let s = RandomList { plan, elements: &list };
         let messages = (1..=plan.airfields())
@@ -70,7 +75,7 @@ impl Round<'_> {
         Round { plan, number, list, messages, senders, repliers }
     }
 
-    fn records(&self, random: &mut Random) -> Vec<Record> {
+    pub(super) fn records(&self, random: &mut Random) -> Vec<Record> {
         let mut records = vec![Record::Open(self.number)];
         records.extend(self.gathering(random));
         records.push(Record::Close);
@@ -112,7 +117,7 @@ impl Round<'_> {
         }
         let mut whole: Vec<_> =
             self.repliers.iter().map(|&airfield| self.reply_records(airfield, survivors)).collect();
-        if random.chance(GARBLED) {
+        if random.chance(SOMETIMES) {
             garble(&mut whole, random);
         }
         let silent =
@@ -148,14 +153,14 @@ impl Round<'_> {
         records
     }
 
-    /// In order or shuffled; now and then with a place or block sent again,
-    /// its element changed, or with an open of the same round.
+    /// In order or shuffled; often with repeats, and now and then with an open
+    /// of the same round.
     fn mixed(&self, mut records: Vec<Record>, random: &mut Random) -> Vec<Record> {
         if random.chance(OFTEN) {
             random.shuffle(&mut records);
         }
-        if random.chance(RARE) && !records.is_empty() {
-            records.push(with_other_element(random.pick(&records), random));
+        if random.chance(OFTEN) && !records.is_empty() {
+            (0..=random.below(REPEATS)).for_each(|_| repeat(&mut records, random));
         }
         if random.chance(RARE) {
             records.push(Record::Open(self.number));
@@ -218,8 +223,17 @@ fn garble(replies: &mut [Vec<Record>], random: &mut Random) {
     reply[block] = with_other_element(reply[block], random);
 }
 
+/// Sends one of the records again anywhere behind it, as it was or with another
+/// element.
+fn repeat(records: &mut Vec<Record>, random: &mut Random) {
+    let at = random.below(records.len());
+    let behind = at + 1 + random.below(records.len() - at);
+    let other = with_other_element(records[at], random);
+    records.insert(behind, random.pick(&[records[at], other]));
+}
+
 /// The same record with another element; others than elements stay as they are.
-fn with_other_element(mut record: Record, random: &mut Random) -> Record {
+pub(super) fn with_other_element(mut record: Record, random: &mut Random) -> Record {
     let change = 1 + random.below(usize::from(LARGEST)) as Element;
     if let Record::First { element, .. } | Record::Reply { element, .. } = &mut record {
         *element = add(*element, change);

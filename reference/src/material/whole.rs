@@ -6,18 +6,18 @@
 //! case has one round or two, each with its own random list. Every airfield
 //! makes its calls; then the service is given what it sends. Airfields may
 //! drop out before or after the close, leave rows and replies unfinished, come
-//! late, send twice, reply though they are no survivors, and one reply may be
-//! garbled; close and finish may be asked too early, or once too often. Figures
-//! lie within the bound of their airfield's use. Where no reply is garbled the
-//! totals are held against the residues of the whole-number sums of the
-//! survivors' figures; and where the survivors have one use, what is read from
-//! them against those sums.
+//! late, reply though they are no survivors, and one reply may be garbled; a
+//! message may come again, as it was or changed; close and finish may be asked
+//! too early, or once too often. Figures lie within the bound of their
+//! airfield's use. Where no reply is garbled the totals are held against the
+//! residues of the whole-number sums of the survivors' figures; and where the
+//! survivors have one use, what is read from them against those sums.
 
 use super::rounds::some_of;
 use super::vectors::Case;
 use super::{
     common_use, plan_by_seed,
-    rounds::{GARBLED, OFTEN, RARE},
+    rounds::{OFTEN, RARE, SOMETIMES},
     table, totals, whole_sums, Row,
 };
 use crate::field::{add, Element, LARGEST, Q};
@@ -37,7 +37,7 @@ pub fn cases(seed: u64, count: u32) -> impl Iterator<Item = String> {
     (0..count).map(move |index| {
         let plan = plan_by_seed(seed.wrapping_add(u64::from(index)));
         let mut case = Case::new(plan.numbers());
-        let rounds = if random.chance(GARBLED) { 2 } else { 1 };
+        let rounds = if random.chance(SOMETIMES) { 2 } else { 1 };
         for number in 1..=rounds {
             round(&mut case, &plan, number, &mut random);
         }
@@ -114,14 +114,14 @@ fn calls(
     case.start(airfield, row.usage);
     let message = case.first_message(&row.lent(), plan.row_length());
     let reply = case.reply(survivors);
-    if random.chance(GARBLED) {
+    if random.chance(SOMETIMES) {
         case.reply(random.pick(&[survivors, (1 << plan.airfields()) - 1]));
     }
     Sent { airfield, message, reply }
 }
 
 /// Unfinished rows, then whole rows, perhaps with a close before the last one
-/// that is needed, a row sent twice or elements that no row has; then the
+/// that is needed, rows that come again or elements that no row has; then the
 /// close, and rows that come late.
 fn gathering(
     case: &mut Case,
@@ -141,10 +141,7 @@ fn gathering(
         if index + 1 == plan.least() && random.chance(RARE) {
             case.close();
         }
-        case.first_elements(sent.airfield, 0, &sent.message);
-        if random.chance(RARE) {
-            case.first_elements(sent.airfield, 0, &sent.message);
-        }
+        give(&sent.message, random, |message| case.first_elements(sent.airfield, 0, message));
     }
     if random.chance(RARE) {
         case.first_elements(random.pick(&[0, plan.airfields() + 1]), 0, &[0]);
@@ -161,8 +158,8 @@ fn gathering(
 
 /// Unfinished replies, replies of others than survivors, then whole replies,
 /// perhaps one garbled, perhaps with a finish before the last one that is
-/// needed; then the finish. Gives its totals, none if it is refused or a reply
-/// is garbled.
+/// needed or replies that come again; then the finish. Gives its totals, none if
+/// it is refused or a reply is garbled.
 fn replying(
     case: &mut Case,
     plan: &Plan,
@@ -182,17 +179,16 @@ fn replying(
             case.reply_elements(sent.airfield, 0, &[random.element()]);
         }
     }
-    let garbled = random.chance(GARBLED).then(|| random.below(repliers.len().max(1)));
+    let garbled = random.chance(SOMETIMES).then(|| random.below(repliers.len().max(1)));
     for (index, sent) in repliers.iter().enumerate() {
         if index + 1 == plan.least() && random.chance(RARE) {
             case.finish();
         }
         let mut reply = sent.reply.clone();
         if garbled == Some(index) && !reply.is_empty() {
-            let block = random.below(reply.len());
-            reply[block] = add(reply[block], 1 + random.below(usize::from(LARGEST)) as Element);
+            change_one(&mut reply, random);
         }
-        case.reply_elements(sent.airfield, 0, &reply);
+        give(&reply, random, |reply| case.reply_elements(sent.airfield, 0, reply));
     }
     if random.chance(RARE) {
         case.reply_elements(plan.airfields() + 1, 0, &[0]);
@@ -204,4 +200,24 @@ fn replying(
     } else {
         vec![]
     }
+}
+
+/// Sends a message. Now and then it comes again, perhaps with one element
+/// changed and then as it was.
+fn give(message: &[Element], random: &mut Random, mut send: impl FnMut(&[Element])) {
+    send(message);
+    if message.is_empty() || !random.chance(SOMETIMES) {
+        return;
+    }
+    if random.chance(OFTEN) {
+        let mut changed = message.to_vec();
+        change_one(&mut changed, random);
+        send(&changed);
+    }
+    send(message);
+}
+
+fn change_one(message: &mut [Element], random: &mut Random) {
+    let at = random.below(message.len());
+    message[at] = add(message[at], 1 + random.below(usize::from(LARGEST)) as Element);
 }

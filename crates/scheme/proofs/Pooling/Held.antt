@@ -3,6 +3,7 @@
 --   Part, part                           as many users of a set as are wanted
 --   complete-below, complete-in, complete-held     the users with all their elements held
 --   with-small, with-held                one element more
+--   state-same                           states with the same elements
 -- Assumes nothing.
 use mathlib.Core.Path.{_≡_, refl, sym, ap, ap₂, _∙_}
 use mathlib.Core.Logic.{_⊎_, inl, inr}
@@ -16,7 +17,7 @@ use lib.Dec.{eqb}
 use borrow.Author.Tests.{eqb-true}
 use Rattle.scheme.specs.Lists.{span, all-of}
 use Rattle.scheme.specs.Scheme.{Plan, in-set, ones}
-use Rattle.scheme.specs.Service.{is-held, element-of, with-element, set-of, complete-set, values}
+use Rattle.scheme.specs.Service.{Phase, State, is-held, element-of, with-element, set-of, complete-set, values}
 use Rattle.scheme.proofs.Tests.{and-both, holds}
 use Rattle.scheme.proofs.Lists.{high, low, in-span, all-of-in}
 
@@ -119,3 +120,9 @@ module _ (k i x : ℕ) (f : (k at : ℕ) → Option ℕ) where
   with-held l j =
       elim (eqb l k && eqb j i) as (λ b. (eqb l k && eqb j i) ≡ b → is-held (cond b (some x) (f l j)) ≡ true → (l ≡ k) ⊎ (is-held (f l j) ≡ true))
       [ true ↦ λ t e. inl (eqb-true l k (and-both (eqb l k) (eqb j i) t .0)) | false ↦ λ t e. inr e ] refl
+
+pub state-same : {g : Phase} {p : Plan} {r v : ℕ} {xs xs′ ys ys′ : (k at : ℕ) → Option ℕ} →
+    ((k i : ℕ) → xs k i ≡ xs′ k i) → ((k b : ℕ) → ys k b ≡ ys′ k b) →
+    _≡_ {A = State} (record { phase = g; plan = p; round = r; survivors = v; firsts = xs; replies = ys })
+    (record { phase = g; plan = p; round = r; survivors = v; firsts = xs′; replies = ys′ })
+state-same {g} {p} {r} {v} e d = λ t. record { phase = g; plan = p; round = r; survivors = v; firsts = λ k i. e k i t; replies = λ k b. d k b t }

@@ -1,53 +1,34 @@
 -- The pooling service keeps its promises, over an arithmetic that has the laws at every good plan.
 --   refused-unchanged, as-new                    a refused record changes nothing; a round begins as that of a new service
 --   sixteen-exactly, never-sixteen               when 16 is answered
---   one-answer, always-answers                   each record has one answer
+--   one-answer, one-run, always-answers          each record has one answer, and each list of them one run
 --   finish-right, finish-residues                a finish of replies by the rules has the total
 --   demand-2                                     THE SECOND DEMAND
 -- Assumes nothing.
-use mathlib.Core.Path.{_≡_, refl, sym, ap, _∙_, subst}
+use mathlib.Core.Path.{_≡_, refl, sym, ap, ap₂, _∙_, subst}
 use mathlib.Core.Logic.{_≢_, ⊎-elim}
-use mathlib.Core.Bool.{Bool, true, false}
-use mathlib.Core.List.{List, map}
+use mathlib.Core.Bool.{true}
+use mathlib.Core.List.{List, _∷_, map}
 use Prim.Native.Nat.{ℕ, zero, suc, _<_}
 use native.Mathlib.Omega.{arith}
-use lib.Dec.{eqb}
-use borrow.Author.Tests.{lt-ltb, ltb-true, eqb-false}
+use borrow.Author.Tests.{lt-ltb, ltb-true}
 use Rattle.scheme.specs.Lists.{span}
-use Rattle.scheme.specs.Scheme.{Arithmetic, sixteen, Plan, plan-good, places, total-at, _then_, unless}
+use Rattle.scheme.specs.Scheme.{Arithmetic, sixteen, Plan, plan-good, places, total-at}
 use Rattle.scheme.specs.Totals.{One-choice, Some-choice, Rules-explain, Residues-right}
-use Rattle.scheme.specs.Service.{has-plan, plan-missing, second-plan, not-gathering, not-replying, State, replied, Record, plan-record, open-record, first-record, close-record, reply-record, finish-record, Answer, opened, totalled, refused, element-refusal, refusal, planned-state, opened-state, next-state, answer-of, is-finish, values, explained-by, totals-by, Steps, refuses, accepts, totals-up, disagrees, Runs, more, Well}
-use Rattle.scheme.specs.ServicePromise.{One-answer, Answered, Always-answers, Refused-unchanged, As-new, Finish-right, Finish-residues, Unexplained, Sixteen-exactly, Never-sixteen, Demand-2}
+use Rattle.scheme.specs.Service.{has-plan, plan-missing, second-plan, not-gathering, not-replying, State, replied, Record, plan-record, open-record, first-record, close-record, reply-record, finish-record, Answer, opened, totalled, refused, element-refusal, refusal, planned-state, opened-state, next-state, answer-of, is-finish, values, explained-by, totals-by, Steps, refuses, accepts, totals-up, disagrees, Runs, done, more, Well}
+use Rattle.scheme.specs.ServicePromise.{One-answer, One-run, Answered, Always-answers, Refused-unchanged, As-new, Finish-right, Finish-residues, Unexplained, Sixteen-exactly, Never-sixteen, Demand-2}
 use Rattle.scheme.specs.Laws.{Laws, Adds-whole}
 use Rattle.scheme.proofs.Tests.{holds}
-use Rattle.scheme.proofs.Refusals.{then-taken, then-zero, unless-held, unless-zero}
-use Rattle.scheme.proofs.Pooling.Well.{finishing, steps-well, stays-well}
+use Rattle.scheme.proofs.Refusals.{then-taken, then-zero, then-not, unless-held, unless-zero, test-not}
+use Rattle.scheme.proofs.Pooling.Well.{answer-not-refused, finishing, steps-well, stays-well}
+use Rattle.scheme.proofs.Pooling.Repeats.{thirteen-exactly, repeat-silent, repeats-quiet, twice-repeats}
 use Rattle.scheme.proofs.Pooling.Choices.{totals-same, decided}
 use Rattle.scheme.proofs.Modular.{sixteen-laws}
 use Rattle.scheme.proofs.Signed.{sixteen-whole}
 use Rattle.scheme.proofs.Whole.{total-fits, totals-whole, signed-read}
 use Rattle.scheme.proofs.Pooling.Totals.{one-choice, some-choice, rules-explain, residues-right}
 
-answer-not-refused : (r : Record) (s : State) (n : ℕ) → answer-of r s ≡ refused n → ⊥
-unfolding answer-of
-answer-not-refused (plan-record p) s n e = let z : _≡_ {A = ℕ} 0 1 = cc in omega arith
-answer-not-refused (open-record r) s n e = let z : _≡_ {A = ℕ} 0 1 = cc in omega arith
-answer-not-refused (first-record k i x) s n e = let z : _≡_ {A = ℕ} 0 1 = cc in omega arith
-answer-not-refused close-record s n e = let z : _≡_ {A = ℕ} 0 1 = cc in omega arith
-answer-not-refused (reply-record k b x) s n e = let z : _≡_ {A = ℕ} 0 1 = cc in omega arith
-answer-not-refused finish-record s n e = let z : _≡_ {A = ℕ} 0 1 = cc in omega arith
-
 -- only finish is refused 16, and not by its tests
-then-not : {a b : ℕ} → a ≢ 16 → b ≢ 16 → (a then b) ≢ 16
-unfolding _then_
-then-not {a = zero} h l = l
-then-not {a = suc a} h l = h
-
-test-not : (b : Bool) (n : ℕ) → eqb n 16 ≡ false → unless b n ≢ 16
-unfolding unless
-test-not true n h = λ e. omega arith
-test-not false n h = eqb-false n 16 h
-
 module _ (A : Arithmetic) where
   not-sixteen : (r : Record) (s : State) → refusal A r s ≢ 16
   unfolding refusal plan-missing second-plan not-gathering not-replying element-refusal
@@ -132,6 +113,14 @@ module _ (A : Arithmetic) where
     one-answer _ _ _ _ _ _ w (disagrees s e h) (totals-up _ f d l) = absurd (h f l)
     one-answer _ _ _ _ _ _ w (disagrees s e h) (disagrees _ d l) = (refl, refl)
 
+    pub one-run : One-run A
+    unfolding One-run One-answer
+    one-run _ _ _ _ _ _ w (done s) (done _) = (refl, refl)
+    one-run _ _ _ _ _ _ w (more r rs s t u a l h rest) (more _ _ _ t′ v b m h′ rest′) =
+        let e = one-answer r s t t′ a b w h h′ in
+        let n = one-run rs t u v l m (steps-well A r s t a w h) rest (subst (λ (t : State). Runs A rs t m v) (sym (e .1)) rest′) in
+        (ap₂ _∷_ (e .0) (n .0), n .1)
+
     finished : (s : State) → Well A s → refusal A finish-record s ≡ 0 → Answered A finish-record s
     unfolding explained-by
     finished s w e = ⊎-elim (λ c. answered _ s _ _ w (totals-up s (c .choice) e (c .right))) (λ h. answered _ s _ _ w (disagrees s e h))
@@ -185,6 +174,7 @@ pub demand-2 : Demand-2
 demand-2 = record {
   stays-well = stays-well sixteen (omega arith);
   one-answer = one-answer sixteen sixteen-laws;
+  one-run = one-run sixteen sixteen-laws;
   always-answers = always-answers sixteen sixteen-laws;
   refused-unchanged = refused-unchanged sixteen;
   as-new = as-new sixteen;
@@ -193,4 +183,8 @@ demand-2 = record {
   signed-read = λ p. signed-read sixteen p sixteen-whole;
   sixteen-exactly = sixteen-exactly sixteen;
   never-sixteen = never-sixteen sixteen sixteen-laws;
+  thirteen-exactly = thirteen-exactly sixteen;
+  repeat-silent = repeat-silent sixteen;
+  repeats-quiet = repeats-quiet sixteen;
+  twice-repeats = twice-repeats sixteen;
 }

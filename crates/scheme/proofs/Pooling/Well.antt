@@ -3,6 +3,7 @@
 --   Fits, fits                    an element that its tests let pass
 --   Finishing, finishing          what a finish that is not refused by its tests has
 --   refuses-as                    a step that is refused, by its number
+--   answer-not-refused            an accepted record is not answered by a refusal
 --   new-well, steps-well, stays-well    a new state is well, and so is every state that records lead to
 --   replied-survives              who has replied is a survivor
 -- Assumes nothing.
@@ -14,7 +15,7 @@ use Prim.Native.Nat.{ℕ, _≤_, _<_}
 use native.Mathlib.Omega.{arith}
 use borrow.Author.Tests.{lt-ltb, ltb-true, leb-true}
 use Rattle.scheme.specs.Scheme.{Arithmetic, Plan, plan-good, places, in-set, ones, usable}
-use Rattle.scheme.specs.Service.{Phase, has-plan, is-gathering, is-replying, plan-missing, not-gathering, not-replying, State, nothing, new-state, is-held, element-of, gathered, replied, Record, plan-record, open-record, first-record, close-record, reply-record, finish-record, Answer, refused, element-refusal, refusal, planned-state, opened-state, idle-state, next-state, is-finish, Steps, refuses, accepts, totals-up, disagrees, Runs, done, more, Well}
+use Rattle.scheme.specs.Service.{Phase, has-plan, is-gathering, is-replying, plan-missing, not-gathering, not-replying, State, nothing, new-state, is-held, element-of, gathered, replied, Record, plan-record, open-record, first-record, close-record, reply-record, finish-record, Answer, refused, element-refusal, refusal, planned-state, opened-state, idle-state, next-state, answer-of, is-finish, Steps, refuses, accepts, totals-up, disagrees, Runs, done, more, Well}
 use Rattle.scheme.specs.ServicePromise.{Stays-well}
 use Rattle.scheme.proofs.Tests.{holds, and-both, and-joined}
 use Rattle.scheme.proofs.Good.{good}
@@ -64,6 +65,15 @@ finishing A s e =
 
 pub refuses-as : (A : Arithmetic) (r : Record) (s : State) {n : ℕ} → n ≢ 0 → refusal A r s ≡ n → Steps A r s (refused n) s
 refuses-as A r s h e = subst (λ (n : ℕ). Steps A r s (refused n) s) e (refuses r s (λ z. h (sym e ∙ z)))
+
+pub answer-not-refused : (r : Record) (s : State) (n : ℕ) → answer-of r s ≡ refused n → ⊥
+unfolding answer-of
+answer-not-refused (plan-record p) s n e = let z : _≡_ {A = ℕ} 0 1 = cc in omega arith
+answer-not-refused (open-record r) s n e = let z : _≡_ {A = ℕ} 0 1 = cc in omega arith
+answer-not-refused (first-record k i x) s n e = let z : _≡_ {A = ℕ} 0 1 = cc in omega arith
+answer-not-refused close-record s n e = let z : _≡_ {A = ℕ} 0 1 = cc in omega arith
+answer-not-refused (reply-record k b x) s n e = let z : _≡_ {A = ℕ} 0 1 = cc in omega arith
+answer-not-refused finish-record s n e = let z : _≡_ {A = ℕ} 0 1 = cc in omega arith
 
 -- ---- states stay well
 module _ (A : Arithmetic) where

@@ -1,11 +1,10 @@
 -- `service::put_reply` meets its contract: the tests that led to each return decide the definition's.
 -- Assumes nothing.
-use mathlib.Core.Path.{_≡_, sym, ap, ap₂, _∙_}
+use mathlib.Core.Path.{_≡_, sym, ap, _∙_}
 use mathlib.Core.Bool.{true}
 use mathlib.Core.List.{List}
 use Prim.Native.Nat.{ℕ, _+_, _<_}
 use native.Mathlib.Omega.{arith}
-use lib.ListN.{set}
 use borrow.Author.Needs.{needs}
 use borrow.Author.Tests.{not-true, not-false}
 use Rattle.scheme.specs.Limits.{most-blocks}
@@ -15,7 +14,7 @@ use Rattle.scheme.proofs.Refusals.{then-taken, then-stops, unless-held, unless-
 use Rattle.scheme.proofs.Pooling.Well.{fits}
 use Rattle.service.specs.View.{phase-of, slot}
 use Rattle.service.specs.Calls.{reply-refusal, reply-left}
-use Rattle.service.proofs.Refused.{beyond, within, not-free, is-free, array-refused, array-taken}
+use Rattle.service.proofs.Refused.{beyond, within, Behind, behind-takes, behind-put, behind-refuses, behind-kept, array-refused, array-kept, array-taken}
 use Rattle.service.proofs.put_reply.Statement.{statement}
 use Rattle.service.proofs.put_reply.Tie as tie
 
@@ -37,6 +36,15 @@ at-slot c = let d = c .before in ap (λ (n : ℕ). n + d .before .before .before
 survives : (c : tie.Else4) → let d = c .before .before .before .before in let a = d .before .before .before .before .args in
     in-set (a .head .survivors) (a .user) ≡ true
 survives c = sym (c .before .holds .ensures) ∙ not-false _ (c .if4 .left)
+
+small : (c : tie.Else4) → let d = c .before .before .before .before in d .before .before .before .before .args .element < q
+small c = fits sixteen _ _ _ _ _ (element-right (c .before .before .before .before)) .small
+
+behind : (c : tie.After-left-in) → let g = c .before .before in let e = g .before .before .before in let d = e .before .before in
+    let a = d .before .before .before .before .args in
+    Behind (array d) (slot most-blocks (a .user) (a .block)) (a .element) (e .before .row-start .result + a .block) (g .held-as .result) (c .left-in .result)
+behind c =
+    let g = c .before .before in record { found = at-slot (g .before .before .before .before); made = g .held-as .ensures; stays = c .left-in .ensures }
 
 -- ---- the needs
 not-replying-requires : tie.Need-not-replying-requires
@@ -79,28 +87,20 @@ returns-4 c =
     array-refused (λ z. omega arith) (test-refused out _ _ ∙ test-passed (within (at-slot (e .before)) (e .if3 .left)) 8 _
     ∙ both-passed (phase-right (d .before .before)) (element-right d) _) _ _
 
-mul-if5 : tie.Need-mul-if5
-mul-if5 c = search needs
-
-element-copy-out-if5 : tie.Need-element-copy-out-if5
-element-copy-out-if5 c = search needs
-
-returns-5 : tie.Need-returns-5
-unfolding reply-refusal reply-left
-returns-5 c =
-    let f = c .before .before in let e = f .before .before in let s = at-slot (e .before) in let d = e .before .before in
-    array-refused (λ z. omega arith)
-    (sym (unless-failed (not-free s (array d) (c .if5 .taken)) 13) ∙ test-passed (survives f) 14 _ ∙ test-passed (within s (e .if3 .left)) 8 _
-    ∙ both-passed (phase-right (d .before .before)) (element-right d) _) _ _
-
-small : (c : tie.Else5) → let d = c .before .before .before .before in let a = d .before .before .before .before in a .before .before .args .element < q
-small c = let d = c .before .before .before .before in fits sixteen _ _ _ _ _ (element-right (d .before .before)) .small
-
 cast-held-as : tie.Need-cast-held-as
 cast-held-as c = omega (arith, small c)
 
 held-as-requires : tie.Need-held-as-requires
-held-as-requires c κs = omega (arith, small c)
+held-as-requires c κs = small c
+
+mul-left-in : tie.Need-mul-left-in
+mul-left-in c = search needs
+
+element-copy-out-left-in : tie.Need-element-copy-out-left-in
+element-copy-out-left-in c = search needs
+
+left-in-requires : tie.Need-left-in-requires
+left-in-requires c κs = search needs
 
 mul-reply : tie.Need-mul-reply
 mul-reply c = search needs
@@ -108,12 +108,21 @@ mul-reply c = search needs
 element-write-reply : tie.Need-element-write-reply
 element-write-reply c = search needs
 
+returns-5 : tie.Need-returns-5
+unfolding reply-refusal reply-left
+returns-5 c =
+    let f = c .before .before .before .before in let e = f .before .before in let d = e .before .before in let b = behind (c .before) in
+    array-kept (λ z. omega arith)
+    (sym (unless-failed (behind-refuses b (c .if5 .taken)) 13) ∙ test-passed (survives f) 14 _ ∙ test-passed (within (b .found) (e .if3 .left)) 8 _
+    ∙ both-passed (phase-right (d .before .before)) (element-right d) _) (behind-kept b (c .if5 .taken)) _
+
 returns-6 : tie.Need-returns-6
 unfolding reply-refusal reply-left
 returns-6 c =
-    let g = c .before in let f = g .before .before in let e = f .before .before in let s = at-slot (e .before) in let d = e .before .before in
-    array-taken (sym (unless-held (is-free s (array d) (g .if5 .left)) 13) ∙ test-passed (survives f) 14 _ ∙ test-passed (within s (e .if3 .left)) 8 _
-    ∙ both-passed (phase-right (d .before .before)) (element-right d) _) (ap₂ (λ (n x : ℕ). set (array d) n x) s (c .held-as .ensures)) (array d)
+    let f = c .before .before .before .before in let e = f .before .before in let d = e .before .before in let b = behind (c .before) in
+    array-taken
+    (sym (unless-held (behind-takes b (c .if5 .left)) 13) ∙ test-passed (survives f) 14 _ ∙ test-passed (within (b .found) (e .if3 .left)) 8 _
+    ∙ both-passed (phase-right (d .before .before)) (element-right d) _) (behind-put b (c .if5 .left)) (array d)
 
 pub put-reply-spec : {M : Type 1} → statement M
 put-reply-spec =
@@ -128,11 +137,12 @@ put-reply-spec =
     returns-3
     holds-requires
     returns-4
-    mul-if5
-    element-copy-out-if5
-    returns-5
     cast-held-as
     held-as-requires
+    mul-left-in
+    element-copy-out-left-in
+    left-in-requires
     mul-reply
     element-write-reply
+    returns-5
     returns-6)
