@@ -3,7 +3,7 @@
 use reference::material::{
     all_plans, calls, damaged, drawn, found, plan_by_seed, read, repeated, rounds, whole,
 };
-use reference::stream::{run, to_bytes, Records};
+use reference::stream::{run, to_bytes, Record, Records};
 use std::collections::BTreeSet;
 
 const ROUNDS: u32 = 20;
@@ -30,44 +30,36 @@ fn seeds_meet_every_plan() {
     assert_eq!(plans.len(), 896);
 }
 
+/// What is printed of whole rounds, where the plan comes once.
+const OF_ROUNDS: [&str; 10] = [
+    "plan",
+    "open",
+    "survivors",
+    "total",
+    "refused 12",
+    "refused 13",
+    "refused 14",
+    "refused 15",
+    "refused 16",
+    "refused 17",
+];
+
+/// The lines of the streams of all seeds.
+fn lines_of(records: fn(u64, u32) -> Vec<Record>) -> String {
+    (0..SEEDS).map(|seed| run(&to_bytes(&records(seed, ROUNDS)))).collect()
+}
+
 #[test]
 fn rounds_reach_every_line_they_can() {
-    let outputs: String =
-        (0..SEEDS).map(|seed| run(&to_bytes(&rounds::records(seed, ROUNDS)))).collect();
-    let expected = [
-        "plan",
-        "open",
-        "survivors",
-        "total",
-        "refused 12",
-        "refused 13",
-        "refused 14",
-        "refused 15",
-        "refused 16",
-        "refused 17",
-    ];
-    assert_eq!(heads(&outputs), set(&expected));
+    let outputs = lines_of(rounds::records);
+    assert_eq!(heads(&outputs), set(&OF_ROUNDS));
     assert!(outputs.contains("total 4294967295 "));
 }
 
 #[test]
 fn repeated_streams_reach_every_line_they_can() {
-    let outputs: String =
-        (0..SEEDS).map(|seed| run(&to_bytes(&repeated::records(seed, ROUNDS)))).collect();
-    let expected = [
-        "plan",
-        "open",
-        "survivors",
-        "total",
-        "refused 11",
-        "refused 12",
-        "refused 13",
-        "refused 14",
-        "refused 15",
-        "refused 16",
-        "refused 17",
-    ];
-    assert_eq!(heads(&outputs), set(&expected));
+    let expected = [&OF_ROUNDS[..], &["refused 11"]].concat();
+    assert_eq!(heads(&lines_of(repeated::records)), set(&expected));
 }
 
 #[test]
