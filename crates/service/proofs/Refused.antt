@@ -1,11 +1,11 @@
 -- What the calls hand back, refused and taken.
 --   beyond, within                  tests of a place in an array, where the code has found it
 --   Behind, behind-takes, behind-put, behind-refuses, behind-kept     what is left in it behind an element that comes
---   array-refused, array-kept, array-taken     the number and the array, of an element
+--   array-kept, array-refused, array-taken     the number and the array, of an element: written back, untouched, new
 --   step-refused, step-taken        the number and the state, of a plan or an open
 --   close-refused, close-taken      what close hands back
 -- Assumes nothing.
-use mathlib.Core.Path.{_≡_, sym, ap, ap₂, _∙_}
+use mathlib.Core.Path.{_≡_, refl, sym, ap, ap₂, _∙_}
 use mathlib.Core.Logic.{_≢_}
 use mathlib.Core.Bool.{true, false}
 use mathlib.Core.List.{List}
@@ -15,13 +15,13 @@ use lib.Dec.{ltb}
 use lib.ListN.{getD, set}
 use lib.Seq.{set-getD}
 use borrow.Author.Tests.{lt-ltb, le-ltb}
-use Rattle.scheme.specs.Scheme.{_then_, after}
+use Rattle.scheme.specs.Scheme.{after}
 use Rattle.scheme.specs.Service.{takes, gathered}
 use Rattle.scheme.proofs.Refusals.{after-taken, after-refused}
 use Rattle.service.specs.declared.Service.{Service}
 use Rattle.service.specs.View.{held-as, stored, left-in, view}
-use Rattle.service.proofs.View.{left-taken, left-refused}
 use Rattle.service.specs.Calls.{by-refusal, close-refusal, closed, close-step}
+use Rattle.service.proofs.View.{left-taken, left-refused}
 
 module _ {at place : ℕ} (e : at ≡ place) where
   pub beyond : {n : ℕ} → n ≤ at → ltb place n ≡ false
@@ -63,11 +63,11 @@ kept h e new old = sym (after-refused (λ z. h (e ∙ z)) new old)
 moved : {X : Type 0} {m : ℕ} {x new : X} → 0 ≡ m → x ≡ new → (old : X) → x ≡ after m new old
 moved {new = new} e d old = d ∙ sym (after-taken (sym e) new old)
 
-pub array-refused : {n m : ℕ} → (n ≡ 0 → ⊥) → n ≡ m → (new old : List ℕ) → (n ≡ m) × (old ≡ after m new old)
-array-refused h e new old = (e, kept h e new old)
-
 pub array-kept : {n m : ℕ} {xs old : List ℕ} → (n ≡ 0 → ⊥) → n ≡ m → xs ≡ old → (new : List ℕ) → (n ≡ m) × (xs ≡ after m new old)
 array-kept {old = old} h e d new = (e, d ∙ kept h e new old)
+
+pub array-refused : {n m : ℕ} → (n ≡ 0 → ⊥) → n ≡ m → (new old : List ℕ) → (n ≡ m) × (old ≡ after m new old)
+array-refused h e new old = array-kept h e refl new
 
 pub array-taken : {m : ℕ} {xs new : List ℕ} → 0 ≡ m → xs ≡ new → (old : List ℕ) → (0 ≡ m) × (xs ≡ after m new old)
 array-taken e d old = (e, moved e d old)
