@@ -1,6 +1,7 @@
 /* Document 01's example round through the library, from C: the random list from raw bytes, keys, first messages, the service, the
  * replies to set 5, the total 40, where the shares for each set start, the largest figure, a call for each refusal, elements that come
- * again, and a round of signed figures. Prints what it gets on standard error; exit status 1 where anything is not as expected. */
+ * again, a round of signed figures, and rounds with false replies. Prints what it gets on standard error; exit status 1 where anything is
+ * not as expected. */
 #include <inttypes.h>
 #include <stdio.h>
 #include <string.h>
@@ -65,6 +66,12 @@ static void expect_part(const char *what, CutawhenoPart got, CutawhenoPart wante
     expect(what, got.number, wanted.number);
     expect(what, got.start, wanted.start);
     expect(what, got.count, wanted.count);
+}
+
+static void expect_finished(const char *what, CutawhenoFinished got, uint32_t number, uint32_t aside)
+{
+    expect(what, got.number, number);
+    expect(what, got.aside, aside);
 }
 
 /* Of an end, and of a service's head: both are eight numbers. */
@@ -160,7 +167,7 @@ static void run_round(void)
         uint16_t share = answer(&airfields[user - 1], user, closed.set);
         expect("reply", cutawheno_service_reply_element(s.head, s.reply, user, 0, share), user == 2 ? CUTAWHENO_NO_SURVIVOR : CUTAWHENO_TAKEN);
     }
-    expect("finish", cutawheno_service_finish(LEND(s), totals), CUTAWHENO_TAKEN);
+    expect_finished("finish", cutawheno_service_finish(LEND(s), totals), CUTAWHENO_TAKEN, 0);
     expect_row("totals", totals, expected, CUTAWHENO_MOST_PLACES);
     expect_same("finished", &s, &(Service){{CUTAWHENO_IDLE, PLAN, PLACES, ROUND, 0}, {0}, {0}});
 }
@@ -387,9 +394,70 @@ static void run_signed_round(void)
     expect("set", cutawheno_service_close(LEND(s)).set, SET);
     for (uint32_t user = 1; user <= USERS; user += 2)
         expect("reply", cutawheno_service_reply_element(s.head, s.reply, user, 0, expected_replies[user - 1]), CUTAWHENO_TAKEN);
-    expect("finish", cutawheno_service_finish(LEND(s), totals), CUTAWHENO_TAKEN);
+    expect_finished("finish", cutawheno_service_finish(LEND(s), totals), CUTAWHENO_TAKEN, 0);
     expect("total", totals[0], 65512);
     expect_reading("total, as it is meant", cutawheno_read_total(totals[0], CUTAWHENO_SIGNED), CUTAWHENO_TAKEN, -9);
+}
+
+enum { FOUR = 4, EVERYONE = 15, FOUR_LIST_LEN = 15, FOUR_KEY_LEN = 8, TOTAL_OF_FOUR = 100 };
+
+#define PLAN_OF_FOUR FOUR, THRESHOLD, COLLUSION, BLOCKS
+
+/* A service to which four airfields have sent the figures 10, 20, 30 and 40, and the first so many their replies, those of a set false. */
+static Service service_of_four(uint32_t replies, uint32_t false_set)
+{
+    static const uint16_t list_of_four[FOUR_LIST_LEN] = {100, 200, 300, 400, 12, 60, 40, 120, 9, 8, 7, 6, 5, 4, 3};
+    uint16_t keys[FOUR][FOUR_KEY_LEN];
+    uint32_t ends[FOUR][CUTAWHENO_END];
+    Service s = {{0}, {0}, {0}};
+
+    expect("plan", cutawheno_service_plan(LEND(s), PLAN_OF_FOUR), CUTAWHENO_TAKEN);
+    expect("open", cutawheno_service_open(LEND(s), ROUND), CUTAWHENO_TAKEN);
+    for (uint32_t user = 1; user <= FOUR; user++) {
+        uint16_t *key = keys[user - 1], figure = (uint16_t)(10 * user), message[PLACES];
+        uint32_t *end = ends[user - 1];
+        expect("make_key", cutawheno_make_key(list_of_four, FOUR_LIST_LEN, key, FOUR_KEY_LEN, PLAN_OF_FOUR, user), CUTAWHENO_TAKEN);
+        expect("end_start", cutawheno_end_start(end, PLAN_OF_FOUR, user, CUTAWHENO_COUNTS), CUTAWHENO_TAKEN);
+        expect("first_message", cutawheno_end_first_message(key, FOUR_KEY_LEN, &figure, PLACES, message, PLACES, end), CUTAWHENO_TAKEN);
+        expect("first", cutawheno_service_first_element(s.head, s.first, user, 0, message[0]), CUTAWHENO_TAKEN);
+    }
+    expect("set of four", cutawheno_service_close(LEND(s)).set, EVERYONE);
+    for (uint32_t user = 1; user <= replies; user++) {
+        CutawhenoPart part = cutawheno_end_reply(keys[user - 1], FOUR_KEY_LEN, ends[user - 1], EVERYONE);
+        uint32_t share = (keys[user - 1][part.start] + (false_set >> (user - 1) & 1)) % CUTAWHENO_Q;
+        expect("reply", cutawheno_service_reply_element(s.head, s.reply, user, 0, share), CUTAWHENO_TAKEN);
+    }
+    return s;
+}
+
+/* Finishes a round of four: the answer and the total, and the state that the answer leaves. */
+static void expect_finish(const char *what, Service s, uint32_t number, uint32_t aside, uint16_t total)
+{
+    uint16_t totals[CUTAWHENO_MOST_PLACES] = {7};
+    const Service before = s, idle = {{CUTAWHENO_IDLE, PLAN_OF_FOUR, PLACES, ROUND, 0}, {0}, {0}};
+
+    expect_finished(what, cutawheno_service_finish(LEND(s), totals), number, aside);
+    expect(what, totals[0], total);
+    expect_same(what, &s, number == CUTAWHENO_TAKEN ? &idle : &before);
+}
+
+/* Of four replies where two must come, one that is false is set aside, whoever sent it. Of three none is, but another reply mends that.
+ * Two false replies leave no total. One of two is not seen, and makes the total false. */
+static void run_asides(void)
+{
+    Service s = service_of_four(3, 1), all = service_of_four(FOUR, 0), two = service_of_four(2, 1);
+    uint16_t totals[CUTAWHENO_MOST_PLACES];
+
+    expect_finish("no false reply", all, CUTAWHENO_TAKEN, 0, TOTAL_OF_FOUR);
+    for (uint32_t user = 1; user <= FOUR; user++)
+        expect_finish("a false reply", service_of_four(FOUR, 1u << (user - 1)), CUTAWHENO_TAKEN, user, TOTAL_OF_FOUR);
+    expect_finish("false among three", s, CUTAWHENO_UNEXPLAINED, 0, 7);
+    expect("a fourth reply", cutawheno_service_reply_element(s.head, s.reply, FOUR, 0, all.reply[3 * CUTAWHENO_MOST_BLOCKS] - 1u),
+           CUTAWHENO_TAKEN);
+    expect_finish("false among four now", s, CUTAWHENO_TAKEN, 1, TOTAL_OF_FOUR);
+    expect_finish("two false replies", service_of_four(FOUR, 3), CUTAWHENO_UNEXPLAINED, 0, 7);
+    expect_finished("false among two", cutawheno_service_finish(LEND(two), totals), CUTAWHENO_TAKEN, 0);
+    expect("a false total", totals[0] != TOTAL_OF_FOUR, 1);
 }
 
 /* The three report; then what is refused leaves every array as it came, and so does an element that comes again. */
@@ -419,7 +487,7 @@ static void run_service_refusals(void)
     expect("first behind another", cutawheno_service_first_element(s.head, s.first, 1, 0, 110), CUTAWHENO_TAKEN);
     expect("first of 17 bits", cutawheno_service_first_element(s.head, s.first, 1, 0, 65536 + 110), CUTAWHENO_BAD_ELEMENT);
     expect("early reply", cutawheno_service_reply_element(s.head, s.reply, 1, 0, 340), CUTAWHENO_OTHER_PHASE);
-    expect("early finish", cutawheno_service_finish(LEND(s), totals), CUTAWHENO_OTHER_PHASE);
+    expect_finished("early finish", cutawheno_service_finish(LEND(s), totals), CUTAWHENO_OTHER_PHASE, 0);
     CutawhenoClosed closed = cutawheno_service_close(LEND(s));
     expect("too few", closed.number, CUTAWHENO_TOO_FEW);
     expect("too few, set", closed.set, 0);
@@ -428,11 +496,11 @@ static void run_service_refusals(void)
     expect("first", cutawheno_service_first_element(s.head, s.first, 2, 0, 220), CUTAWHENO_TAKEN);
     expect("first", cutawheno_service_first_element(s.head, s.first, 3, 0, 330), CUTAWHENO_TAKEN);
     expect("set of all", cutawheno_service_close(LEND(s)).set, 7);
-    expect("too few replies", cutawheno_service_finish(LEND(s), totals), CUTAWHENO_TOO_FEW);
+    expect_finished("too few replies", cutawheno_service_finish(LEND(s), totals), CUTAWHENO_TOO_FEW, 0);
     for (uint32_t user = 1; user <= USERS; user++)
         expect("reply", cutawheno_service_reply_element(s.head, s.reply, user, 0, shares[user - 1]), CUTAWHENO_TAKEN);
     before = s;
-    expect("unexplained", cutawheno_service_finish(LEND(s), totals), CUTAWHENO_UNEXPLAINED);
+    expect_finished("unexplained", cutawheno_service_finish(LEND(s), totals), CUTAWHENO_UNEXPLAINED, 0);
     expect("reply again", cutawheno_service_reply_element(s.head, s.reply, 3, 0, 175), CUTAWHENO_TAKEN);
     expect("another reply", cutawheno_service_reply_element(s.head, s.reply, 3, 0, 174), CUTAWHENO_HELD);
     expect("reply behind another", cutawheno_service_reply_element(s.head, s.reply, 3, 0, 175), CUTAWHENO_TAKEN);
@@ -450,7 +518,7 @@ static void run_service_refusals(void)
     before = s;
     expect("any first", cutawheno_service_first_element(s.head, s.first, UINT32_MAX, UINT32_MAX, UINT32_MAX), CUTAWHENO_OTHER_PHASE);
     expect("any reply", cutawheno_service_reply_element(s.head, s.reply, UINT32_MAX, UINT32_MAX - 1, 1), CUTAWHENO_BAD_PLACE);
-    expect("any finish", cutawheno_service_finish(LEND(s), totals), CUTAWHENO_TOO_FEW);
+    expect_finished("any finish", cutawheno_service_finish(LEND(s), totals), CUTAWHENO_TOO_FEW, 0);
     expect_same("any arrays", &s, &before);
 }
 
@@ -482,6 +550,7 @@ int main(void)
     run_figures();
     run_signed_figures();
     run_signed_round();
+    run_asides();
     run_service_refusals();
     printf("C: %s\n", failures == 0 ? "the example round, as expected" : "NOT as expected");
     return failures != 0;

@@ -1,5 +1,6 @@
 /* Key maker, airfield end and pooling service of document 01, and of document 02 the random list from raw bytes, the bound of figures,
- * signed figures and finding a set's shares, for C: the functions that crates/capi exports (rt staticlib capi gives libcapi.a).
+ * signed figures, finding a set's shares and setting one false reply aside, for C: the functions that crates/capi exports (rt staticlib
+ * capi gives libcapi.a).
  *
  * A plan is four numbers: users (K), threshold (U), collusion (T) and blocks (M). A user is an airfield's number, 1 to K; a set of
  * users is a number whose bit k - 1 stands for user k. An element is a number below CUTAWHENO_Q. A row of figures, and a first
@@ -126,7 +127,7 @@ enum {
     CUTAWHENO_HELD = 13,          /* another element is held at that place or block */
     CUTAWHENO_NO_SURVIVOR = 14,   /* the user is not a survivor */
     CUTAWHENO_TOO_FEW = 15,       /* fewer complete users than the threshold */
-    CUTAWHENO_UNEXPLAINED = 16,   /* no sums and noise explain all complete replies */
+    CUTAWHENO_UNEXPLAINED = 16,   /* complete replies disagree, and are threshold + 1 or no single user can be set aside */
     CUTAWHENO_OLD_ROUND = 17,     /* the round is not above the last one opened */
     CUTAWHENO_OUT_OF_TURN = 18,   /* first message already given, or a reply asked of a fresh end */
     CUTAWHENO_OTHER_SET = 19,     /* a set other than the one answered */
@@ -153,6 +154,12 @@ typedef struct {
     uint32_t number;
     uint32_t set;
 } CutawhenoClosed;
+
+/* What finishing a round answers: the refusal or 0; the user whose reply was set aside, 0 where there is none and after a refusal. */
+typedef struct {
+    uint32_t number;
+    uint32_t aside;
+} CutawhenoFinished;
 
 /* What reading a total answers: the refusal or 0; the whole number that the total stands for, 0 after a refusal. */
 typedef struct {
@@ -262,14 +269,18 @@ CUTAWHENO_ANSWER
 uint32_t cutawheno_service_reply_element(const uint32_t head[CUTAWHENO_HEAD], uint16_t reply[CUTAWHENO_REPLIES],
                                          uint32_t user, uint32_t block, uint32_t element);
 
-/* Writes the survivors' total, place by place, and 0 behind the places of the plan; the service is idle then, and holds nothing. Where
- * all that is held of the survivors is what cutawheno_end_first_message wrote and cutawheno_end_reply told for their set, each under its
- * user's key of one random list, this is the sum of their figures modulo CUTAWHENO_Q: of counts the whole-number sum, of signed figures
- * its residue, which cutawheno_read_total reads.
- * Refusals, the earliest: PLAN_ORDER, OTHER_PHASE, TOO_FEW, UNEXPLAINED. */
+/* Writes the survivors' total, place by place, and 0 behind the places of the plan; the service is idle then, and holds nothing. The
+ * complete replies agree if one choice of sums and noise explains them, as it always does where they are just as many as the threshold.
+ * Where threshold + 2 or more disagree, the reply of the one user without which all others agree is set aside (there is at most one such
+ * user): the total comes from the others' replies, and the user's first message stays in it. Where all that is held of the survivors is
+ * what cutawheno_end_first_message wrote and cutawheno_end_reply told for their set, each under its user's key of one random list, but for
+ * one reply among threshold + 2 or more, this is the sum of their figures modulo CUTAWHENO_Q: of counts the whole-number sum, of signed
+ * figures its residue, which cutawheno_read_total reads.
+ * Refusals, the earliest: PLAN_ORDER, OTHER_PHASE, TOO_FEW, UNEXPLAINED. A further reply may mend TOO_FEW, and
+ * UNEXPLAINED of threshold + 1 replies; of more it stays. */
 CUTAWHENO_ANSWER
-uint32_t cutawheno_service_finish(uint32_t head[CUTAWHENO_HEAD], uint16_t first[CUTAWHENO_FIRSTS], uint16_t reply[CUTAWHENO_REPLIES],
-                                  uint16_t totals[CUTAWHENO_MOST_PLACES]);
+CutawhenoFinished cutawheno_service_finish(uint32_t head[CUTAWHENO_HEAD], uint16_t first[CUTAWHENO_FIRSTS],
+                                           uint16_t reply[CUTAWHENO_REPLIES], uint16_t totals[CUTAWHENO_MOST_PLACES]);
 
 /* Reads a total of counts, which is itself, or, where is_signed is not 0, of signed figures: up to CUTAWHENO_SIGNED_REACH it is itself,
  * above it itself less CUTAWHENO_Q. Refusal: BAD_ELEMENT (the total, in either use). */

@@ -102,15 +102,15 @@ fn opened(p: Plan) -> (cutawheno::Service, Service) {
     (service, rust)
 }
 
-/// Both services with the replies of user 1 to `users` held.
-fn replied(round: &Round, users: u32) -> (cutawheno::Service, Service) {
+/// Both services with the replies of user 1 to `users` held, that of `false_user` false in every block; 0 is nobody.
+fn replied(round: &Round, users: u32, false_user: u32) -> (cutawheno::Service, Service) {
     let (mut service, mut rust) = opened(round.plan);
     for (user, place, x) in round.firsts() {
         service.first_element(user, place, x).unwrap();
         assert_eq!(rust.first_element(user, place, x), 0);
     }
     assert_eq!((service.close().unwrap(), rust.close(), rust.survivors), (round.everyone, 0, round.everyone));
-    for (k, row) in round.replies[..users as usize].iter().enumerate() {
+    for (k, row) in round.falsified(false_user)[..users as usize].iter().enumerate() {
         for (block, &x) in row.iter().enumerate() {
             let (user, block, x) = (k as u32 + 1, block as u32, x as u32);
             service.reply_element(user, block, x).unwrap();
@@ -140,23 +140,25 @@ pub fn measure_element(p: Plan) -> [f64; 2] {
     round.map(|time| time / firsts.len() as f64)
 }
 
-/// A finish with the replies of user 1 to `users`.
-pub fn measure_finish(round: &Round, users: u32) -> [f64; 2] {
-    let (service, rust_service) = replied(round, users);
+/// A finish with the replies of user 1 to `users`, of which that of `aside` is false and set aside; 0 is nobody.
+pub fn measure_finish(round: &Round, users: u32, aside: u32) -> [f64; 2] {
+    let (service, rust_service) = replied(round, users, aside);
     let (mut totals, mut rust_totals) = ([0; MOST_PLACES], [0; MOST_PLACES]);
-    service.clone().finish(&mut totals).unwrap();
-    assert_eq!(rust_service.clone().finish(&mut rust_totals), 0);
+    assert_eq!(service.clone().finish(&mut totals).unwrap().aside.unwrap_or(0), aside);
+    assert_eq!(rust_service.clone().finish(&mut rust_totals), Ok(aside));
     assert_eq!(totals, rust_totals);
     for (place, &total) in totals[..round.plan.places()].iter().enumerate() {
         let sum: u32 = round.figures.iter().map(|row| row[place] as u32).sum();
         assert_eq!(total as u32, sum);
     }
-    let rust = black_box(Service::finish as fn(&mut Service, &mut [u16; MOST_PLACES]) -> u32);
+    let rust = black_box(Service::finish as fn(&mut Service, &mut [u16; MOST_PLACES]) -> Result<u32, u32>);
     duel_over(
         (&service, |s: &mut cutawheno::Service| {
             s.finish(black_box(&mut [0; MOST_PLACES])).unwrap();
         }),
-        (&rust_service, |s: &mut Service| assert_eq!(rust(s, black_box(&mut [0; MOST_PLACES])), 0)),
+        (&rust_service, |s: &mut Service| {
+            rust(s, black_box(&mut [0; MOST_PLACES])).unwrap();
+        }),
     )
 }
 

@@ -1,5 +1,6 @@
-//! Document 01, and items 1 to 5 of document 02, in plain Rust, written for speed: the algorithms, tests and order of refusals of the
-//! proved crates. Every call answers 0, or the number of its refusal, and then changes nothing.
+//! Document 01, and items 1 to 6 of document 02, in plain Rust, written for speed: the algorithms, tests and order of refusals of the
+//! proved crates. Every call answers 0, or the number of its refusal, and then changes nothing; finish the user set
+//! aside, 0 for none, or that number as its error.
 #![allow(dead_code)] // each program uses its part
 
 use std::array;
@@ -519,23 +520,26 @@ impl Service {
         hold(&mut self.reply[user as usize - 1][block as usize], element)
     }
 
-    /// The totals go to the first L places.
-    pub fn finish(&mut self, totals: &mut [u16; MOST_PLACES]) -> u32 {
+    /// The totals go to the first L places. The user set aside, 0 where all replies agree; or the refusal's number.
+    pub fn finish(&mut self, totals: &mut [u16; MOST_PLACES]) -> Result<u32, u32> {
         let number = self.not_in(Phase::Replying);
         if number != 0 {
-            return number;
+            return Err(number);
         }
         let set = complete_set(&self.reply[..self.plan.users as usize], self.plan.blocks as usize);
         if set.count_ones() < self.plan.threshold {
-            return 15;
+            return Err(15);
         }
-        let Some(sums) = sums_of(self.plan.threshold as usize, set, &self.reply) else { return 16 };
-        *totals = self.totals(&sums);
+        let mut unknowns = NO_REPLY;
+        let Some(aside) = explain(self.plan.threshold as usize, set, &self.reply, &mut unknowns) else {
+            return Err(16);
+        };
+        *totals = self.totals(&unknowns);
         self.phase = Phase::Idle;
         self.survivors = 0;
         self.first = NO_FIRST;
         self.reply = NO_REPLY;
-        0
+        Ok(aside)
     }
 
     /// The sums of the survivors' first messages, less the sums of their masks.
@@ -592,11 +596,24 @@ fn scaled(weight: u32, row: &Blocks) -> Blocks {
     row.map(|x| (weight * x as u32 % Q) as u16)
 }
 
-/// The Cauchy systems of the users whose replies are complete: the closed solution from the first ones, if it explains the others.
-fn sums_of(size: usize, set: u32, reply: &[Blocks; MOST_USERS]) -> Option<[Blocks; MOST_USERS]> {
-    const COLUMNS: [u8; MOST_USERS] = [1, 2, 3, 4, 5, 6, 7, 0];
-    let mut rows = [0; MOST_USERS];
-    let mut values = [[0; MOST_BLOCKS]; MOST_USERS];
+/// The unknowns of the Cauchy systems with these rows, by the closed solution.
+fn solve(rows: &[u8], columns: &[u8], values: &[Blocks], unknowns: &mut [Blocks; MOST_USERS]) {
+    let mut weighed = [[0; MOST_BLOCKS]; MOST_USERS];
+    for ((out, weight), row) in weighed.iter_mut().zip(weights(rows, columns)).zip(values) {
+        *out = scaled(weight, row);
+    }
+    for ((out, weight), &column) in unknowns.iter_mut().zip(weights(columns, rows)).zip(columns) {
+        *out = scaled(weight, &dots(column, rows, &weighed));
+    }
+}
+
+/// Writes the users of a set and their replies, in rising number; answers with how many there are.
+fn gather(
+    set: u32,
+    reply: &[Blocks; MOST_USERS],
+    rows: &mut [u8; MOST_USERS],
+    values: &mut [Blocks; MOST_USERS],
+) -> usize {
     let mut count = 0;
     for (k, row) in reply.iter().enumerate() {
         if set >> k & 1 == 1 {
@@ -605,17 +622,32 @@ fn sums_of(size: usize, set: u32, reply: &[Blocks; MOST_USERS]) -> Option<[Block
             count += 1;
         }
     }
-    let (rows, further) = rows[..count].split_at(size);
-    let (values, wanted) = values[..count].split_at(size);
+    count
+}
+
+/// Writes the unknowns that explain the complete replies, and answers with the user set aside, 0 where all agree; or with none where no
+/// single user can be. The first `size` rows are solved. If one of the further rows does not fit, it is set aside; if more do not, it is
+/// none of them, and as many of the first rows go behind them, until each has been a further one.
+fn explain(size: usize, set: u32, reply: &[Blocks; MOST_USERS], unknowns: &mut [Blocks; MOST_USERS]) -> Option<u32> {
+    const COLUMNS: [u8; MOST_USERS] = [1, 2, 3, 4, 5, 6, 7, 0];
     let columns = &COLUMNS[..size];
-    let mut weighed = [[0; MOST_BLOCKS]; MOST_USERS];
-    for ((out, weight), row) in weighed.iter_mut().zip(weights(rows, columns)).zip(values) {
-        *out = scaled(weight, row);
+    let (mut rows, mut values) = ([0; MOST_USERS], NO_REPLY);
+    let count = gather(set, reply, &mut rows, &mut values);
+    let (rows, values) = (&mut rows[..count], &mut values[..count]);
+    let spare = count - size;
+    let mut from = 0;
+    loop {
+        solve(&rows[..size], columns, &values[..size], unknowns);
+        let further = rows[size..].iter().zip(&values[size..]);
+        let mut misfits = further.filter(|(&row, wanted)| dots(row, columns, unknowns) != **wanted);
+        match (misfits.next(), misfits.next()) {
+            (None, _) => return Some(0),
+            (Some((&row, _)), None) if 2 <= spare => return Some(row as u32),
+            _ if spare < 2 || size <= from => return None,
+            _ => (),
+        }
+        rows.rotate_left(spare);
+        values.rotate_left(spare);
+        from += spare;
     }
-    let mut sums = [[0; MOST_BLOCKS]; MOST_USERS];
-    for ((out, weight), &column) in sums.iter_mut().zip(weights(columns, rows)).zip(columns) {
-        *out = scaled(weight, &dots(column, rows, &weighed));
-    }
-    let explained = further.iter().zip(wanted).all(|(&row, wanted)| dots(row, columns, &sums) == *wanted);
-    explained.then_some(sums)
 }

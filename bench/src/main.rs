@@ -47,10 +47,13 @@ fn main() {
     for p in plans {
         let round = Round::new(p, &mut Random(7));
         for replies in [p.threshold, p.users] {
-            let finish = calls::measure_finish(&round, replies);
+            let finish = calls::measure_finish(&round, replies, 0);
             report.call(&format!("finish of {replies} replies"), p, finish);
             report.solver.push((format!("{}, {replies} replies", named(p)), finish[0], calls::measure_flint(&round, replies)));
         }
+    }
+    for p in [plan(8, 2, 1, 16), plan(8, 5, 1, 16)] {
+        measure_asides(&mut report, p);
     }
     program::measure(&mut report);
     report.proofs = proofs();
@@ -66,6 +69,19 @@ fn measure_lookups(report: &mut Report, p: Plan) {
     });
     let [near, far] = report.lookups;
     eprintln!("lookups: set 3 in {near:.1} ns, set 255 in {far:.1} ns, {:.1} times as long", far / near);
+}
+
+/// All users reply, one of them falsely: the first; the last of those from whose replies finish solves at first, for whom it solves most
+/// often; the last of all.
+fn measure_asides(report: &mut Report, p: Plan) {
+    let round = Round::new(p, &mut Random(8));
+    let [agreeing, _] = calls::measure_finish(&round, p.users, 0);
+    for user in [1, p.threshold, p.users] {
+        let times = calls::measure_finish(&round, p.users, user);
+        report.call(&format!("finish with aside {user}"), p, times);
+        report.asides.push((format!("{}, airfield {user}", named(p)), agreeing, times[0]));
+        eprintln!("aside {user}: {:.1} times as long as without a false reply", times[0] / agreeing);
+    }
 }
 
 /// What bench/proofs wrote: users and seconds.

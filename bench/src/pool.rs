@@ -7,12 +7,14 @@ use std::io::{self, ErrorKind, Read, Write};
 use std::os::fd::AsFd;
 
 const BUFFER: usize = 65536;
-const LINE: usize = 640;
+
+/// Room for what one record prints: the longest is the line of an aside with that of its total.
+const LINE: usize = 704;
 
 /// Room for one space and the 20 digits of a number of 64 bits.
 const DIGITS: usize = 24;
 
-/// The lines not yet written. A line is begun only where LINE bytes are free.
+/// The lines not yet written. A record is taken only where LINE bytes are free.
 struct Lines {
     bytes: Box<[u8; BUFFER]>,
     len: usize,
@@ -128,11 +130,14 @@ fn take_other(service: &mut Service, record: &[u8], offset: u64, lines: &mut Lin
         }
         [6, ..] => {
             let mut totals = [0; MOST_PLACES];
-            let number = service.finish(&mut totals);
-            if number == 0 {
+            let finished = service.finish(&mut totals);
+            if let Ok(aside) = finished {
+                if aside != 0 {
+                    lines.line(b"aside", &[service.round, aside]);
+                }
                 lines.total(service.round, &totals[..service.places as usize]);
             }
-            (number, 1)
+            (finished.err().unwrap_or(0), 1)
         }
         [1..=6, ..] => return Err(Stop::Partial),
         [_, ..] => return Err(Stop::Unknown),

@@ -15,6 +15,7 @@ const SIZE: usize = 48 << 20;
 pub fn measure(report: &mut Report) {
     measure_stream(report, "accepted", Records::accepted(SIZE));
     measure_stream(report, "every record twice", Records::repeated(SIZE));
+    measure_stream(report, "an aside each round", Records::falsified(SIZE));
     measure_stream(report, "refused", Records::refused(SIZE));
     let mixed = measure_stream(report, "mixed", Records::mixed(SIZE));
     report.memory = [OURS, RUST].map(|program| peak_memory(program, &mixed.0));

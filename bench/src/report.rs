@@ -21,6 +21,8 @@ pub struct Report {
     pub lookups: [f64; 2],
     /// Plan, nanoseconds of our finish, and of FLINT block by block and by columns.
     pub solver: Vec<(String, f64, Option<[f64; 2]>)>,
+    /// Plan and the airfield set aside, nanoseconds of our finish where replies agree, and with the aside.
+    pub asides: Vec<(String, f64, f64)>,
     /// Users, nanoseconds of a key by ours and by Rust.
     pub growth: Vec<(u32, [f64; 2])>,
     /// Users, seconds of a check.
@@ -60,7 +62,7 @@ impl Report {
         let [ours, rust] = self.memory;
         line(&format!("\nPeak memory over the mixed stream: ours {ours} KiB, Rust {rust} KiB.\n"));
         line("## Calls\n");
-        line("Through the static library, beside `bench/src/fast.rs`: the same algorithms and the same tests of the input, over `&mut` state, with loops that know their lengths and, in finish, all blocks side by side. The random list is drawn from bytes that look random, with a number to skip among them; a key is that of all users in turn; of a round all users survive, and the first U or all of them reply.\n");
+        line("Through the static library, beside `bench/src/fast.rs`: the same algorithms and the same tests of the input, over `&mut` state, with loops that know their lengths and, in finish, all blocks side by side. The random list is drawn from bytes that look random, with a number to skip among them; a key is that of all users in turn; of a round all users survive, and the first U or all of them reply; for an aside all reply, one of them falsely in every block.\n");
         line("| call and plan | ours, ns | Rust, ns | ratio |\n|---|---|---|---|");
         for (name, [ours, rust]) in &self.calls {
             line(&format!("| {name} | {ours:.0} | {rust:.0} | {:.2} |", ours / rust));
@@ -82,6 +84,12 @@ impl Report {
                 )),
                 None => line(&format!("| {plan} | {ours:.0} | skipped: FLINT is not installed | | | |")),
             }
+        }
+        line("\n## One false reply\n");
+        line("A finish of ours with the replies of all airfields, that of one of them false in every block, beside one in which they agree. The unknowns of the first U replies are compared with the others: if one of these does not fit it is set aside, and if more do not, finish solves from other replies, at most U / (K - U) times, rounded up. An airfield above U is found at once. Leaving out one airfield after the other would solve up to K + 1 = 9 times.\n");
+        line("| plan and airfield | all agree, ns | with the aside, ns | times as long |\n|---|---|---|---|");
+        for (name, agreeing, aside) in &self.asides {
+            line(&format!("| {name} | {agreeing:.0} | {aside:.0} | {:.1} |", aside / agreeing));
         }
         line("\n## How cost grows with the number of airfields\n");
         line("The key maker, U = 2, T = 1, M = 16. A key has shares for 2 ^ (K - 1) - 1 sets, so the time of the key maker doubles with each airfield, and so does that of first message and reply, which test the whole key. The service holds no key: its calls grow with K at most. The row of K = 8 is that of plan 8 2 1 16 above.\n");

@@ -89,6 +89,17 @@ impl Round {
         }
         firsts
     }
+
+    /// The replies, that of one user false in every block; 0 is nobody.
+    pub fn falsified(&self, user: u32) -> Vec<Vec<u16>> {
+        let mut replies = self.replies.clone();
+        for (row, k) in replies.iter_mut().zip(1..) {
+            if k == user {
+                row.iter_mut().for_each(|x| *x = ((*x as u32 + 1) % Q) as u16);
+            }
+        }
+        replies
+    }
 }
 
 /// A stream of records.
@@ -125,16 +136,22 @@ impl Records {
 
     /// Round upon round, with nothing refused.
     pub fn accepted(size: usize) -> Records {
-        Records::rounds(size, 1)
+        Records::rounds(size, 1, |_| 0)
+    }
+
+    /// The same with one false reply in each round, of all users in turn.
+    pub fn falsified(size: usize) -> Records {
+        Records::rounds(size, 1, |number| 1 + number % 8)
     }
 
     /// The same with every record twice: elements are taken again, and the others refused.
     pub fn repeated(size: usize) -> Records {
-        Records::rounds(size, 2)
+        Records::rounds(size, 2, |_| 0)
     }
 
-    /// Each figure is one more than in the round before, and 0 behind the bound. Each record comes so many times.
-    fn rounds(size: usize, times: usize) -> Records {
+    /// Each figure is one more than in the round before, and 0 behind the bound. Each record comes so many times. The number of a round
+    /// tells whose reply is false; 0 is nobody.
+    fn rounds(size: usize, times: usize, false_user: fn(u32) -> u32) -> Records {
         let round = Round::new(plan(8, 2, 1, 16), &mut Random(1));
         let figures = round.plan.bound(Use::Counts) as u32 + 1;
         let mut records = Records(Records::plan(round.plan).0.repeat(times));
@@ -146,7 +163,7 @@ impl Records {
                 records.repeat(times, |records| records.first(user, place, x));
             }
             records.repeat(times, Records::close);
-            for (k, row) in round.replies.iter().enumerate() {
+            for (k, row) in round.falsified(false_user(number)).iter().enumerate() {
                 for (block, &x) in row.iter().enumerate() {
                     records.repeat(times, |records| records.reply(k as u32 + 1, block as u32, x as u32));
                 }

@@ -1,4 +1,4 @@
-//! Second implementation of document 01, and of items 1 to 5 of document 02,
+//! Second implementation of document 01, and of items 1 to 6 of document 02,
 //! written from their text alone, to be run beside the first one. It goes for
 //! the obvious way everywhere: plain vectors, ordered maps, inverses by Fermat,
 //! Gaussian elimination.
@@ -12,8 +12,9 @@
 //!   random lists from raw bytes (document 02, item 1), and where a reply lies
 //!   in a key (document 02, item 4)
 //! - `reading`: totals and signed figures as whole numbers (document 02, item 3)
-//! - `service`: the pooling service, with its refusals in order, and repeats of
-//!   elements taken quietly (document 02, item 5)
+//! - `service`: the pooling service, with its refusals in order, repeats of
+//!   elements taken quietly (document 02, item 5), and one garbled reply set
+//!   aside (document 02, item 6)
 //! - `stream`: "The stream", bytes to records, records to printed lines
 //! - `text`: records as lines of text, for people
 //! - `random`: a small generator of numbers from a seed

@@ -13,6 +13,7 @@
 //! - `first_message`, `reply_part`: what airfield k sends
 //! - `solve`: Gaussian elimination
 //! - `sums`, `total`: what the service makes of complete replies
+//! - `set_aside`: what it makes of those that disagree (document 02, item 6)
 
 use crate::field::{add, inverse, mul, sub, sum, Element, LARGEST};
 use crate::refusal::{refuse_if, Refusal};
@@ -274,6 +275,19 @@ fn block_sums(plan: &Plan, replies: &[Reply], block: usize) -> Option<Vec<Elemen
     let mut unknowns = solve(replies.iter().map(equation).collect(), plan.least())?;
     unknowns.truncate(plan.items());
     Some(unknowns)
+}
+
+/// The one airfield without whose whole reply all others agree, with the sums
+/// that these give. Fewer than U + 2 replies cannot tell which one it is.
+pub fn set_aside(plan: &Plan, replies: &[Reply]) -> Option<(u8, Vec<Element>)> {
+    if replies.len() < plan.least() + 2 {
+        return None;
+    }
+    replies.iter().find_map(|&(airfield, _)| {
+        let others: Vec<Reply> =
+            replies.iter().filter(|&&(other, _)| other != airfield).cloned().collect();
+        Some((airfield, sums(plan, &others)?))
+    })
 }
 
 /// Per place, the sum of the survivors' first messages less the sum of S.

@@ -1,7 +1,8 @@
 //! The pooling service: "The stream" without its bytes, one call for each
 //! kind of record, refusals in document 01's order. A refused call changes
 //! nothing, and neither does a repeat of an element that is held (document 02,
-//! item 5).
+//! item 5). One garbled reply is set aside where enough others agree (document
+//! 02, item 6).
 //!
 //! - `Service`: the plan, the last opened number and the phase
 //! - `Service::plan`: refusals 11, 1
@@ -9,7 +10,7 @@
 //! - `Service::first_element`: refusals 11, 12, 4, 8, 3, 13
 //! - `Service::close`: refusals 11, 12, 15
 //! - `Service::reply_element`: refusals 11, 12, 4, 8, 3, 14, 13
-//! - `Service::finish`: refusals 11, 12, 15, 16
+//! - `Service::finish`, `Finished`: refusals 11, 12, 15, 16, or the total
 
 use crate::field::{is_element, Element};
 use crate::refusal::{refuse_if, Refusal};
@@ -25,6 +26,14 @@ enum Phase {
     Idle,
     Gathering { firsts: Held },
     Replying { firsts: Held, survivors: Set, replies: Held },
+}
+
+/// What a finish gives: the L totals, and the airfield set aside if one was.
+#[derive(Clone, Debug, PartialEq, Eq)]
+pub struct Finished {
+    pub round: u32,
+    pub aside: Option<u8>,
+    pub totals: Vec<Element>,
 }
 
 #[derive(Clone, Debug, PartialEq, Eq)]
@@ -107,9 +116,9 @@ impl Service {
         hold(replies, (airfield, block), element)
     }
 
-    /// Gives the round and the L totals. Every complete reply counts, partial
-    /// ones do not.
-    pub fn finish(&mut self) -> Result<(u32, Vec<Element>), Refusal> {
+    /// Every complete reply counts, partial ones do not. The first message of
+    /// an airfield set aside stays in the sum.
+    pub fn finish(&mut self) -> Result<Finished, Refusal> {
         let plan = self.accepted_plan()?;
         let (firsts, survivors, replies) = match &self.phase {
             Phase::Replying { firsts, survivors, replies } => (firsts, survivors, replies),
@@ -119,10 +128,11 @@ impl Service {
         refuse_if(!plan.usable(answering), Refusal::TooFew)?;
         let replies: Vec<Reply> =
             members(answering).map(|airfield| (airfield, row(replies, airfield))).collect();
-        let sums = scheme::sums(&plan, &replies).ok_or(Refusal::Unexplained)?;
+        let (aside, sums) = explained(&plan, &replies).ok_or(Refusal::Unexplained)?;
         let messages: Vec<_> = members(*survivors).map(|airfield| row(firsts, airfield)).collect();
         self.phase = Phase::Idle;
-        Ok((self.last_opened, scheme::total(&messages, &sums)))
+        let totals = scheme::total(&messages, &sums);
+        Ok(Finished { round: self.last_opened, aside, totals })
     }
 
     fn accepted_plan(&self) -> Result<Plan, Refusal> {
@@ -135,6 +145,15 @@ impl Service {
 fn hold(held: &mut Held, at: (u8, usize), element: Element) -> Result<(), Refusal> {
     let first = *held.entry(at).or_insert(element);
     refuse_if(first != element, Refusal::OtherHeld)
+}
+
+/// The sums of S from all replies, or else from all but one that is set aside.
+fn explained(plan: &Plan, replies: &[Reply]) -> Option<(Option<u8>, Vec<Element>)> {
+    if let Some(sums) = scheme::sums(plan, replies) {
+        return Some((None, sums));
+    }
+    let (airfield, sums) = scheme::set_aside(plan, replies)?;
+    Some((Some(airfield), sums))
 }
 
 /// All held elements of one airfield, by rising place or block.

@@ -10,8 +10,8 @@
 
 use crate::field::Element;
 use crate::refusal::Refusal;
-use crate::service::Service;
-use std::fmt::{self, Display, Write};
+use crate::service::{Finished, Service};
+use std::fmt::{self, Display};
 
 /// A number in a body, low byte first.
 pub struct Field {
@@ -212,41 +212,40 @@ pub fn run(bytes: &[u8]) -> String {
             .map_err(|_| Refusal::DamagedRecord)
             .and_then(|record| take(&mut service, record));
         match answer {
-            Ok(Some(line)) => writeln!(lines, "{line}"),
-            Ok(None) => Ok(()),
-            Err(refusal) => writeln!(lines, "refused {} at {offset}", refusal.number()),
+            Ok(printed) => lines.extend(printed.iter().map(|line| format!("{line}\n"))),
+            Err(refusal) => lines += &format!("refused {} at {offset}\n", refusal.number()),
         }
-        .expect("a string takes every line");
     }
     lines
 }
 
-/// Gives one record to the service; the line for it, if it prints one.
-fn take(service: &mut Service, record: Record) -> Result<Option<String>, Refusal> {
+/// Gives one record to the service; the lines that it prints.
+fn take(service: &mut Service, record: Record) -> Result<Vec<String>, Refusal> {
     match record {
         Record::Plan(numbers) => {
             service.plan(numbers)?;
-            Ok(Some(format!("plan{}", spaced(&numbers))))
+            Ok(vec![format!("plan{}", spaced(&numbers))])
         }
         Record::Open(round) => {
             service.open(round)?;
-            Ok(Some(format!("open {round}")))
+            Ok(vec![format!("open {round}")])
         }
         Record::First { airfield, place, element } => {
             service.first_element(airfield, place, element)?;
-            Ok(None)
+            Ok(vec![])
         }
         Record::Close => {
             let (round, survivors) = service.close()?;
-            Ok(Some(format!("survivors {round} {survivors}")))
+            Ok(vec![format!("survivors {round} {survivors}")])
         }
         Record::Reply { airfield, block, element } => {
             service.reply_element(airfield, block, element)?;
-            Ok(None)
+            Ok(vec![])
         }
         Record::Finish => {
-            let (round, totals) = service.finish()?;
-            Ok(Some(format!("total {round}{}", spaced(&totals))))
+            let Finished { round, aside, totals } = service.finish()?;
+            let aside = aside.map(|airfield| format!("aside {round} {airfield}"));
+            Ok(aside.into_iter().chain([format!("total {round}{}", spaced(&totals))]).collect())
         }
     }
 }

@@ -4,7 +4,7 @@ use reference::client::{make_key, End, Stage};
 use reference::field::{inverse, Element};
 use reference::refusal::Refusal;
 use reference::scheme::{self, Plan, RandomList, Set, Use};
-use reference::service::Service;
+use reference::service::{Finished, Service};
 use reference::stream;
 
 const PLAN: [u8; 4] = [3, 2, 1, 1];
@@ -48,6 +48,11 @@ fn replied(senders: &[u8], replies: &[(u8, Element)]) -> Service {
     service
 }
 
+/// A finish that gives this total, nobody set aside.
+fn total(total: Element) -> Result<Finished, Refusal> {
+    Ok(Finished { round: 1, aside: None, totals: vec![total] })
+}
+
 #[test]
 fn inverses() {
     assert_eq!([2, 3, 4, 5].map(inverse), [32761, 43681, 49141, 52417]);
@@ -75,7 +80,7 @@ fn replies_are_parts_of_the_lent_key() {
 #[test]
 fn set_5_gives_40() {
     let mut service = replied(&[1, 3], &[(1, 220), (3, 112)]);
-    assert_eq!(service.finish(), Ok((1, vec![40])));
+    assert_eq!(service.finish(), total(40));
 }
 
 #[test]
@@ -84,7 +89,7 @@ fn set_7_gives_60_from_any_replies() {
     for left_out in 0..=3 {
         let used: Vec<_> =
             replies.into_iter().filter(|&(airfield, _)| airfield != left_out).collect();
-        assert_eq!(replied(&[1, 2, 3], &used).finish(), Ok((1, vec![60])));
+        assert_eq!(replied(&[1, 2, 3], &used).finish(), total(60));
     }
 }
 

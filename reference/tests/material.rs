@@ -1,8 +1,9 @@
 //! The generated material is repeatable and reaches what it is meant to reach.
 
 use reference::material::{
-    all_plans, calls, damaged, drawn, found, plan_by_seed, read, repeated, rounds, whole,
+    all_plans, calls, damaged, drawn, found, garbled, plan_by_seed, read, repeated, rounds, whole,
 };
+use reference::scheme::members;
 use reference::stream::{run, to_bytes, Record, Records};
 use std::collections::BTreeSet;
 
@@ -31,10 +32,11 @@ fn seeds_meet_every_plan() {
 }
 
 /// What is printed of whole rounds, where the plan comes once.
-const OF_ROUNDS: [&str; 10] = [
+const OF_ROUNDS: [&str; 11] = [
     "plan",
     "open",
     "survivors",
+    "aside",
     "total",
     "refused 12",
     "refused 13",
@@ -63,12 +65,49 @@ fn repeated_streams_reach_every_line_they_can() {
 }
 
 #[test]
+fn garbled_streams_reach_every_line_they_can() {
+    let expected =
+        ["plan", "open", "survivors", "aside", "total", "refused 12", "refused 13", "refused 16"];
+    assert_eq!(heads(&lines_of(garbled::records)), set(&expected));
+}
+
+/// Every plan under which U + 2 airfields can reply.
+#[test]
+fn garbled_streams_meet_every_plan() {
+    let met: BTreeSet<[u8; 4]> = (0..896).map(|seed| garbled::plan(seed).numbers()).collect();
+    let plans = all_plans().into_iter().map(|plan| plan.numbers());
+    assert_eq!(met, plans.filter(|[k, u, ..]| k - u >= 2).collect());
+    assert_eq!(met.len(), 560);
+}
+
+#[test]
+fn any_airfield_is_the_odd_one() {
+    let rounds = (0..SEEDS).flat_map(|seed| garbled::rounds(seed, ROUNDS));
+    let met: BTreeSet<(u8, &str)> = rounds.map(|round| (round.odd, position(&round))).collect();
+    let from_to = [("first", 1..=3), ("between", 2..=7), ("last", 5..=8)];
+    for (position, airfields) in from_to {
+        assert!(airfields.into_iter().all(|airfield| met.contains(&(airfield, position))));
+    }
+}
+
+/// Where the odd airfield stands among the survivors.
+fn position(round: &garbled::Round) -> &'static str {
+    let airfields: Vec<u8> = members(round.survivors).collect();
+    match airfields[..] {
+        [first, ..] if first == round.odd => "first",
+        [.., last] if last == round.odd => "last",
+        _ => "between",
+    }
+}
+
+#[test]
 fn damaged_streams_reach_every_line() {
     let outputs: String = (0..SEEDS).map(|seed| run(&damaged::bytes(seed, STEPS))).collect();
     let expected = [
         "plan",
         "open",
         "survivors",
+        "aside",
         "total",
         "refused 1",
         "refused 3",
@@ -296,12 +335,17 @@ fn whole_rounds_reach_every_answer_they_can() {
         let again = |pair: &[&str]| pair[0] == pair[1] && taken(pair[0]);
         assert!(lines.windows(2).any(again), "no {letter} comes again");
     }
+    let aside = |line: &&str| line.starts_with("t 0 ") && !line.starts_with("t 0 0 ");
+    assert!(text.lines().any(|line| aside(&line)), "no airfield is set aside");
+    let told_later: Vec<&str> = text.lines().filter(|line| line.starts_with('t')).collect();
+    assert!(told_later.windows(2).any(|pair| pair[0] == "t 16 0" && aside(&pair[1])));
 }
 
 #[test]
 fn the_same_seed_gives_the_same_material() {
     assert_eq!(rounds::records(9, ROUNDS), rounds::records(9, ROUNDS));
     assert_eq!(repeated::records(9, ROUNDS), repeated::records(9, ROUNDS));
+    assert_eq!(garbled::records(9, ROUNDS), garbled::records(9, ROUNDS));
     assert_eq!(damaged::bytes(9, STEPS), damaged::bytes(9, STEPS));
     assert!(calls::cases(9, 4).eq(calls::cases(9, 4)));
     assert!(drawn::cases(9, 4).eq(drawn::cases(9, 4)));

@@ -8,13 +8,12 @@ use reference::random::Random;
 use reference::reading::read_total;
 use reference::refusal::Refusal;
 use reference::scheme::{members, Plan, Set, Use};
-use reference::service::Service;
+use reference::service::{Finished, Service};
 
 const SEED: u64 = 1;
 const PLANS: usize = 896;
 
 struct Round {
-    plan: Plan,
     table: Vec<Row>,
     survivors: Set,
     /// The reply of each survivor, in rising number.
@@ -50,7 +49,7 @@ fn round_of(plan: Plan, table: Vec<Row>, survivors: Set, random: &mut Random) ->
         replies.push((airfield, end.reply(&key, survivors).unwrap().to_vec()));
     }
     assert_eq!(service.close(), Ok((1, survivors)));
-    Round { plan, table, survivors, replies, service }
+    Round { table, survivors, replies, service }
 }
 
 fn give(service: &mut Service, replies: &[(u8, Vec<Element>)]) {
@@ -75,7 +74,8 @@ fn totals_are_the_survivors_sums() {
         let used = plan.least() + random.below(spare + 1);
         give(&mut round.service, &round.replies[..used]);
         let given = totals(&plan, &round.table, round.survivors);
-        assert_eq!(round.service.finish(), Ok((1, given.clone())));
+        let finished = Finished { round: 1, aside: None, totals: given.clone() };
+        assert_eq!(round.service.finish(), Ok(finished));
         let usage = common_use(&round.table, round.survivors);
         met[usage.map_or(2, |usage| usage as usize)] += 1;
         if let Some(usage) = usage {
@@ -97,8 +97,8 @@ fn whole_rounds_reach_the_ends() {
         let table = vec![Row { usage, figures: vec![figure] }; 8];
         let mut round = round_of(plan, table, 255, &mut Random::new(SEED));
         give(&mut round.service, &round.replies);
-        let (_, given) = round.service.finish().unwrap();
-        assert_eq!(read_total(usage, given[0].into()), Ok(reach));
+        let finished = round.service.finish().unwrap();
+        assert_eq!(read_total(usage, finished.totals[0].into()), Ok(reach));
     }
 }
 
@@ -119,27 +119,41 @@ fn one_reply_too_few_is_refused_15() {
     }
 }
 
+/// Of every number of replies from U on. One garbled reply, in one block or in
+/// all from one on, passes unseen among U, is refused by 16 among U + 1, and is
+/// set aside among more, whose total is the survivors' all the same.
 #[test]
-fn one_garbled_reply_among_more_is_refused_16() {
+fn one_garbled_reply() {
     let mut random = Random::new(SEED);
+    let mut met = [0; 3];
     for plan in all_plans() {
-        let mut round = round(plan, &mut random);
-        let garbled = random.below(round.replies.len());
-        let block = random.below(plan.blocks());
-        let share = &mut round.replies[garbled].1[block];
-        *share = add(*share, 1 + random.below(65520) as Element);
-        give(&mut round.service, &round.replies);
-        let checked = round.survivors.count_ones() as usize > round.plan.least();
-        assert_eq!(round.service.finish().is_err(), checked);
-        assert_eq!(round.service.finish(), Err(after_finish(checked)));
+        let round = round(plan, &mut random);
+        let right = totals(&plan, &round.table, round.survivors);
+        for count in plan.least()..=round.replies.len() {
+            let mut replies = round.replies.clone();
+            random.shuffle(&mut replies);
+            let aside = garble(&mut replies[random.below(count)], &mut random);
+            let mut service = round.service.clone();
+            give(&mut service, &replies[..count]);
+            let finished = service.finish();
+            let spare = (count - plan.least()).min(2);
+            match spare {
+                0 => assert_ne!(finished.unwrap().totals, right),
+                1 => assert_eq!(finished, Err(Refusal::Unexplained)),
+                _ => assert_eq!(finished, Ok(Finished { round: 1, aside, totals: right.clone() })),
+            }
+            met[spare] += 1;
+        }
     }
+    assert!(met.iter().all(|&rounds| rounds > PLANS / 10), "U, U + 1, more: {met:?}");
 }
 
-/// A refused finish stays in its phase, an accepted one leaves it.
-fn after_finish(refused: bool) -> Refusal {
-    if refused {
-        Refusal::Unexplained
-    } else {
-        Refusal::WrongPhase
+/// Changes one block of the reply, or all from one on; whose reply it is.
+fn garble((airfield, shares): &mut (u8, Vec<Element>), random: &mut Random) -> Option<u8> {
+    let from = random.below(shares.len());
+    let to = random.pick(&[from + 1, shares.len()]);
+    for share in &mut shares[from..to] {
+        *share = add(*share, 1 + random.below(65520) as Element);
     }
+    Some(*airfield)
 }

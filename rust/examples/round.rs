@@ -1,7 +1,7 @@
 //! Document 01's example round through the library, from Rust: the random list from raw bytes, keys, first messages, the service, the
-//! replies to set 5, the total 40, where the shares for each set start, the largest figure, signed figures, elements that come again, and
-//! some refusals. Exit status 101 where anything is not as expected.
-use cutawheno::{read_total, End, Plan, Refusal, Service, Use, LONGEST_KEY, LONGEST_LIST, MOST_PLACES};
+//! replies to set 5, the total 40, where the shares for each set start, the largest figure, signed figures, elements that come again, a
+//! false reply that is set aside, and some refusals. Exit status 101 where anything is not as expected.
+use cutawheno::{read_total, End, Finished, Plan, Refusal, Service, Use, LONGEST_KEY, LONGEST_LIST, MOST_PLACES};
 
 const PLAN: Plan = Plan { users: 3, threshold: 2, collusion: 1, blocks: 1 };
 const BAD: Plan = Plan { threshold: 3, ..PLAN };
@@ -73,7 +73,7 @@ fn run_round(service: &mut Service) {
         }
     }
     let mut totals = [7; MOST_PLACES];
-    assert_eq!(service.finish(&mut totals), Ok(&[40][..]));
+    assert_eq!(service.finish(&mut totals), Ok(Finished { totals: &[40], aside: None }));
     assert_eq!(totals[1..], [0; MOST_PLACES - 1]);
     assert_eq!(service.finish(&mut totals), Err(Refusal::OtherPhase));
 }
@@ -139,10 +139,43 @@ fn run_signed(service: &mut Service) {
         assert_eq!(service.reply_element(*user, 0, end.reply(*key, 5).unwrap()[0].into()), Ok(()));
     }
     let mut totals = [7; MOST_PLACES];
-    assert_eq!(service.finish(&mut totals), Ok(&[65512][..]));
+    assert_eq!(service.finish(&mut totals), Ok(Finished { totals: &[65512], aside: None }));
     assert_eq!(read_total(Use::Signed, totals[0].into()), Ok(-9));
     assert_eq!(read_total(Use::Counts, totals[0].into()), Ok(65512));
     assert_eq!([Use::Counts, Use::Signed].map(|usage| read_total(usage, 65521)), [Err(Refusal::BadElement); 2]);
+}
+
+/// Four airfields of which two must respond, with the figures 10, 20, 30 and 40: the service, and their replies.
+fn four_reported() -> (Service, [u16; 4]) {
+    let plan = Plan { users: 4, ..PLAN };
+    let list: Vec<u16> = (1..=plan.list_len() as u16).collect();
+    let mut service = Service::new();
+    assert_eq!((service.plan(plan), service.open(1)), (Ok(()), Ok(())));
+    let replies = [1, 2, 3, 4].map(|user| {
+        let (mut key, mut message) = (vec![0; plan.key_len()], [0]);
+        let mut end = End::start(plan, user, Use::Counts).unwrap();
+        assert_eq!(plan.make_key(user, &list, &mut key), Ok(()));
+        assert_eq!(end.first_message(&key, &[10 * user as u16], &mut message), Ok(()));
+        assert_eq!(service.first_element(user, 0, message[0].into()), Ok(()));
+        end.reply(&key, 15).unwrap()[0]
+    });
+    assert_eq!(service.close(), Ok(15));
+    (service, replies)
+}
+
+/// Airfield 2's reply is false: three replies are refused by 16, and with the fourth it is set aside. Its figure stays in the total.
+fn run_aside() {
+    let (mut service, mut replies) = four_reported();
+    replies[1] = (replies[1] + 1) % 65521;
+    for (user, &share) in (1..=3).zip(&replies) {
+        assert_eq!(service.reply_element(user, 0, share.into()), Ok(()));
+    }
+    let held = service.clone();
+    let mut totals = [7; MOST_PLACES];
+    assert_eq!(service.finish(&mut totals), Err(Refusal::Unexplained));
+    assert_eq!((&service, totals), (&held, [7; MOST_PLACES]));
+    assert_eq!(service.reply_element(4, 0, replies[3].into()), Ok(()));
+    assert_eq!(service.finish(&mut totals), Ok(Finished { totals: &[100], aside: Some(2) }));
 }
 
 /// What is refused changes nothing.
@@ -195,6 +228,7 @@ fn main() {
     run_starts();
     run_figures();
     run_signed(&mut service);
+    run_aside();
     run_refusals();
     println!("Rust: the example round, as expected");
 }

@@ -82,7 +82,7 @@ pub enum Refusal {
     NoSurvivor = 14,
     /// Fewer than U complete airfields.
     TooFew = 15,
-    /// No sums and noise explain all complete replies.
+    /// Complete replies disagree, and there are U + 1 of them or no single airfield can be set aside.
     Unexplained = 16,
     /// The round is not above the last one opened.
     OldRound = 17,
@@ -117,7 +117,7 @@ impl Refusal {
             Refusal::Held => "another element is held at that place or block",
             Refusal::NoSurvivor => "the airfield is not a survivor",
             Refusal::TooFew => "fewer than U complete airfields",
-            Refusal::Unexplained => "no sums and noise explain all complete replies",
+            Refusal::Unexplained => "complete replies disagree, and there are U + 1 of them or no single airfield can be set aside",
             Refusal::OldRound => "the round is not above the last one opened",
             Refusal::OutOfTurn => "the first message was given already, or a reply is asked of a fresh end",
             Refusal::OtherSet => "another set was answered",
@@ -165,6 +165,15 @@ pub struct Service {
     reply: [u16; REPLIES],
 }
 
+/// What a finished round gives.
+#[derive(Clone, Copy, Debug, PartialEq, Eq)]
+pub struct Finished<'a> {
+    /// The survivors' total, one number for each place of a row.
+    pub totals: &'a [u16],
+    /// The airfield whose reply was set aside; its first message is in the total.
+    pub aside: Option<u32>,
+}
+
 #[repr(C)]
 struct Start {
     number: u32,
@@ -182,6 +191,12 @@ struct Part {
 struct Closed {
     number: u32,
     set: u32,
+}
+
+#[repr(C)]
+struct Finish {
+    number: u32,
+    aside: u32,
 }
 
 #[repr(C)]
@@ -232,7 +247,7 @@ extern "C" {
     fn cutawheno_service_reply_element(head: &[u32; HEAD], reply: &mut [u16; REPLIES], user: u32, block: u32, element: u32) -> u32;
     fn cutawheno_service_finish(
         head: &mut [u32; HEAD], first: &mut [u16; FIRSTS], reply: &mut [u16; REPLIES], totals: &mut [u16; MOST_PLACES],
-    ) -> u32;
+    ) -> Finish;
     fn cutawheno_read_total(total: u32, is_signed: u32) -> Reading;
 }
 
@@ -448,11 +463,13 @@ impl Service {
         outcome(unsafe { cutawheno_service_reply_element(&self.head, &mut self.reply, user, block, element) })
     }
 
-    /// Finishes the round: the survivors' total, one number for each place of a row, written into the lent buffer. Where all that is held
-    /// of the survivors came from their ends, with keys of one random list and replies to their set, and their use is the same,
-    /// [`read_total`] by this use gives the whole-number sum of their figures.
-    pub fn finish<'a>(&mut self, totals: &'a mut [u16; MOST_PLACES]) -> Result<&'a [u16], Refusal> {
-        outcome(unsafe { cutawheno_service_finish(&mut self.head, &mut self.first, &mut self.reply, totals) })?;
-        Ok(&totals[..self.head[PLACES] as usize])
+    /// Finishes the round: the survivors' total, written into the lent buffer. Where at least U + 2 complete replies disagree, that of the
+    /// one airfield without which all others agree is set aside. Where all that is held of the survivors came from their ends, with keys of
+    /// one random list and replies to their set, but for one reply among U + 2 or more, and their use is the same, [`read_total`] by this
+    /// use gives the whole-number sum of their figures.
+    pub fn finish<'a>(&mut self, totals: &'a mut [u16; MOST_PLACES]) -> Result<Finished<'a>, Refusal> {
+        let finish = unsafe { cutawheno_service_finish(&mut self.head, &mut self.first, &mut self.reply, totals) };
+        outcome(finish.number)?;
+        Ok(Finished { totals: &totals[..self.head[PLACES] as usize], aside: Some(finish.aside).filter(|&user| user != 0) })
     }
 }

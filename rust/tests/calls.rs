@@ -1,6 +1,6 @@
 //! The package's calls on every plan, and on numbers that fit none.
 
-use cutawheno::{read_total, End, Plan, Refusal, Service, Use, LONGEST_KEY, LONGEST_LIST, MOST_PLACES};
+use cutawheno::{read_total, End, Finished, Plan, Refusal, Service, Use, LONGEST_KEY, LONGEST_LIST, MOST_PLACES};
 
 const Q: u32 = 65521;
 
@@ -76,8 +76,8 @@ fn key_of(plan: Plan, user: u32, list: &[u16]) -> Vec<u16> {
     key
 }
 
-/// A whole round in which the set survives, with a row for each member, whose end is of the use that its number gives: the totals.
-fn pooled(plan: Plan, list: &[u16], survivors: u32, rows: &[Vec<u16>], usage: fn(u32) -> Use) -> Vec<u32> {
+/// A round in which the set survives, with a row for each member, whose end is of the use that its number gives: closed, and the replies.
+fn closed(plan: Plan, list: &[u16], survivors: u32, rows: &[Vec<u16>], usage: fn(u32) -> Use) -> (Service, Vec<(u32, Vec<u16>)>) {
     let mut service = Service::new();
     service.plan(plan).unwrap();
     service.open(1).unwrap();
@@ -92,15 +92,28 @@ fn pooled(plan: Plan, list: &[u16], survivors: u32, rows: &[Vec<u16>], usage: fn
         ends.push((user, end, key));
     }
     assert_eq!(service.close(), Ok(survivors));
-    for (user, end, key) in &ends {
-        // an end that was kept and resumed answers as before
-        let mut resumed = End::resume(end.numbers());
-        for (block, &share) in (0..).zip(resumed.reply(key, survivors).unwrap()) {
+    // an end that was kept and resumed answers as before
+    let reply = |end: &End, key: &[u16]| End::resume(end.numbers()).reply(key, survivors).unwrap().to_vec();
+    let replies = ends.iter().map(|(user, end, key)| (*user, reply(end, key))).collect();
+    (service, replies)
+}
+
+fn send_replies(service: &mut Service, replies: &[(u32, Vec<u16>)]) {
+    for (user, shares) in replies {
+        for (block, &share) in (0..).zip(shares) {
             service.reply_element(*user, block, share.into()).unwrap();
         }
     }
+}
+
+/// A whole round, as above, in which all replies come: the totals.
+fn pooled(plan: Plan, list: &[u16], survivors: u32, rows: &[Vec<u16>], usage: fn(u32) -> Use) -> Vec<u32> {
+    let (mut service, replies) = closed(plan, list, survivors, rows, usage);
+    send_replies(&mut service, &replies);
     let mut totals = [7; MOST_PLACES];
-    service.finish(&mut totals).unwrap().iter().map(|&sum| sum.into()).collect()
+    let finished = service.finish(&mut totals).unwrap();
+    assert_eq!(finished.aside, None);
+    finished.totals.iter().map(|&sum| sum.into()).collect()
 }
 
 /// The total is the whole-number sum of the survivors' figures, place by place.
@@ -453,9 +466,92 @@ fn elements_may_come_again() {
                 send_repeatedly(&mut service, element(), |service, element| service.reply_element(user, block, element));
             }
             // the replies of just U airfields are always explained
-            assert!(service.finish(&mut [0; MOST_PLACES]).is_ok());
+            assert_eq!(service.finish(&mut [0; MOST_PLACES]).unwrap().aside, None);
             assert_eq!([service.first_element(1, 0, 0), service.reply_element(1, 0, 0)], [Err(Refusal::OtherPhase); 2]);
         }
+    }
+}
+
+/// A closed round of counts of a plan in which all survive, the replies, and the total.
+fn any_closed(random: &mut Random, plan: Plan) -> (Service, Vec<(u32, Vec<u16>)>, Vec<u16>) {
+    let (list, largest) = (random.elements(plan.list_len()), largest_figure(plan));
+    let rows: Vec<Vec<u16>> = (0..plan.users).map(|_| random.figures(plan, largest)).collect();
+    let total = (0..plan.row_len()).map(|place| rows.iter().map(|row| row[place]).sum()).collect();
+    let (service, replies) = closed(plan, &list, (1 << plan.users) - 1, &rows, |_| Use::Counts);
+    (service, replies, total)
+}
+
+/// Another element in a block of a reply.
+fn falsify(random: &mut Random, reply: &mut (u32, Vec<u16>), block: usize) {
+    let share = &mut reply.1[block];
+    *share = ((u32::from(*share) + 1 + random.below(Q - 1)) % Q) as u16;
+}
+
+/// Refused by 16, with nothing changed.
+fn refused_unexplained(service: &mut Service) {
+    let (held, mut totals) = (service.clone(), [7; MOST_PLACES]);
+    assert_eq!(service.finish(&mut totals), Err(Refusal::Unexplained));
+    assert_eq!((&*service, totals), (&held, [7; MOST_PLACES]));
+}
+
+/// A reply that is false in one block or in all, whosever it is: among U + 2 or more it is set aside, and its sender's figures stay in the
+/// total. Among U + 1 it is refused, until a further reply is complete; among U it is not seen.
+#[test]
+fn one_false_reply_is_set_aside() {
+    let mut random = Random(17);
+    for plan in plans() {
+        let threshold = plan.threshold as usize;
+        for at in 0..plan.users as usize {
+            let (mut service, mut replies, total) = any_closed(&mut random, plan);
+            let mut false_reply = replies.remove(at);
+            let one = random.below(plan.blocks) as usize;
+            let blocks = if random.below(2) == 0 { one..one + 1 } else { 0..plan.blocks as usize };
+            blocks.for_each(|block| falsify(&mut random, &mut false_reply, block));
+            send_replies(&mut service, &[false_reply.clone()]);
+            send_replies(&mut service, &replies[..threshold - 1]);
+            assert_eq!(service.clone().finish(&mut [0; MOST_PLACES]).unwrap().aside, None);
+            for (complete, reply) in (threshold + 1..).zip(&replies[threshold - 1..]) {
+                send_replies(&mut service, &[reply.clone()]);
+                if complete == threshold + 1 {
+                    refused_unexplained(&mut service);
+                } else {
+                    let mut totals = [7; MOST_PLACES];
+                    let finished = service.clone().finish(&mut totals);
+                    assert_eq!(finished, Ok(Finished { totals: &total, aside: Some(false_reply.0) }));
+                }
+            }
+        }
+    }
+}
+
+/// False replies of two airfields are refused, in one block or in two, though in each of two blocks one airfield alone would fit.
+#[test]
+fn two_false_replies_are_refused() {
+    let mut random = Random(18);
+    for plan in plans().filter(|plan| plan.threshold + 2 <= plan.users) {
+        let (mut service, mut replies, _) = any_closed(&mut random, plan);
+        let first = random.below(plan.users) as usize;
+        let second = (first + 1 + random.below(plan.users - 1) as usize) % plan.users as usize;
+        for (reply, blocks) in [(first, plan.blocks), (second, 1)] {
+            let block = random.below(blocks) as usize;
+            falsify(&mut random, &mut replies[reply], block);
+        }
+        send_replies(&mut service, &replies);
+        refused_unexplained(&mut service);
+    }
+}
+
+/// A reply with a block missing counts for nothing, false or not, and is no reason for an aside.
+#[test]
+fn partial_replies_are_ignored() {
+    let mut random = Random(19);
+    for plan in plans().filter(|plan| 1 < plan.blocks) {
+        let (mut service, mut replies, total) = any_closed(&mut random, plan);
+        let partial = random.below(plan.users) as usize;
+        falsify(&mut random, &mut replies[partial], 0);
+        replies[partial].1.pop();
+        send_replies(&mut service, &replies);
+        assert_eq!(service.finish(&mut [7; MOST_PLACES]), Ok(Finished { totals: &total, aside: None }));
     }
 }
 
@@ -517,6 +613,10 @@ fn any_calls_on_a_service_are_answered() {
 #[test]
 fn refusals_have_numbers_and_words() {
     assert_eq!(Refusal::NotInSet.to_string(), "refused 6: the airfield is not in the set");
+    assert_eq!(
+        Refusal::Unexplained.to_string(),
+        "refused 16: complete replies disagree, and there are U + 1 of them or no single airfield can be set aside"
+    );
     assert_eq!(Refusal::Held.to_string(), "refused 13: another element is held at that place or block");
     assert_eq!(
         Refusal::FigureBeyond.to_string(),

@@ -29,8 +29,13 @@ fn pooled(folder: &Folder, plan: &str, rows: &[(u32, &str)], set: &str) -> (Stri
         told += &folder.airfield(&["reply", &format!("end{airfield}"), set]).done();
     }
     folder.write("told", (told + "finish\n").as_bytes(), 0o600);
-    let read = folder.shell("set -o pipefail; \"$RECORDS\" encode < told | \"$POOL\" | tee lines | \"$TOTALS\" signed").done();
+    let read = through_all(folder);
     (String::from_utf8(folder.read("lines")).unwrap(), read)
+}
+
+/// What `totals` makes of the records in the file told; what `pool` prints is in the file lines.
+fn through_all(folder: &Folder) -> String {
+    folder.shell("set -o pipefail; \"$RECORDS\" encode < told | \"$POOL\" | tee lines | \"$TOTALS\" signed").done()
 }
 
 /// Airfield 2 is silent; for four airfields a figure lies within 8190 of zero.
@@ -54,6 +59,23 @@ fn the_furthest_totals_and_zero_are_read() {
     let (lines, read) = pooled(&folder, "3 2 1 4", &rows, "7");
     assert!(lines.ends_with("\ntotal 1 32761 32760 0 0\n"), "{lines}");
     assert!(read.ends_with("\ntotal 1 -32760 32760 0 0\n"), "{read}");
+}
+
+/// A reply that is garbled on its way is set aside, and that is told to the reader; its airfield's figures stay in the total.
+#[test]
+fn a_garbled_reply_is_set_aside() {
+    let folder = with_signed_ends("garbled", "4 2 1 1", &[1, 2, 3, 4]);
+    let rows = [(1, "-14"), (2, "3"), (3, "-8190"), (4, "5")];
+    let (lines, _) = pooled(&folder, "4 2 1 1", &rows, "15");
+    let opened = "plan 4 2 1 1\nopen 1\nsurvivors 1 15\n";
+    assert_eq!(lines, format!("{opened}total 1 57325\n"));
+    let told = String::from_utf8(folder.read("told")).unwrap();
+    let garbled = |line: &str| match line.strip_prefix("reply 3 0 ") {
+        Some(share) => format!("reply 3 0 {}\n", (share.parse::<u32>().unwrap() + 1) % 65521),
+        None => format!("{line}\n"),
+    };
+    folder.write("told", told.lines().map(garbled).collect::<String>().as_bytes(), 0o600);
+    assert_eq!(through_all(&folder), format!("{opened}aside 1 3\ntotal 1 -8196\n"));
 }
 
 /// Ends of one list go by the use of each; the example's key, whose mask is 100, shows what is sent.

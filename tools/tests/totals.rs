@@ -1,4 +1,4 @@
-//! `totals`: totals as they are meant, all other lines as they come, with every fault told.
+//! `totals`: totals as they are meant, asides and all other lines as they come, with every fault told.
 mod common;
 
 use common::{Folder, TOTALS};
@@ -42,15 +42,57 @@ fn every_total_is_read() {
     assert_eq!(folder.shell("\"$TOTALS\" counts < lines").done(), residues);
 }
 
-/// Bytes of every value, no line end or another one, and words that only look like a total's.
+/// Shows that an airfield set aside is told on, with the total of its round as it is meant, whichever the round and the airfield.
+#[test]
+fn asides_pass_as_they_are() {
+    let folder = Folder::new("asides");
+    for (lines, read) in [
+        ("aside 7 3\ntotal 7 65507\n", "aside 7 3\ntotal 7 -14\n"),
+        ("aside 0 1\ntotal 0 0\n", "aside 0 1\ntotal 0 0\n"),
+        ("open 9\naside 4294967295 8\ntotal 4294967295 40000 2\n", "open 9\naside 4294967295 8\ntotal 4294967295 -25521 2\n"),
+        ("aside 65507 5\r\ntotal 65507 1\r\ntotal 8 65520\n", "aside 65507 5\r\ntotal 65507 1\r\ntotal 8 -1\n"),
+        ("aside 1 2\ntotal 1 5\naside 2 2\ntotal 2 65520\n", "aside 1 2\ntotal 1 5\naside 2 2\ntotal 2 -1\n"),
+    ] {
+        assert_eq!(folder.with_input(TOTALS, &["counts"], lines.as_bytes()).done(), lines);
+        assert_eq!(folder.with_input(TOTALS, &["signed"], lines.as_bytes()).done(), read);
+    }
+}
+
+/// Shows that an aside must have the total of its round right behind it; the aside itself is handed on.
+#[test]
+fn an_aside_without_its_total_ends_the_run() {
+    let folder = Folder::new("alone");
+    let behind = "behind `aside` the total of round 7 is wanted";
+    let cut = "it is cut short: it has no end";
+    for (lines, told) in [
+        ("", format!("standard input ends: {behind}")),
+        ("open 8\ntotal 7 5\n", format!("line 3: {behind}")),
+        ("\n", format!("line 3: {behind}")),
+        ("tota", format!("line 3: {behind}")),
+        ("refused 12 at 23\n", format!("line 3: {behind}")),
+        ("total 8 5\n", format!("line 3: {behind}")),
+        ("aside 7 3\ntotal 7 5\n", format!("line 3: {behind}")),
+        ("total 7 5", format!("line 3: {cut}")),
+        ("total 7 65521\n", "line 3: refused 3: total 1 is 65521, above 65520".to_string()),
+    ] {
+        for usage in USES {
+            let said = folder.with_input(TOTALS, &[usage], format!("open 7\naside 7 3\n{lines}").as_bytes());
+            assert_eq!((said.status, said.output.as_str()), (Some(1), "open 7\naside 7 3\n"), "{lines}");
+            assert_eq!(said.error, format!("totals: {told}\n"));
+        }
+    }
+}
+
+/// Bytes of every value, no line end or another one, and words that only look like a total's or an aside's.
 #[test]
 fn other_lines_pass_as_they_are() {
     let folder = Folder::new("other_lines");
     let every: Vec<u8> = (0..=255).collect();
     let long = [vec![b'x'; 65535], b"\n".to_vec()].concat();
-    let tails = [&b""[..], b"refused 7 at 40", b"\xff", b"open 1\r", b"tota"];
+    let tails = [&b""[..], b"refused 7 at 40", b"\xff", b"open 1\r", b"tota", b"asid"];
     for tail in tails {
-        let looks: &[u8] = b"totals 7 65507\nTotal 7 65507\n\n\n \r\nsubtotal 65507\n# total 7 65507\n\xfftotal 7 65507\n";
+        let looks: &[u8] = b"totals 7 65507\nTotal 7 65507\n\n\n \r\nsubtotal 65507\n# total 7 65507\n\xfftotal 7 65507\n\
+            asides 7 3\nAside 7 3\nbeside 7 3\n# aside 7 3\n";
         folder.write("lines", &[LINES.as_bytes(), &every, b"\n", looks, &long, b"total 8 0\n", tail].concat(), 0o600);
         folder.write("wanted", &[READ.as_bytes(), &every, b"\n", looks, &long, b"total 8 0\n", tail].concat(), 0o600);
         folder.shell("\"$TOTALS\" counts < lines | cmp - lines").done();
@@ -100,6 +142,20 @@ fn a_bad_line_ends_the_run() {
     refused(b"total\t2 5\n", form);
     refused(b"\ttotal 2 65507\n", form);
     refused(format!("total 2{}\n", " 1".repeat(97)).as_bytes(), form);
+    refused(b"aside 2 3", ": it is cut short: it has no end");
+    refused(b"aside", ": it is cut short: it has no end");
+    refused(b"aside 2 0\ntotal 2 5\n", ": it is damaged: the airfield is 0, and one from 1 to 8 is wanted");
+    refused(b"aside 2 9\ntotal 2 5\n", ": it is damaged: the airfield is 9, and one from 1 to 8 is wanted");
+    refused(b"aside 2 257\ntotal 2 5\n", ": it is damaged: the airfield is 257, and one from 1 to 8 is wanted");
+    refused(b"aside 2 03\ntotal 2 5\n", &number("the airfield", "03"));
+    refused(b"aside 2 +3\ntotal 2 5\n", &number("the airfield", "+3"));
+    refused(b"aside x 3\ntotal 2 5\n", &number("the round", "x"));
+    refused(b"aside 02 3\ntotal 2 5\n", &number("the round", "02"));
+    refused(b"aside 4294967296 3\n", ": it is damaged: the round is 4294967296, above 4294967295");
+    let form = ": it is damaged: `aside`, a round and an airfield are wanted, with one space between";
+    for line in ["aside\n", "aside 2\n", "aside 2 3 4\n", "aside 2  3\n", "aside 2 3 \n", " aside 2 3\n", "aside\t2 3\n"] {
+        refused(format!("{line}total 2 5\n").as_bytes(), form);
+    }
     refused(&[b'x'; 100000], " is longer than 65536 bytes");
     refused(format!("total 2{}\n", " 1".repeat(100000)).as_bytes(), " is longer than 65536 bytes");
 }

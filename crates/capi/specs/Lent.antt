@@ -4,7 +4,8 @@
 --   phase-number, numbers, arrays-of   the arrays of a state
 --   plan-left, open-left, close-left, finish-left     what each call leaves in them: the arrays of the new state, or after a refusal as
 --                                      they came; the element calls leave first-left and reply-left
---   closed-answer, finish-totals       what close hands back, and the buffer that finish writes
+--   closed-answer, finished-answer     what close and finish hand back
+--   finish-totals                      the buffer that finish writes
 -- Assumes nothing: these are definitions.
 use mathlib.Core.List.{List, [], _∷_}
 use Prim.Native.Nat.{ℕ, zero, suc}
@@ -19,9 +20,11 @@ use Rattle.service.specs.declared.Head.{Head}
 use Rattle.service.specs.declared.Service.{Service}
 use Rattle.service.specs.declared.Closed.{Closed}
 use Rattle.service.specs.Calls.{plan-step, open-step, close-step}
+use Rattle.finish.specs.declared.Finished.{Finished}
 use Rattle.finish.specs.Finish.{finish-step}
 use Rattle.plan.specs.Plan.{code-plan}
 use Rattle.capi.specs.declared.pooling.CutawhenoClosed.{CutawhenoClosed}
+use Rattle.capi.specs.declared.pooling.CutawhenoFinished.{CutawhenoFinished}
 
 abbrev pub head-length : ℕ
 head-length = 8
@@ -82,6 +85,9 @@ close-left a = let t = close-step (state a) in after (t .number) (arrays-of (t .
 
 abbrev pub closed-answer : Closed → CutawhenoClosed
 closed-answer t = record { number = t .number; set = t .set }
+
+abbrev pub finished-answer : Finished → CutawhenoFinished
+finished-answer t = record { number = t .number; aside = t .aside }
 
 unfoldable pub finish-left : Arrays → Arrays
 finish-left a = let t = finish-step sixteen laws16 (state a) in after (t .number) (arrays-of (t .service)) a

@@ -1,7 +1,8 @@
 // The pooling service for callers in C and Rust, over state that the caller lends: include/cutawheno.h declares these functions.
 //   cutawheno_service_plan, cutawheno_service_open       begin
 //   cutawheno_service_first_element, cutawheno_service_reply_element     hold an element: the hot path
-//   cutawheno_service_close, cutawheno_service_finish    the survivors' set, and the total; CutawhenoClosed: a close's number, and the set
+//   cutawheno_service_close, cutawheno_service_finish    the survivors' set, and the total; CutawhenoClosed: a close's number, and the set;
+//                                                        CutawhenoFinished: a finish's number, and the user set aside
 //   NUMBERS                                              the length of `head`
 // The state is three arrays, all zero for a new service: `head` has the phase (0 unplanned, 1 idle, 2 gathering, 3 replying), users,
 // threshold, collusion, blocks, places, round and survivors; `first` and `reply` hold the elements as crate service does. A refused
@@ -12,7 +13,7 @@ ghost use Rattle.solve.specs.Solve.{laws16};
 ghost use Rattle.service.specs.Calls.{plan-step, open-step, first-refusal, first-left, close-step, reply-refusal, reply-left};
 ghost use Rattle.finish.specs.Finish.{finish-step};
 ghost use Rattle.plan.specs.Plan.{code-plan};
-ghost use Rattle.capi.specs.Lent.{arrays, state, phase-at, phase-number, head-at, numbers, plan-left, open-left, closed-answer, close-left, finish-left, finish-totals};
+ghost use Rattle.capi.specs.Lent.{arrays, state, phase-at, phase-number, head-at, numbers, plan-left, open-left, closed-answer, close-left, finished-answer, finish-left, finish-totals};
 use plan::CELLS;
 use plan::FIRSTS;
 use plan::MOST_PLACES;
@@ -27,6 +28,12 @@ pub const NUMBERS: usize = 8;
 pub struct CutawhenoClosed {
     pub number: u32,
     pub set: u32,
+}
+
+#[repr(C)]
+pub struct CutawhenoFinished {
+    pub number: u32,
+    pub aside: u32,
 }
 
 // A number above 3, which no call leaves, is read as replying.
@@ -205,15 +212,16 @@ pub extern "C" fn cutawheno_service_reply_element(
     service::put_reply(held, reply, user, block, element)
 }
 
-// 11, 12, 15, 16. The totals come in the first L places, with 0 behind them.
+// 11, 12, 15, 16. The totals come in the first L places, with 0 behind them. The user set aside is 0 if there is none.
 #[no_mangle]
 pub extern "C" fn cutawheno_service_finish(
     head: &mut [u32; NUMBERS],
     first: &mut [u16; FIRSTS],
     reply: &mut [u16; CELLS],
     totals: &mut [u16; MOST_PLACES],
-) -> u32
-    ensures number { λ r. ⌜ r ≡ finish-step sixteen laws16 (state (arrays (now (head .entry)) (now (first .entry)) (now (reply .entry)))) .number ⌝ }
+) -> CutawhenoFinished
+    ensures answer { λ r. ⌜ r
+        ≡ finished-answer (finish-step sixteen laws16 (state (arrays (now (head .entry)) (now (first .entry)) (now (reply .entry))))) ⌝ }
     ensures left { λ r. ⌜ arrays (now (head .exit)) (now (first .exit)) (now (reply .exit))
         ≡ finish-left (arrays (now (head .entry)) (now (first .entry)) (now (reply .entry))) ⌝ }
     ensures totals { λ r. ⌜ now (totals .exit) ≡ finish-totals (arrays (now (head .entry)) (now (first .entry)) (now (reply .entry))) (now (totals .entry)) ⌝ }
@@ -221,12 +229,13 @@ pub extern "C" fn cutawheno_service_finish(
     let held = head_at(head);
     let step = finish::finish_lent(held, first, reply);
     let number = step.number;
+    let aside = step.aside;
     let sums = step.totals;
     if number != 0 {
-        return number;
+        return CutawhenoFinished { number, aside };
     }
     let idle = step.head;
     *head = numbers(idle);
     *totals = sums;
-    0
+    CutawhenoFinished { number, aside }
 }

@@ -14,6 +14,7 @@ use Rattle.scheme.specs.Drawn as Drawn
 use Rattle.scheme.specs.Promise.{shown}
 use Rattle.scheme.specs.Signed as Signed
 use Rattle.scheme.specs.Totals as Totals
+use Rattle.scheme.specs.Aside as Aside
 use Rattle.scheme.specs.Delta as Delta
 use Rattle.scheme.specs.Service as Service
 use Rattle.scheme.specs.Modular.{modular-laws}
@@ -24,11 +25,11 @@ use Rattle.reading.specs.Reading as Reading
 use Rattle.service.specs.View as View
 use Rattle.service.specs.Calls as Calls
 use Rattle.finish.specs.Finish as Finish
-use Rattle.cases.specs.Cases.{drawn, key-from, key-of, message, sent-by, changed, asked, looked-up, tried, planned, opened, firsts, replies, pooled, first-numbers, reply-numbers, closed-5, finished-5, finish-tells, finish-tells-5, finish-tells-7, Cases}
+use Rattle.cases.specs.Cases.{drawn, key-from, key-of, message, sent-by, changed, asked, looked-up, tried, planned, opened, firsts, replies, pooled, first-numbers, reply-numbers, closed-5, finished-5, finish-tells, finish-tells-5, finish-tells-7, four, finish-tells-four, Cases}
 
 pub cases : Cases
 unfolding drawn key-from key-of message sent-by changed asked looked-up tried planned opened firsts replies pooled first-numbers reply-numbers closed-5
-    finished-5 finish-tells finish-tells-5 finish-tells-7
+    finished-5 finish-tells finish-tells-5 finish-tells-7 four finish-tells-four
     sub inverse inverse-from modular-laws padded unknown-at shown
     Lengths.largest-figure Scheme.reach Scheme.figure-bound Scheme.within Scheme.is-near Scheme.near Scheme.figures-good
     Signed.residue Signed.meant Reading.reading Reading.residue-refusal Reading.residue-by
@@ -41,13 +42,14 @@ unfolding drawn key-from key-of message sent-by changed asked looked-up tried pl
     Delta.colluders-in Delta.kept Delta.unsolved Delta.shift Delta.delta Delta.translation Delta.difference Delta.table-delta Delta.partner
     Service.has-plan Service.is-gathering Service.is-replying Service.plan-missing Service.second-plan Service.not-gathering Service.not-replying
     Service.element-refusal Service.is-held Service.element-of Service.takes Service.set-of Service.complete-set Service.gathered
-    Service.replied Service.explained-by Service.totals-by
+    Service.replied Service.totals-by Aside.without
     Client.stage-of Client.part-of
     View.phase-of View.stored View.look View.view
     Calls.nothing-first Calls.nothing-reply Calls.new-service Calls.plan-refusal Calls.planned Calls.plan-step Calls.open-refusal Calls.opened
     Calls.open-step Calls.first-refusal Calls.first-left Calls.first-step Calls.reply-refusal Calls.reply-left Calls.reply-step Calls.close-refusal
     Calls.closed Calls.close-step
-    Finish.rows-of Finish.values-of Finish.choice-of Finish.choice Finish.finish-refusal Finish.finish-answer Finish.finish-step Finish.finished
+    Finish.rows-of Finish.values-of Finish.all-elements Finish.choice-of Finish.agree Finish.fitting Finish.aside-of
+    Finish.heard Finish.is-settled Finish.choice Finish.finish-refusal Finish.finish-answer Finish.finish-step Finish.finished
 cases = record {
   inverses = refl;
   key-1 = refl;
@@ -124,4 +126,10 @@ cases = record {
   late-repeats = refl;
   not-survivor = refl;
   total-5-repeated = refl;
+  all-four = refl;
+  one-aside = refl;
+  two-false = refl;
+  two-agree = refl;
+  three-of-four = refl;
+  then-a-fourth = refl;
 }

@@ -1,5 +1,5 @@
 -- The starred examples of document 01 ("Example round") as document 02 changes them, and some of raw bytes, of the bounds on figures, of
--- signed figures, of lookups and of repeats, about the definitions that the contracts name: one table, a row for each example.
+-- signed figures, of lookups, of repeats and of replies set aside, about the definitions that the contracts name: one table, a row for each example.
 --   plan, random, partner-list, bad-list, figures   K, U, T, M = 3, 2, 1, 1; the random list, its partner, one that is refused; tables of figures
 --   changes                                         whole numbers at both ends of what is read back, and about zero
 --   drawn, six-numbers                              number and list that raw bytes leave of a lent list; most of the example list as bytes
@@ -11,6 +11,7 @@
 --   planned, opened, pooled, finish-tells           a service with the plan; in a round; with the replies; what its finish tells
 --   first-numbers, reply-numbers                    what airfield 1's elements for one place or block are answered, one behind the other
 --   closed-5, finished-5                            a service behind the close with survivors 1 and 3, and behind the finish
+--   four, finish-tells-four                         a round of four airfields with the replies that came; what its finish tells of four
 --   Cases                                           THE TABLE
 -- Assumes nothing: these are definitions.
 use mathlib.Core.Path.{_≡_}
@@ -154,9 +155,9 @@ closed-5 = pooled ((1, 110) ∷ (3, 330) ∷ []) []
 unfoldable pub finished-5 : Service
 finished-5 = finish-step sixteen laws16 (pooled ((1, 110) ∷ (3, 330) ∷ []) ((1, 220) ∷ (3, 112) ∷ [])) .service
 
--- number and total
+-- number, user set aside and total
 unfoldable pub finish-tells : Finished → List ℕ
-finish-tells f = f .number ∷ take 1 (f .totals)
+finish-tells f = f .number ∷ f .aside ∷ take 1 (f .totals)
 
 -- survivors 1 and 3, with their replies; survivors 1, 2 and 3, with the replies that came
 unfoldable pub finish-tells-5 : (a c : ℕ) → List ℕ
@@ -164,6 +165,15 @@ finish-tells-5 a c = finish-tells (finish-step sixteen laws16 (pooled ((1, 110) 
 
 unfoldable pub finish-tells-7 : (answered : List (ℕ × ℕ)) → List ℕ
 finish-tells-7 ys = finish-tells (finish-step sixteen laws16 (pooled ((1, 110) ∷ (2, 220) ∷ (3, 330) ∷ []) ys))
+
+-- four airfields under 4, 2, 1, 1, figures 10 20 30 40, masks 100 200 300 600 and noise 120 for the set of all: with the replies that came
+unfoldable pub four : (answered : List (ℕ × ℕ)) → Service
+four ys =
+    let s = open-step (plan-step new-service (code-plan 4 2 1 1) .service) 7 .service in
+    replies ys (close-step (firsts ((1, 110) ∷ (2, 220) ∷ (3, 330) ∷ (4, 640) ∷ []) s) .service)
+
+unfoldable pub finish-tells-four : (a b c d : ℕ) → List ℕ
+finish-tells-four a b c d = finish-tells (finish-step sixteen laws16 (four ((1, a) ∷ (2, b) ∷ (3, c) ∷ (4, d) ∷ [])))
 
 -- ---- THE TABLE
 pub record Cases : Type 0 where
@@ -177,14 +187,14 @@ pub record Cases : Type 0 where
   pub parts-7 : map (part 7) (1 ∷ 2 ∷ 3 ∷ []) ≡ (340 ∷ []) ∷ (230 ∷ []) ∷ (174 ∷ []) ∷ []
   -- totals: of set 5; of set 7 with any two replies, and with all three
   pub survivors-5 : close-step (firsts ((1, 110) ∷ (3, 330) ∷ []) (opened 7)) .set ≡ 5
-  pub total-5 : finish-tells-5 220 112 ≡ 0 ∷ 40 ∷ []
-  pub total-7-by-1-2 : finish-tells-7 ((1, 340) ∷ (2, 230) ∷ []) ≡ 0 ∷ 60 ∷ []
-  pub total-7-by-1-3 : finish-tells-7 ((1, 340) ∷ (3, 174) ∷ []) ≡ 0 ∷ 60 ∷ []
-  pub total-7-by-2-3 : finish-tells-7 ((2, 230) ∷ (3, 174) ∷ []) ≡ 0 ∷ 60 ∷ []
-  pub total-7-by-all : finish-tells-7 ((1, 340) ∷ (2, 230) ∷ (3, 174) ∷ []) ≡ 0 ∷ 60 ∷ []
+  pub total-5 : finish-tells-5 220 112 ≡ 0 ∷ 0 ∷ 40 ∷ []
+  pub total-7-by-1-2 : finish-tells-7 ((1, 340) ∷ (2, 230) ∷ []) ≡ 0 ∷ 0 ∷ 60 ∷ []
+  pub total-7-by-1-3 : finish-tells-7 ((1, 340) ∷ (3, 174) ∷ []) ≡ 0 ∷ 0 ∷ 60 ∷ []
+  pub total-7-by-2-3 : finish-tells-7 ((2, 230) ∷ (3, 174) ∷ []) ≡ 0 ∷ 0 ∷ 60 ∷ []
+  pub total-7-by-all : finish-tells-7 ((1, 340) ∷ (2, 230) ∷ (3, 174) ∷ []) ≡ 0 ∷ 0 ∷ 60 ∷ []
   -- three replies show that one is wrong; two do not
-  pub wrong-7 : finish-tells-7 ((1, 340) ∷ (2, 230) ∷ (3, 175) ∷ []) ≡ 16 ∷ 0 ∷ []
-  pub wrong-5 : finish-tells-5 221 113 ≡ 0 ∷ 48 ∷ []
+  pub wrong-7 : finish-tells-7 ((1, 340) ∷ (2, 230) ∷ (3, 175) ∷ []) ≡ 16 ∷ 0 ∷ 0 ∷ []
+  pub wrong-5 : finish-tells-5 221 113 ≡ 0 ∷ 0 ∷ 48 ∷ []
   -- set 5, colluder 1, and the table 10, 25, 30
   pub good : plan-good (plan-of plan) ≡ true
   pub partner : Delta.partner sixteen (plan-of plan) (sixteen-field 3 2 (lit< tt)) 1 (figures 10 20 30) (figures 10 25 30) random ≡ partner-list
@@ -224,7 +234,7 @@ pub record Cases : Type 0 where
   pub way-in-1 : residue-answer sixteen (plan-of (code-plan 9 2 1 1)) (negsuc 0) ≡ given.Refused 1
   -- −14 of airfield 1 and 4 of airfield 3: set 5, and the total −10
   pub changes-sent : map (λ (c : ℕ × ℕ). changed (c .0) (c .1 ∷ [])) ((1, 65507) ∷ (3, 4) ∷ []) ≡ (86 ∷ []) ∷ (304 ∷ []) ∷ []
-  pub changes-total : finish-tells (finish-step sixteen laws16 (pooled ((1, 86) ∷ (3, 304) ∷ []) ((1, 220) ∷ (3, 112) ∷ []))) ≡ 0 ∷ 65511 ∷ []
+  pub changes-total : finish-tells (finish-step sixteen laws16 (pooled ((1, 86) ∷ (3, 304) ∷ []) ((1, 220) ∷ (3, 112) ∷ []))) ≡ 0 ∷ 0 ∷ 65511 ∷ []
   pub changes-read : reading sixteen signed 65511 ≡ Value (negsuc 9)
   -- raw bytes: 65521 to 65535 are skipped, 65520 is not; what lies behind a full list is unused; a byte that stands alone is no number
   pub bytes-full : drawn (six-numbers (120 ∷ 0 ∷ [])) ≡ (0, random)
@@ -267,4 +277,15 @@ pub record Cases : Type 0 where
   pub not-survivor : reply-step sixteen closed-5 2 0 220 .number ≡ 14
   pub total-5-repeated :
       finish-tells (finish-step sixteen laws16
-      (pooled ((1, 110) ∷ (1, 110) ∷ (3, 330) ∷ (1, 111) ∷ []) ((1, 220) ∷ (3, 112) ∷ (1, 220) ∷ (3, 113) ∷ []))) ≡ 0 ∷ 40 ∷ []
+      (pooled ((1, 110) ∷ (1, 110) ∷ (3, 330) ∷ (1, 111) ∷ []) ((1, 220) ∷ (3, 112) ∷ (1, 220) ∷ (3, 113) ∷ []))) ≡ 0 ∷ 0 ∷ 40 ∷ []
+  -- one false reply of four, whosever it is; two; two that agree with each other and with a third; U + 1, and then one more
+  pub all-four : finish-tells-four 640 430 324 260 ≡ 0 ∷ 0 ∷ 100 ∷ []
+  pub one-aside :
+      finish-tells-four 0 430 324 260 ∷ finish-tells-four 640 65520 324 260 ∷ finish-tells-four 640 430 325 260 ∷ finish-tells-four 640 430 324 259
+      ∷ [] ≡ map (λ k. 0 ∷ k ∷ 100 ∷ []) (1 ∷ 2 ∷ 3 ∷ 4 ∷ [])
+  pub two-false : finish-tells-four 641 430 324 261 ≡ 16 ∷ 0 ∷ 0 ∷ []
+  pub two-agree : finish-tells-four 640 430 384 320 ≡ 0 ∷ 2 ∷ 1300 ∷ []
+  pub three-of-four : finish-tells (finish-step sixteen laws16 (four ((1, 640) ∷ (2, 430) ∷ (4, 261) ∷ []))) ≡ 16 ∷ 0 ∷ 0 ∷ []
+  pub then-a-fourth :
+      finish-tells (finish-step sixteen laws16
+      (reply-step sixteen (finish-step sixteen laws16 (four ((1, 640) ∷ (2, 430) ∷ (4, 261) ∷ [])) .service) 3 0 324 .service)) ≡ 0 ∷ 4 ∷ 100 ∷ []

@@ -1,31 +1,34 @@
 -- Every record has an answer in document 03, in every state whose plan, if there is one, is good, and leads to such a state.
 --   decided                       some choice explains at least U replies, or none does, whatever numbers they are
---   stays-sound                   a new state is sound, and so is every state that records lead to
+--   stays-sound, stays-small      a new state is sound, and its replies are elements; so it is of every state that records lead to
 --   always-answers                the answer
 -- Assumes nothing.
 use mathlib.Core.Path.{_≡_, refl, sym, ap, _∙_, subst}
 use mathlib.Core.Logic.{_⊎_, inl, inr, ⊎-elim}
-use mathlib.Core.Bool.{Bool, true, false, not}
-use mathlib.Core.List.{List}
-use Prim.Native.Nat.{ℕ, zero, suc, _%_, _≤_}
+use mathlib.Core.Bool.{Bool, true, false, _&&_, not, cond}
+use mathlib.Core.List.{List, [], _∷_}
+use Prim.Native.Nat.{ℕ, zero, suc, _%_, _≤_, _<_}
 use native.Mathlib.Nat.{mod-eq-of-lt, mod-lt, zero-lt-suc}
 use borrow.Author.Tests.{eqb-false}
+use lib.Dec.{eqb, lit<}
 use lib.ListN.{length}
 use Rattle.scheme.specs.Scheme.{q, sixteen, Plan, ones, users-in}
 use Rattle.scheme.specs.Laws.{Laws}
 use Rattle.scheme.specs.Totals.{explains-all, Choice, One-choice}
-use Rattle.scheme.specs.Service.{has-plan, replied, refusal, values, explained-by}
+use Rattle.scheme.specs.Aside.{No-choice}
+use Rattle.scheme.specs.Service.{has-plan, replied, refusal, values}
 use Rattle.scheme.proofs.Tests.{holds}
 use Rattle.scheme.proofs.Good.{good-back}
 use Rattle.scheme.proofs.Refusals.{then-zero, unless-zero}
 use Rattle.scheme.proofs.Sums.{row-value-small}
 use Rattle.scheme.proofs.Pooling.Totals.{Explained, explained, explained-back, one-choice}
-use Rattle.scheme.proofs.Pooling.Well.{plan-here, gathers, replies, finishing}
+use Rattle.scheme.proofs.Pooling.Well.{plan-here, gathers, replies, fits, finishing}
 use Rattle.scheme.proofs.Pooling.Choices as Choices
 use Rattle.scheme.proofs.Modular.{sixteen-laws}
 use Rattle.document03.specs.Ours.{our-plan, our-held, our-state, our-record}
+use Rattle.document03.specs.Scheme as D
 use Rattle.document03.specs.Service as S
-use Rattle.document03.specs.Conform.{Sound, Stays-sound, Answered, Always-answers}
+use Rattle.document03.specs.Conform.{Sound, Stays-sound, Small, Stays-small, Answered, Always-answers}
 use Rattle.document03.proofs.Sets.{plan-good-same}
 use Rattle.document03.proofs.State.{planned-same, taken-same}
 use Rattle.document03.proofs.Explains.{explained-same}
@@ -33,7 +36,7 @@ use Rattle.document03.proofs.Answers.{finish-same}
 use Rattle.document03.proofs.Steps.{finish-good}
 
 abbrev Decided : Plan → (set : ℕ) → (replies : (k block : ℕ) → ℕ) → Type 0
-Decided p r y = Choice sixteen p r y ⊎ ((f : (block : ℕ) → List ℕ) → explains-all sixteen p r y f ≡ true → ⊥)
+Decided p r y = Choice sixteen p r y ⊎ No-choice sixteen p r y
 
 -- ---- replies that need not be elements: nothing but their remainders can be explained
 module _ (p : Plan) (L : Laws sixteen (p .users) (p .threshold)) (y : (k block : ℕ) → ℕ) (r : ℕ) (many : p .threshold ≤ ones (p .users) r) where
@@ -51,7 +54,7 @@ module _ (p : Plan) (L : Laws sixteen (p .users) (p .threshold)) (y : (k block :
   unfolding reduced One-choice
   decided = ⊎-elim some none (Choices.decided sixteen p reduced L (λ k b. mod-lt (y k b) (zero-lt-suc 65520)) r many)
     where
-      none : ((f : (block : ℕ) → List ℕ) → explains-all sixteen p r reduced f ≡ true → ⊥) → Decided p r y
+      none : No-choice sixteen p r reduced → Decided p r y
       none h = inr (λ f e. h f (reduced-explained f e))
 
       some : Choice sixteen p r reduced → Decided p r y
@@ -95,9 +98,40 @@ pub stays-sound : Stays-sound
 unfolding Stays-sound
 stays-sound = (new-sound, steps-sound)
 
+-- ---- the replies held stay elements
+none-small : (k b : ℕ) → S.held-value k b [] < D.q
+unfolding S.held-value
+none-small k b = lit< tt
+
+one-more-small : (h : S.Held) (hs : List S.Held) → h .value < D.q → ((k b : ℕ) → S.held-value k b hs < D.q)
+    → (k b : ℕ) → S.held-value k b (h ∷ hs) < D.q
+unfolding S.held-value
+one-more-small h hs small rest k b =
+    elim (eqb (h .k) k && eqb (h .at) b) as (λ t. cond t (h .value) (S.held-value k b hs) < D.q) [ true ↦ small | false ↦ rest k b ]
+
+changed-small : (r : S.Record) (s : S.State) → Small s → S.record-refusal r s ≡ 0 → Small (S.changed r s)
+unfolding S.changed S.planned S.gathered S.with-first S.closed S.with-reply S.idle-again our-record refusal
+changed-small (S.a-plan p) s h e = none-small
+changed-small (S.open-round r) s h e = none-small
+changed-small (S.first-element k i x) s h e = h
+changed-small S.close-round s h e = none-small
+changed-small (S.reply-element k b x) s h e =
+    one-more-small _ (s .replies) (fits sixteen _ _ k b x (then-zero _ _ (then-zero _ _ (taken-same (S.reply-element k b x) s e) .1) .0) .small) h
+changed-small S.finish-round s h e = none-small
+
+steps-small : (r : S.Record) (s t : S.State) (l : S.Line) → Small s → S.Steps r s l t → Small t
+unfolding S.record-refusal S.changed
+steps-small _ _ _ _ h (S.turned-away r s n e) = h
+steps-small _ _ _ _ h (S.taken r s quick e) = changed-small r s h e
+steps-small _ _ _ _ h (S.summed s f e d) = changed-small S.finish-round s h e
+steps-small _ _ _ _ h (S.unexplained s e d) = h
+
+pub stays-small : Stays-small
+unfolding Stays-small S.new-state
+stays-small = (none-small, steps-small)
+
 -- ---- the answer
 finished : (s : S.State) → Sound s → S.finish-refusal s ≡ 0 → Answered S.finish-round s
-unfolding explained-by
 finished s h e =
     let p = our-plan (s .plan-of) in
     let g = finish-good s h e in

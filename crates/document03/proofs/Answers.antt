@@ -17,7 +17,7 @@ use Rattle.scheme.specs.Scheme.{sixteen, plan-good, places, in-set, list-length
 use Rattle.scheme.specs.Promise.{Table, rows-good, list-good}
 use Rattle.scheme.specs.Good.{Good}
 use Rattle.scheme.specs.Totals.{Follows, One-choice, Rules-explain, Residues-right}
-use Rattle.scheme.specs.Service.{replied, finish-record, refusal, values, explained-by, totals-by}
+use Rattle.scheme.specs.Service.{replied, finish-record, refusal, values, totals-by}
 use Rattle.scheme.proofs.Tests.{and-both, holds}
 use Rattle.scheme.proofs.Good.{good}
 use Rattle.scheme.proofs.Pooling.Held.{complete-held}
@@ -34,7 +34,7 @@ use Rattle.document03.proofs.Shares.{total-at-same}
 use Rattle.document03.proofs.Keys.{key-same, places-in-key, first-message-same, reply-same}
 use Rattle.document03.proofs.Shown.{list-good-same, rows-same}
 use Rattle.document03.proofs.State.{held-same, held-value-same, replied-same, taken-same}
-use Rattle.document03.proofs.Explains.{explained-same, totals-same}
+use Rattle.document03.proofs.Explains.{explained-in, explained-same, totals-same}
 
 -- ---- an opened round
 pub as-new : P.As-new
@@ -52,16 +52,16 @@ module _ (s : S.State) (pg : D.plan-good (s .plan-of) ≡ true) (fine : S.finish
   ok-plan = sym (plan-good-same (s .plan-of)) ∙ pg
 
   one-total : (f g : ℕ → List ℕ) → S.all-explain (s .plan-of .m) 0 s f ≡ true → S.all-explain (s .plan-of .m) 0 s g ≡ true → S.totals s f ≡ S.totals s g
-  unfolding explained-by totals-by One-choice
+  unfolding totals-by One-choice
   one-total f g h l =
       let p = our-plan (s .plan-of) in
       let y = values (our-held (s .replies)) in
-      let a : explained-by sixteen (our-state s) f ≡ true = sym (explained-same s (good p ok-plan) f) ∙ h in
-      let b : explained-by sixteen (our-state s) g ≡ true = sym (explained-same s (good p ok-plan) g) ∙ l in
-      totals-same s (good p ok-plan) f a
+      let a : explained-in s (replied (our-state s)) f ≡ true = sym (explained-same s (good p ok-plan) f) ∙ h in
+      let b : explained-in s (replied (our-state s)) g ≡ true = sym (explained-same s (good p ok-plan) g) ∙ l in
+      totals-same s (good p ok-plan) f _ a
       ∙ Choices.totals-same sixteen p y (s .survivors) (values (our-held (s .firsts))) f g
       (Totals.one-choice sixteen p (sixteen-laws p ok-plan) (replied (our-state s)) y f g (finishing sixteen (our-state s) (finish-same s fine) .many) a b)
-      ∙ sym (totals-same s (good p ok-plan) g b)
+      ∙ sym (totals-same s (good p ok-plan) g _ b)
 
 pub one-answer : P.One-answer
 unfolding P.One-answer S.record-refusal S.quick
@@ -149,14 +149,14 @@ module _ (s : S.State) (xs : List ℕ) (x : Table) (pg : D.plan-good (s .plan-of
           ∙ reply-same p (key sixteen (our-plan p) xs k) k (s .survivors) (sym (usable-same p (s .survivors)) ∙ true-state .set) i)
 
   told : (t : S.State) (l : S.Line) → S.Steps S.finish-round s l t → l ≡ S.told-total (s .round) (P.survivor-totals (D.places p) 0 p x (s .survivors))
-  unfolding p S.record-refusal S.quick explained-by totals-by Rules-explain Residues-right
+  unfolding p S.record-refusal S.quick totals-by Rules-explain Residues-right
   told _ _ (S.turned-away _ _ n e) = absurd (omega arith)
   told _ _ (S.taken _ _ h e) = absurd (holds h)
   told _ _ (S.summed _ f e h) =
       let k = ok-plan s pg fine in
-      let a : explained-by sixteen (our-state s) f ≡ true = sym (explained-same s (good (our-plan p) k) f) ∙ h in
+      let a : explained-in s (replied (our-state s)) f ≡ true = sym (explained-same s (good (our-plan p) k) f) ∙ h in
       ap (S.told-total (s .round))
-      (totals-same s (good (our-plan p) k) f a
+      (totals-same s (good (our-plan p) k) f _ a
       ∙ Totals.residues-right sixteen (our-plan p) (sixteen-laws (our-plan p) k) xs x (s .survivors) (replied (our-state s)) _ _ f ok
       (sym (usable-same p (s .survivors)) ∙ true-state .set) (finishing sixteen (our-state s) (finish-same s fine) .many) follows a
       ∙ sym (ap (λ (n : ℕ). P.survivor-totals n 0 p x (s .survivors)) (places-same p) ∙ survivor-totals-same (places (our-plan p)) 0 p x (s .survivors)))

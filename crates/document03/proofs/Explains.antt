@@ -1,4 +1,5 @@
 -- What explains the replies, and the totals: ours modulo 65521 are document 03's, in a state with a good plan.
+--   explained-in                     unknowns of every block that explain the replies of a set
 --   explains-same, explained-same    unknowns of a block, and of every block
 --   unknown-small                    unknowns that explain are elements
 --   totals-same                      the totals from unknowns that explain
@@ -15,7 +16,7 @@ use Rattle.scheme.specs.Lists.{span, keep, members, all-of}
 use Rattle.scheme.specs.Scheme.{q, sixteen, sum, items, places, in-set, users-in, row-value}
 use Rattle.scheme.specs.Good.{Good}
 use Rattle.scheme.specs.Totals.{explains, explains-all, total-of, totals}
-use Rattle.scheme.specs.Service.{replied, values, explained-by, totals-by}
+use Rattle.scheme.specs.Service.{replied, values, totals-by}
 use Rattle.scheme.proofs.Keys.{elements-at}
 use Rattle.scheme.proofs.Pooling.Totals.{explained}
 use Rattle.document03.specs.Ours.{our-plan, our-held, our-state}
@@ -54,6 +55,9 @@ module _ (p : D.Plan) (g : Good (our-plan p)) where
   explains-same v b hs ws =
       ap₂ (λ (x y : Bool). (eqb (length ws) (p .u) && x) && y) (elements-same ws) (explains-from-same v b hs ws (p .k) 1 (omega arith) (omega arith))
 
+abbrev pub explained-in : S.State → (set : ℕ) → (choice : (block : ℕ) → List ℕ) → Bool
+explained-in s r f = explains-all sixteen (our-plan (s .plan-of)) r (values (our-held (s .replies))) f
+
 module _ (s : S.State) (g : Good (our-plan (s .plan-of))) (f : (block : ℕ) → List ℕ) where
   all-explain-same : (n b : ℕ)
       → S.all-explain n b s f
@@ -66,16 +70,15 @@ module _ (s : S.State) (g : Good (our-plan (s .plan-of))) (f : (block : ℕ) →
       ∙ explains-same (s .plan-of) g (replied (our-state s)) b (s .replies) (f b))
       (all-explain-same n (suc b))
 
-  pub explained-same : S.all-explain (s .plan-of .m) 0 s f ≡ explained-by sixteen (our-state s) f
-  unfolding explained-by explains-all
+  pub explained-same : S.all-explain (s .plan-of .m) 0 s f ≡ explained-in s (replied (our-state s)) f
+  unfolding explains-all
   explained-same = all-explain-same (s .plan-of .m) 0
 
   -- ---- totals
-  pub unknown-small : explained-by sixteen (our-state s) f ≡ true → (b i : ℕ) → b < s .plan-of .m → getD (f b) i 0 < q
-  unfolding explained-by
-  unknown-small h b i l =
+  pub unknown-small : (r : ℕ) → explained-in s r f ≡ true → (b i : ℕ) → b < s .plan-of .m → getD (f b) i 0 < q
+  unknown-small r h b i l =
       elements-at sixteen (omega arith) (f b) i
-      (explained sixteen (our-plan (s .plan-of)) (replied (our-state s)) (values (our-held (s .replies))) f h b l .small)
+      (explained sixteen (our-plan (s .plan-of)) r (values (our-held (s .replies))) f h b l .small)
 
   block-below : (i : ℕ) → i < places (our-plan (s .plan-of)) → i / items (our-plan (s .plan-of)) < s .plan-of .m
   unfolding places
@@ -84,20 +87,20 @@ module _ (s : S.State) (g : Good (our-plan (s .plan-of))) (f : (block : ℕ) →
       let some : 0 < n = lt-of-mul-lt-mul-left (s .plan-of .m) (omega (arith, mul-zero (s .plan-of .m))) in
       div-lt-iff-lt-mul {k = n} {x = i} {y = s .plan-of .m} some .1 l
 
-  totals-from-same : explained-by sixteen (our-state s) f ≡ true → (n i : ℕ) → i + n ≤ places (our-plan (s .plan-of))
+  totals-from-same : (r : ℕ) → explained-in s r f ≡ true → (n i : ℕ) → i + n ≤ places (our-plan (s .plan-of))
       → S.totals-from n i s f ≡ map (total-of sixteen (our-plan (s .plan-of)) (s .survivors) (values (our-held (s .firsts))) f) (span n i)
   unfolding S.totals-from total-of D.items items users-in
-  totals-from-same h zero i hi = refl
-  totals-from-same h (suc n) i hi =
+  totals-from-same r h zero i hi = refl
+  totals-from-same r h (suc n) i hi =
       let w = items (our-plan (s .plan-of)) in
       ap₂ _∷_
       (ap₂ (λ (x y : ℕ). (x + (q - y)) % q)
       (sum-set-same (s .plan-of .k) 1 (s .survivors) (λ k. S.held-value k i (s .firsts))
       ∙ ap (sum sixteen (members (in-set (s .survivors)) (s .plan-of .k) 1)) (fun-ext (λ k. held-value-same k i (s .firsts))))
-      (sym (mod-eq-of-lt (unknown-small h (i / w) (i % w) (block-below i (omega arith))))))
-      (totals-from-same h n (suc i) (omega arith))
+      (sym (mod-eq-of-lt (unknown-small r h (i / w) (i % w) (block-below i (omega arith))))))
+      (totals-from-same r h n (suc i) (omega arith))
 
-  pub totals-same : explained-by sixteen (our-state s) f ≡ true → S.totals s f ≡ totals-by sixteen (our-state s) f
+  pub totals-same : (r : ℕ) → explained-in s r f ≡ true → S.totals s f ≡ totals-by sixteen (our-state s) f
   unfolding S.totals totals-by totals
-  totals-same h =
-      ap (λ (n : ℕ). S.totals-from n 0 s f) (places-same (s .plan-of)) ∙ totals-from-same h (places (our-plan (s .plan-of))) 0 (omega arith)
+  totals-same r h =
+      ap (λ (n : ℕ). S.totals-from n 0 s f) (places-same (s .plan-of)) ∙ totals-from-same r h (places (our-plan (s .plan-of))) 0 (omega arith)

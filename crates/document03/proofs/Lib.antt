@@ -8,6 +8,7 @@ pub mod Says
 pub mod State
 pub mod Repeats
 pub mod Explains
+pub mod Fits
 pub mod Answers
 pub mod Counts
 pub mod Steps

@@ -1,27 +1,35 @@
--- Document 03's steps are ours, and ours are document 03's, but for the answer to a repeat.
+-- Our steps beside document 03's.
 --   line-same, changed-same  the answer to an accepted record, and the state that it leads to
---   steps-same               a step of document 03 is a step of ours
---   steps-ours               a step of ours, from a state that stands for one of document 03's, is a step there
+--   finish-good              the plan is good where a finish passes
+--   steps-same               for a step of document 03, ours has the step that belongs beside it
+--   steps-ours               a step of ours, from a state that stands for one of document 03's, belongs beside a step there
 -- Assumes nothing.
 use mathlib.Core.Path.{_≡_, refl, sym, ap, ap₂, _∙_, subst}
-use mathlib.Core.Logic.{_≢_}
-use mathlib.Core.Bool.{true, false, not}
+use mathlib.Core.Logic.{_≢_, ⊎-elim}
+use mathlib.Core.Bool.{Bool, true, false, not, cond}
 use mathlib.Core.List.{List}
-use Prim.Native.Nat.{ℕ, zero, suc}
+use Prim.Native.Nat.{ℕ, zero, suc, _+_}
 use native.Mathlib.Omega.{arith}
 use borrow.Author.Tests.{not-true, eqb-true}
-use Rattle.scheme.specs.Scheme.{sixteen}
+use Rattle.scheme.specs.Scheme.{sixteen, ones}
 use Rattle.scheme.specs.Good.{Good}
-use Rattle.scheme.specs.Service.{replying, State, nothing, Record, finish-record, Answer, closed, totalled, refused, refusal, planned-state, opened-state, idle-state, next-state, answer-of, is-finish, explained-by, totals-by, Steps, refuses, accepts, totals-up, disagrees}
-use Rattle.scheme.proofs.Good.{good}
-use Rattle.scheme.proofs.Pooling.Well.{finishing, refuses-as}
-use Rattle.document03.specs.Ours.{our-plan, our-phase, our-held, our-state, our-record, repeats, answer-in}
+use Rattle.scheme.specs.Aside.{all-agree, one-aside}
+use Rattle.scheme.specs.Service.{replying, State, nothing, replied, Record, finish-record, Answer, silent, closed, totalled, refused, refusal, planned-state, opened-state, idle-state, next-state, answer-of, is-finish, values, settled-by, apart-in, totals-by, Steps, refuses, accepts, totals-up, disagrees}
+use Rattle.scheme.specs.ServicePromise.{Sixteen-exactly}
+use Rattle.scheme.proofs.Tests.{and-false}
+use Rattle.scheme.proofs.Good.{good, good-back}
+use Rattle.scheme.proofs.Pooling.Well.{finishing, refuses-as, answer-not-refused}
+use Rattle.scheme.proofs.Pooling.Service.{sixteen-exactly}
+use Rattle.scheme.proofs.Pooling.Aside.{ended}
+use Rattle.scheme.proofs.Modular.{sixteen-laws}
+use Rattle.document03.specs.Ours.{our-plan, our-phase, our-held, our-state, our-record, repeats, answer-in, Fits, Beside, same, apart, aside}
 use Rattle.document03.specs.Service as S
-use Rattle.document03.specs.Conform.{Sound, Steps-same, Stepped, Steps-ours}
+use Rattle.document03.specs.Conform.{Sound, Small, Met, Steps-same, Stepped, Steps-ours}
 use Rattle.document03.proofs.Sets.{plan-good-same}
-use Rattle.document03.proofs.State.{gathered-same, replying-same, quieted, refusal-same, taken-same}
+use Rattle.document03.proofs.State.{held-value-same, gathered-same, replying-same, quieted, refusal-same, taken-same}
 use Rattle.document03.proofs.Repeats.{repeat-same, Compared, alike, repeated, compared}
-use Rattle.document03.proofs.Explains.{explained-same, totals-same}
+use Rattle.document03.proofs.Explains.{explained-in, explained-same, totals-same}
+use Rattle.document03.proofs.Fits.{fits-ours, fits-back}
 use Rattle.document03.proofs.Answers.{finish-same}
 
 -- ---- accepted records
@@ -62,14 +70,100 @@ finish-good s h e =
     let replies : s .phase ≡ 3 = eqb-true (s .phase) 3 (replying-same (s .phase) ∙ finishing sixteen (our-state s) (finish-same s e) .replying) in
     good (our-plan (s .plan-of)) (sym (plan-good-same (s .plan-of)) ∙ h (λ z. omega arith))
 
-explained : (s : S.State) → Sound s → S.finish-refusal s ≡ 0 → (f : ℕ → List ℕ) → S.all-explain (s .plan-of .m) 0 s f ≡ explained-by sixteen (our-state s) f
-explained s h e f = explained-same s (finish-good s h e) f
-
 finish-back : (s : S.State) → refusal sixteen finish-record (our-state s) ≡ 0 → S.finish-refusal s ≡ 0
 unfolding S.record-refusal our-record repeats quieted
 finish-back s e = refusal-same S.finish-round s ∙ e
 
--- ---- document 03's steps are ours
+-- ---- lines other than 16
+sixteen-in : (r : S.Record) (s : S.State) → answer-in r s (S.refused 16) ≡ refused 16
+unfolding answer-in
+sixteen-in r s = ap (λ (b : Bool). cond b silent (refused 16)) (and-false (repeats r s))
+
+line-not-sixteen : (r : S.Record) (s : S.State) → S.line-of r s ≢ S.refused 16
+line-not-sixteen r s e = answer-not-refused (our-record r) (our-state s) 16 (sym (line-same r s) ∙ ap (answer-in r s) e ∙ sixteen-in r s)
+
+turned-not-sixteen : (r : S.Record) (s : S.State) (n : ℕ) → Compared r s n → S.refused n ≢ S.refused 16
+unfolding Sixteen-exactly
+turned-not-sixteen r s n (alike a e) d =
+    let o = our-record r in
+    let u = our-state s in
+    let c = sixteen-exactly sixteen o u u .0 (refuses-as sixteen o u (λ z. omega arith) (e ∙ cc)) in
+    let z : refusal sixteen o u ≡ 0 = ap (λ (o : Record). refusal sixteen o u) (c .finish) ∙ c .enough in
+    let w : n ≡ 16 = cc in
+    omega arith
+turned-not-sixteen r s n (repeated a e h) d = let z : _≡_ {A = ℕ} 0 1 = cc (a, ap (answer-in r s) d, sixteen-in r s) in absurd (omega arith)
+
+total-not-sixteen : (n : ℕ) (l : List ℕ) → S.told-total n l ≢ S.refused 16
+total-not-sixteen n l e = let z : _≡_ {A = ℕ} 0 1 = cc in omega arith
+
+module _ {r : S.Record} {s t : S.State} {l : S.Line} (ne : l ≢ S.refused 16) where
+  met : Steps sixteen (our-record r) (our-state s) (answer-in r s l) (our-state t) → Met r s l t
+  met h = record { answer = answer-in r s l; state = t; beside = same r l t ne; step = h }
+
+  stepped : {a : Answer} {u : State} → S.Steps r s l t → answer-in r s l ≡ a → our-state t ≡ u → Stepped r s a u
+  stepped h e d = record { line = l; state = t; step = h; ours = t; beside = subst (λ (a : Answer). Beside s r l t a t) e (same r l t ne); leads = d }
+
+-- ---- a finish that passes its tests
+module _ (s : S.State) (h : Sound s) (e : S.finish-refusal s ≡ 0) where
+  g : Good (our-plan (s .plan-of))
+  g = finish-good s h e
+
+  explained : (f : ℕ → List ℕ) → S.all-explain (s .plan-of .m) 0 s f ≡ explained-in s (replied (our-state s)) f
+  explained = explained-same s g
+
+  none-fits : apart-in sixteen (our-state s) → (k : ℕ) (f : ℕ → List ℕ) → Fits s k f → ⊥
+  none-fits a k f w =
+      let o = fits-ours s g k f w in
+      ⊎-elim (λ (d : ones (s .plan-of .k) (replied (our-state s)) ≡ s .plan-of .u + 1). omega (arith, o .0)) (λ n. n k f (o .1)) (a .no-aside)
+
+  settled-met : ((f : ℕ → List ℕ) → S.all-explain (s .plan-of .m) 0 s f ≡ true → ⊥)
+      → (k : ℕ) (f : ℕ → List ℕ) → settled-by sixteen (our-state s) k f → Met S.finish-round s (S.refused 16) s
+  unfolding our-record our-phase our-held S.idle-again idle-state
+  settled-met none _ _ (all-agree f a) = absurd (none f (explained f ∙ a))
+  settled-met none _ _ (one-aside k f many n a) =
+      record {
+        answer = totalled (s .round) k (S.totals s f);
+        state = S.idle-again s;
+        beside = aside k f (fits-back s g k f many a);
+        step = rw (totals-same s g f _ (a .others)) (totals-up (our-state s) k f (finish-same s e) (one-aside k f many n a));
+      }
+
+  unexplained-met : Small s → ((f : ℕ → List ℕ) → S.all-explain (s .plan-of .m) 0 s f ≡ true → ⊥) → Met S.finish-round s (S.refused 16) s
+  unfolding our-record
+  unexplained-met small none =
+      let p = our-plan (s .plan-of) in
+      ⊎-elim (λ c. settled-met none (c .aside) (c .choice) (c .settles))
+      (λ a. record { answer = refused 16; state = s; beside = apart (none-fits a); step = disagrees (our-state s) (finish-same s e) a })
+      (ended sixteen p (sixteen-laws p (good-back p g)) (values (our-held (s .replies))) (λ k b. rw (← held-value-same k b (s .replies)) (small k b))
+      (replied (our-state s)) (finishing sixteen (our-state s) (finish-same s e) .many))
+
+  settled-ours : (k : ℕ) (f : ℕ → List ℕ) → settled-by sixteen (our-state s) k f
+      → Stepped S.finish-round s (totalled (s .round) k (totals-by sixteen (our-state s) f)) (idle-state (our-state s))
+  unfolding answer-in our-phase our-held S.idle-again idle-state
+  settled-ours _ _ (all-agree f a) =
+      stepped (total-not-sixteen _ _) (S.summed s f e (explained f ∙ a)) (ap (totalled (s .round) 0) (totals-same s g f _ a)) refl
+  settled-ours _ _ (one-aside k f many n a) =
+      record {
+        line = S.refused 16;
+        state = s;
+        step = S.unexplained s e (λ f c. n f (sym (explained f) ∙ c));
+        ours = S.idle-again s;
+        beside = rw (← totals-same s g f _ (a .others)) (aside k f (fits-back s g k f many a));
+        leads = refl;
+      }
+
+  apart-ours : apart-in sixteen (our-state s) → Stepped S.finish-round s (refused 16) (our-state s)
+  apart-ours a =
+      record {
+        line = S.refused 16;
+        state = s;
+        step = S.unexplained s e (λ f c. a .no-choice f (sym (explained f) ∙ c));
+        ours = s;
+        beside = apart (none-fits a);
+        leads = refl;
+      }
+
+-- ---- ours beside document 03's
 turned-same : (r : S.Record) (s : S.State) (n : ℕ) → Compared r s (suc n)
     → Steps sixteen (our-record r) (our-state s) (answer-in r s (S.refused (suc n))) (our-state s)
 turned-same r s n (alike a e) = rw a (refuses-as sixteen (our-record r) (our-state s) (λ z. omega arith) e)
@@ -80,16 +174,17 @@ turned-same r s n (repeated a e h) =
     rw (a ∙ sym (q .1)) (subst (Steps sixteen o u (answer-of o u)) (q .2) (accepts o u (q .0) e))
 
 pub steps-same : Steps-same
-unfolding Steps-same our-record repeats answer-in our-phase our-held S.idle-again idle-state
-steps-same _ _ _ _ h (S.turned-away r s n e) = turned-same r s n (compared r s (suc n) e)
-steps-same _ _ _ _ h (S.taken r s quick e) =
-    rw (line-same r s, changed-same r s) (accepts (our-record r) (our-state s) (not-true _ (sym (quick-same r) ∙ quick)) (taken-same r s e))
-steps-same _ _ _ _ h (S.summed s f e d) =
-    let a : explained-by sixteen (our-state s) f ≡ true = sym (explained s h e f) ∙ d in
-    rw (totals-same s (finish-good s h e) f a) (totals-up (our-state s) f (finish-same s e) a)
-steps-same _ _ _ _ h (S.unexplained s e d) = disagrees (our-state s) (finish-same s e) (λ f a. d f (explained s h e f ∙ a))
+unfolding Steps-same our-record answer-in our-phase our-held S.idle-again idle-state
+steps-same _ _ _ _ h small (S.turned-away r s n e) = let c = compared r s (suc n) e in met (turned-not-sixteen r s _ c) (turned-same r s n c)
+steps-same _ _ _ _ h small (S.taken r s quick e) =
+    met (line-not-sixteen r s)
+    (rw (line-same r s, changed-same r s) (accepts (our-record r) (our-state s) (not-true _ (sym (quick-same r) ∙ quick)) (taken-same r s e)))
+steps-same _ _ _ _ h small (S.summed s f e d) =
+    let a = sym (explained s h e f) ∙ d in
+    met (total-not-sixteen _ _) (rw (totals-same s (g s h e) f _ a) (totals-up (our-state s) 0 f (finish-same s e) (all-agree f a)))
+steps-same _ _ _ _ h small (S.unexplained s e d) = unexplained-met s h e small d
 
--- ---- our steps are document 03's
+-- ---- document 03's beside ours
 finish-only : (r : S.Record) → our-record r ≡ finish-record → r ≡ S.finish-round
 unfolding our-record
 finish-only (S.a-plan p) e = cc
@@ -105,27 +200,28 @@ module _ (r : S.Record) (s : S.State) where
       → Stepped r s (refused (refusal sixteen (our-record r) (our-state s))) (our-state s)
   turned-ours n e (repeated a o h) w = absurd (w o)
   turned-ours zero e (alike a o) w = absurd (w o)
-  turned-ours (suc n) e (alike a o) w =
-      record { line = S.refused (suc n); state = s; step = S.turned-away r s n e; says = a ∙ ap refused (sym o); leads = refl }
+  turned-ours (suc n) e (alike a o) w = stepped (turned-not-sixteen r s _ (alike a o)) (S.turned-away r s n e) (a ∙ ap refused (sym o)) refl
 
   taken-ours : (n : ℕ) → S.record-refusal r s ≡ n → Compared r s n → is-finish (our-record r) ≡ false → refusal sixteen (our-record r) (our-state s) ≡ 0
       → Stepped r s (answer-of (our-record r) (our-state s)) (next-state (our-record r) (our-state s))
-  taken-ours zero e v f z =
-      record { line = S.line-of r s; state = S.changed r s; step = S.taken r s (quick-same r ∙ ap not f) e; says = line-same r s; leads = changed-same r s }
+  taken-ours zero e v f z = stepped (line-not-sixteen r s) (S.taken r s (quick-same r ∙ ap not f) e) (line-same r s) (changed-same r s)
   taken-ours (suc n) e (alike a o) f z = absurd (omega arith)
   taken-ours (suc n) e (repeated a o h) f z =
       let q = repeat-same r s h in
-      record { line = S.refused (suc n); state = s; step = S.turned-away r s n e; says = a ∙ sym (q .1); leads = sym (q .2) }
+      stepped (turned-not-sixteen r s _ (repeated a o h)) (S.turned-away r s n e) (a ∙ sym (q .1)) (sym (q .2))
 
 pub steps-ours : Steps-ours
-unfolding Steps-ours repeats answer-in our-phase our-held S.idle-again idle-state
+unfolding Steps-ours
 steps-ours r s a t h st = go (our-record r) (our-state s) a t refl refl st
   where
     there : Compared r s (S.record-refusal r s)
     there = compared r s _ refl
 
     as-ours : {a b : Answer} {t u : State} → Stepped r s a t → a ≡ b → t ≡ u → Stepped r s b u
-    as-ours p e d = record { line = p .line; state = p .state; step = p .step; says = p .says ∙ e; leads = p .leads ∙ d }
+    as-ours p e d = rw (sym e, sym d) p
+
+    finish-ours : {a : Answer} {t : State} → our-record r ≡ finish-record → Stepped S.finish-round s a t → Stepped r s a t
+    finish-ours d p = rw (finish-only r d) p
 
     go : (o : Record) (u : State) (a : Answer) (t : State) → our-record r ≡ o → our-state s ≡ u → Steps sixteen o u a t → Stepped r s a t
     go _ _ _ _ d c (refuses o u e) =
@@ -133,24 +229,9 @@ steps-ours r s a t h st = go (our-record r) (our-state s) a t refl refl st
         as-ours (turned-ours r s _ refl there (λ z. e (sym same ∙ z))) (ap refused same) c
     go _ _ _ _ d c (accepts o u f e) =
         as-ours (taken-ours r s _ refl there (ap is-finish d ∙ f) (ap₂ (refusal sixteen) d c ∙ e)) (ap₂ answer-of d c) (ap₂ next-state d c)
-    go _ _ _ _ d c (totals-up u f e w) =
-        let fine = finish-back s (ap (refusal sixteen finish-record) c ∙ e) in
-        let a : explained-by sixteen (our-state s) f ≡ true = ap (λ (u : State). explained-by sixteen u f) c ∙ w in
-        subst (λ (r : S.Record). Stepped r s (totalled (u .round) (totals-by sixteen u f)) (idle-state u)) (sym (finish-only r d))
-        (record {
-          line = S.told-total (s .round) (S.totals s f);
-          state = S.idle-again s;
-          step = S.summed s f fine (explained s h fine f ∙ a);
-          says = ap (totalled (s .round)) (totals-same s (finish-good s h fine) f a) ∙ ap (λ (u : State). totalled (u .round) (totals-by sixteen u f)) c;
-          leads = ap idle-state c;
-        })
+    go _ _ _ _ d c (totals-up u k f e w) =
+        finish-ours d (subst (λ (u : State). refusal sixteen finish-record u ≡ 0 → settled-by sixteen u k f
+        → Stepped S.finish-round s (totalled (u .round) k (totals-by sixteen u f)) (idle-state u)) c (λ e. settled-ours s h (finish-back s e) k f) e w)
     go _ _ _ _ d c (disagrees u e w) =
-        let fine = finish-back s (ap (refusal sixteen finish-record) c ∙ e) in
-        subst (λ (r : S.Record). Stepped r s (refused 16) u) (sym (finish-only r d))
-        (record {
-          line = S.refused 16;
-          state = s;
-          step = S.unexplained s fine (λ f a. w f (sym (ap (λ (u : State). explained-by sixteen u f) c) ∙ sym (explained s h fine f) ∙ a));
-          says = refl;
-          leads = c;
-        })
+        finish-ours d (subst (λ (u : State). refusal sixteen finish-record u ≡ 0 → apart-in sixteen u
+        → Stepped S.finish-round s (refused 16) u) c (λ e. apart-ours s h (finish-back s e)) e w)

@@ -6,15 +6,20 @@
 --   our-record                     our records
 --   repeats                        whether a record brings the very element that is held
 --   answer-in                      our answer to a record, in a state, where document 03 has a line: silent, if that is 13 for a repeat
+--   Fits                           an airfield, of at least U + 2 that replied, without whose reply all others are explained
+--   Beside                         our answer and next state where document 03 has a line and a next state: the same, by answer-in, but
+--                                  where it has 16 and an airfield fits; there ours is the total, and the round is over
 -- Assumes nothing: these are definitions.
 use mathlib.Core.Path.{_≡_}
-use mathlib.Core.Bool.{Bool, false, _&&_, cond}
+use mathlib.Core.Logic.{_≢_}
+use mathlib.Core.Bool.{Bool, true, false, _&&_, cond}
 use mathlib.Core.List.{List, [], _∷_}
 use mathlib.Core.Option.{Option}
-use Prim.Native.Nat.{ℕ, zero, suc}
+use Prim.Native.Nat.{ℕ, zero, suc, _+_, _≤_, _<_}
 use lib.Dec.{eqb}
 use Rattle.scheme.specs.Scheme.{Plan}
 use Rattle.scheme.specs.Service.{Phase, unplanned, idle, gathering, replying, State, nothing, with-element, Record, plan-record, open-record, first-record, close-record, reply-record, finish-record, Answer, silent, planned, opened, closed, totalled, refused}
+use Rattle.scheme.specs.Aside.{without}
 use Rattle.plan.specs.declared.Use.the-variants.{Counts}
 use Rattle.client.specs.declared.Client.{Client}
 use Rattle.client.specs.Client.{stage-of, stage-of-number}
@@ -79,5 +84,21 @@ answer-in r s S.silent = silent
 answer-in r s (S.told-plan p) = planned (our-plan p)
 answer-in r s (S.told-open n) = opened n
 answer-in r s (S.told-close n v) = closed n v
-answer-in r s (S.told-total n l) = totalled n l
+answer-in r s (S.told-total n l) = totalled n 0 l
 answer-in r s (S.refused n) = cond (repeats r s && eqb n 13) silent (refused n)
+
+-- ---- item 6 of document 02, in document 03's words: one reply set aside
+-- an airfield whose reply is complete, and sums and noise that explain those of all others
+pub record Fits (s : S.State) (k : ℕ) (f : ℕ → List ℕ) : Type 0 where
+  pub many : s .plan-of .u + 2 ≤ D.ones (s .plan-of .k) (S.replied s)
+  pub low : 1 ≤ k
+  pub high : k ≤ s .plan-of .k
+  pub inside : D.in-set (S.replied s) k ≡ true
+  pub others : (b : ℕ) → b < s .plan-of .m → S.explains (s .plan-of) (without (S.replied s) k) b (s .replies) (f b) ≡ true
+
+-- 16 stays where none fits; where one does, ours names it, tells the total of all survivors and is idle, as after every total
+pub data Beside (s : S.State) : S.Record → S.Line → S.State → Answer → S.State → Type 0 where
+  same : (r : S.Record) (l : S.Line) (t : S.State) → l ≢ S.refused 16 → Beside s r l t (answer-in r s l) t
+  apart : ((k : ℕ) (f : ℕ → List ℕ) → Fits s k f → ⊥) → Beside s S.finish-round (S.refused 16) s (refused 16) s
+  aside : (k : ℕ) (f : ℕ → List ℕ) → Fits s k f →
+      Beside s S.finish-round (S.refused 16) s (totalled (s .round) k (S.totals s f)) (S.idle-again s)

@@ -58,7 +58,7 @@ module _ (A : Arithmetic) (k : ℕ) (f : List ℕ) where
   unfolding idle-state
   steps-first _ _ _ _ (refuses r s e) h c = c
   steps-first _ _ _ _ (accepts r s g e) h c = next-first r s h c
-  steps-first _ _ _ _ (totals-up s g e x) h c = nothing-carried k f
+  steps-first _ _ _ _ (totals-up s z g e x) h c = nothing-carried k f
   steps-first _ _ _ _ (disagrees s e x) h c = c
 
   next-reply : (r : Record) (s : State) → Reply-of k f r → Carried k f (s .replies) → Carried k f (next-state r s .replies)
@@ -74,7 +74,7 @@ module _ (A : Arithmetic) (k : ℕ) (f : List ℕ) where
   unfolding idle-state
   steps-reply _ _ _ _ (refuses r s e) h c = c
   steps-reply _ _ _ _ (accepts r s g e) h c = next-reply r s h c
-  steps-reply _ _ _ _ (totals-up s g e x) h c = nothing-carried k f
+  steps-reply _ _ _ _ (totals-up s z g e x) h c = nothing-carried k f
   steps-reply _ _ _ _ (disagrees s e x) h c = c
 
 -- ---- who survived
@@ -102,7 +102,7 @@ module _ (A : Arithmetic) where
   unfolding Survived idle-state is-replying
   steps-survived _ _ _ _ (refuses r s e) w = w
   steps-survived _ _ _ _ (accepts r s g e) w = next-survived r s e w
-  steps-survived _ _ _ _ (totals-up s g e x) w = λ h. absurd (holds h)
+  steps-survived _ _ _ _ (totals-up s z g e x) w = λ h. absurd (holds h)
   steps-survived _ _ _ _ (disagrees s e x) w = w
 
 -- ---- lists of calls

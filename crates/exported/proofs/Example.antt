@@ -32,13 +32,14 @@ unfolding inverse inverse-from modular-laws padded unknown-at
     Lists.all-of Totals.explains Totals.explains-all Totals.total-of Totals.totals
     Service.has-plan Service.is-gathering Service.is-replying Service.plan-missing Service.second-plan Service.not-gathering Service.not-replying
     Service.element-refusal Service.is-held Service.element-of Service.takes Service.set-of Service.complete-set Service.gathered
-    Service.replied Service.explained-by Service.totals-by
+    Service.replied Service.totals-by
     Client.stage-of Client.stage-of-number Client.stage-number
     View.phase-of View.stored View.look View.view
     Calls.nothing-first Calls.nothing-reply Calls.plan-refusal Calls.planned Calls.plan-step Calls.open-refusal Calls.opened
     Calls.open-step Calls.first-refusal Calls.first-left Calls.reply-refusal Calls.reply-left Calls.close-refusal
     Calls.closed Calls.close-step told
-    Finish.rows-of Finish.values-of Finish.choice-of Finish.choice Finish.finish-refusal Finish.finish-answer Finish.finish-step Finish.finished
+    Finish.rows-of Finish.values-of Finish.all-elements Finish.choice-of Finish.agree Finish.aside-of Finish.heard Finish.is-settled
+    Finish.choice Finish.finish-refusal Finish.finish-answer Finish.finish-step Finish.finished
     Ends.code-stage Ends.end-at Ends.start-left Ends.kept Ends.part-by
     Lent.phase-at Lent.phase-number Lent.head-at Lent.numbers Lent.plan-left Lent.open-left Lent.close-left Lent.finish-left Lent.finish-totals
     number-of leaves handed answers end-calls calls example-given example-calls

@@ -13,6 +13,7 @@ use Rattle.reading.specs.declared.Reading.the-variants as read
 use Rattle.reading.specs.declared.Residue.{Residue}
 use Rattle.reading.specs.declared.Residue.the-variants as given
 use Rattle.service.specs.Calls.{first-left, reply-left}
+use Rattle.finish.specs.Finish.{finish-answer, finish-step}
 use Rattle.capi.specs.Ends.{end-at, start-left, part-by}
 use Rattle.capi.specs.Lent.{Arrays, arrays, plan-left, open-left, close-left, finish-left, finish-totals}
 use Rattle.capi.specs.Meaning.{as-reading, as-residue}
@@ -41,7 +42,7 @@ no-element (given.Refused n) h = refl
 no-element (given.Element x) h = absurd (h refl)
 
 pub refused-unchanged : Refused-unchanged
-unfolding number-of finish-totals start-left part-by
+unfolding number-of finish-totals finish-step finish-answer start-left part-by
 refused-unchanged =
     record {
       list-kept = λ p s o h. after-refused h _ o;
@@ -54,4 +55,5 @@ refused-unchanged =
       value-nought = λ n t h. no-value _ h;
       element-nought = λ p z h. no-element _ h;
       totals-kept = λ a o h. after-refused h _ o;
+      aside-nought = λ a h. after-refused h _ 0;
     }

@@ -1,6 +1,9 @@
 -- Demand 2 from end to end on lent memory.
 --   Finishes, finishes   what holds where finish is not refused by 11, 12 or 15
---   round-residues, round-right, signed-total    the statements of specs/Round.antt
+--   sent-held            what the service holds of the calls of a round
+--   finished-right       what finish hands back and leaves in the lent buffer, from what the service's own call gives
+--   totals-read          what cutawheno_read_total reads of totals of signed figures
+--   round-residues, round-right, signed-total, aside-residues, aside-right, aside-signed    the statements of specs/Round.antt
 -- Assumes nothing.
 use mathlib.Core.Path.{_≡_, refl, sym, ap, _∙_, subst}
 use mathlib.Core.Logic.{_≢_}
@@ -12,8 +15,10 @@ use lib.Dec.{leb}
 use lib.ListN.{getD, take}
 use Rattle.scheme.specs.Limits.{most-places}
 use Rattle.scheme.specs.Lists.{span, padded, filled}
-use Rattle.scheme.specs.Scheme.{sixteen, plan-good, places, in-set, ones, total-at, unless, _then_, after}
-use Rattle.scheme.specs.Signed.{residues}
+use Rattle.scheme.specs.Scheme.{sixteen, Plan, plan-good, places, in-set, ones, total-at, unless, _then_, after}
+use Rattle.scheme.specs.Promise.{Table}
+use Rattle.scheme.specs.Signed.{Changes, changes-good, residues, change-total}
+use Rattle.scheme.specs.Aside.{without}
 use Rattle.scheme.specs.Service.{has-plan, is-replying, plan-missing, not-replying, State, gathered, replied, Record, open-record, finish-record, Answer, refusal, opened-state, next-state, Steps}
 use Rattle.scheme.proofs.Tests.{holds}
 use Rattle.scheme.proofs.Refusals.{then-assoc, after-taken}
@@ -22,6 +27,7 @@ use Rattle.scheme.proofs.Padded.{filled-take}
 use Rattle.scheme.proofs.Signed.{sixteen-whole}
 use Rattle.scheme.proofs.Whole.{total-fits, totals-whole, changes-admissible}
 use Rattle.scheme.proofs.Pooling.Held.{complete-held}
+use Rattle.scheme.proofs.Pooling.Without.{without-in}
 use Rattle.solve.specs.Solve.{laws16}
 use Rattle.plan.specs.Plan.{plan-of, code-use}
 use Rattle.client.specs.Shown as client
@@ -37,9 +43,9 @@ use Rattle.capi.specs.Meaning.{as-reading, total-read}
 use Rattle.capi.proofs.Stands.{calls-stand}
 use Rattle.round.specs.Round as round
 use Rattle.round.proofs.Round as round-proved
-use Rattle.exported.specs.Runs.{Call, open-call, plan-in, number-of, leaves, run}
-use Rattle.exported.specs.Shown.{calls, Same-given}
-use Rattle.exported.specs.Round.{Each-taken, First-of, Reply-of, arrays-behind, Round-residues, Round-right, Signed-total}
+use Rattle.exported.specs.Runs.{Call, open-call, plan-in, finish-hands, number-of, leaves, run}
+use Rattle.exported.specs.Shown.{Lent, calls, Same-given}
+use Rattle.exported.specs.Round.{Each-taken, First-of, Reply-of, arrays-behind, replied-in, Pooled, Round-residues, Round-right, Signed-total, Aside-residues, Aside-right, Aside-signed}
 use Rattle.exported.proofs.Runs.{step-right, run-formed, zeros-formed}
 use Rattle.exported.proofs.Shown.{same-given}
 use Rattle.exported.proofs.Carried.{Carried, nothing-carried, steps-first, steps-reply, Survived, steps-survived, run-keeps}
@@ -98,53 +104,84 @@ module _ (a : Arrays) (w : Formed sixteen (state a)) (r : ℕ) (e : number-of (o
   unfolding next-state opened-state Survived is-replying
   survived = keeps Survived (λ r. Unit {0}) (λ r s t b h u. steps-survived sixteen r s t b h) (every cs (leaves (open-call r) a)) (λ h. absurd (holds h))
 
+-- ---- the arrays behind a round whose replies of some users are what the calls gave
+module _ (before cs : List Call) (r heard : ℕ) (is-signed : (k : ℕ) → ℕ) (xs : List ℕ) (x : Table) (lent : (k : ℕ) → Lent) (o : List ℕ)
+    (h : Pooled before cs r heard is-signed xs x lent o) where
+  abbrev a : Arrays
+  a = arrays-behind before r cs
+
+  begun : Formed sixteen (state (run before zeros))
+  begun = run-formed before zeros zeros-formed
+
+  formed : Formed sixteen (state a)
+  formed = end-formed (run before zeros) begun r (h .opens) cs
+
+  finishing : Finishes (state a)
+  unfolding number-of
+  finishing = finishes (state a) (h .planned) (h .replying) (h .enough)
+
+  survivor : (k : ℕ) → in-set (state a .head .survivors) k ≡ true → in-set (gathered (view (state a))) k ≡ true
+  unfolding Survived view
+  survivor k m = ap (λ (u : ℕ). in-set u k) (sym (survived (run before zeros) begun r (h .opens) cs (finishing .replying))) ∙ m
+
+  same : (k : ℕ) → calls (plan-in a) (is-signed k) xs (x k) (state a .head .survivors) k (lent k)
+      ≡ client.calls sixteen (plan-in a) (code-use (is-signed k)) xs (x k) (state a .head .survivors) k (lent k .key-buffer) (lent k .buffer)
+  unfolding Same-given
+  same k = same-given (plan-in a) (is-signed k) xs (x k) (state a .head .survivors) k (lent k)
+
+  -- of users whose replies are whole
+  sent-held : ((k : ℕ) → 1 ≤ k → in-set heard k ≡ true → in-set (replied-in a) k ≡ true)
+      → round.Sent-in sixteen (state a) heard (λ k. code-use (is-signed k)) xs x (λ k. lent k .key-buffer) (λ k. lent k .buffer)
+  unfolding gathered replied view
+  sent-held whole =
+      record {
+        first = λ k i lo hi m l.
+            first-carried (run before zeros) begun r (h .opens) cs k _ (h .sent .first k lo hi m) .right i
+            (complete-held (plan-of (plan-in a)) (view (state a) .firsts) (places (plan-of (plan-in a))) k lo hi (survivor k m) i l)
+            ∙ ap (λ (g : Handed). getD (g .message) i 0) (same k);
+        answer = λ k b lo hi m l.
+            reply-carried (run before zeros) begun r (h .opens) cs k _ (h .sent .answer k lo hi m) .right b
+            (complete-held (plan-of (plan-in a)) (view (state a) .replies) (plan-in a .blocks) k lo hi (whole k lo m) b l)
+            ∙ ap (λ (g : Handed). getD (g .part) b 0) (same k);
+      }
+
+-- ---- the statements
+finished-right : (a : Arrays) (o : List ℕ) (k : ℕ) (l : List ℕ) → let t = finish-step sixteen laws16 (state a) in
+    (t .number ≡ 0) × (t .aside ≡ k) × (take (places (plan-of (plan-in a))) (t .totals) ≡ l)
+    → (finish-hands a ≡ record { number = 0; aside = k }) × (finish-totals a o ≡ padded most-places l)
+unfolding finish-step finish-answer finish-totals
+finished-right a o k l t = (
+  λ i. record { number = t .0 i; aside = t .1 i },
+  after-taken (t .0) _ o ∙ totals-padded sixteen laws16 (state a) _ (t .0) ∙ ap (padded most-places) (t .2),
+)
+
 pub round-residues : Round-residues
-unfolding Round-residues run number-of finish-step finish-answer finish-totals Survived Same-given gathered replied view filled round.Round-residues
+unfolding Round-residues round.Round-residues filled
 round-residues before cs r is-signed xs x lent o h rows =
-    let done = round-proved.round-residues-sixteen s (λ k. code-use (is-signed k)) xs x (λ k. lent k .key-buffer) (λ k. lent k .buffer)
-    formed (f .untested) (h .list) rows (h .room) held in
-    (done .0, after-taken (done .0) _ o ∙ totals-padded sixteen laws16 s _ (done .0) ∙ ap (padded most-places) (done .1))
-  where
-    start : Arrays
-    start = run before zeros
+    let a = arrays-behind before r cs in
+    let held = sent-held before cs r (replied-in a) is-signed xs x lent o h (λ k lo m. m) in
+    let w = formed before cs r (replied-in a) is-signed xs x lent o h in
+    let f = finishing before cs r (replied-in a) is-signed xs x lent o h in
+    finished-right a o _ _ (round-proved.round-residues-sixteen (state a) (λ k. code-use (is-signed k)) xs x (λ k. lent k .key-buffer)
+    (λ k. lent k .buffer) w (f .untested) (h .list) rows (h .room) held)
 
-    begun : Formed sixteen (state start)
-    begun = run-formed before zeros zeros-formed
-
-    a : Arrays
-    a = run cs (leaves (open-call r) start)
-
-    s : Service
-    s = state a
-
-    formed : Formed sixteen s
-    formed = end-formed start begun r (h .opens) cs
-
-    f : Finishes s
-    f = finishes s (h .planned) (h .replying) (h .enough)
-
-    v : ℕ
-    v = s .head .survivors
-
-    same : (k : ℕ) → calls (plan-in a) (is-signed k) xs (x k) v k (lent k)
-        ≡ client.calls sixteen (plan-in a) (code-use (is-signed k)) xs (x k) v k (lent k .key-buffer) (lent k .buffer)
-    same k = same-given (plan-in a) (is-signed k) xs (x k) v k (lent k)
-
-    survivor : (k : ℕ) → in-set v k ≡ true → in-set (gathered (view s)) k ≡ true
-    survivor k m = ap (λ (u : ℕ). in-set u k) (sym (survived start begun r (h .opens) cs (f .replying))) ∙ m
-
-    held : round.Sent-in sixteen s (λ k. code-use (is-signed k)) xs x (λ k. lent k .key-buffer) (λ k. lent k .buffer)
-    held =
-        record {
-          first = λ k i lo hi m l.
-              first-carried start begun r (h .opens) cs k _ (h .sent .first k lo hi m) .right i
-              (complete-held (plan-of (plan-in a)) (view s .firsts) (places (plan-of (plan-in a))) k lo hi (survivor k m) i l)
-              ∙ ap (λ (g : Handed). getD (g .message) i 0) (same k);
-          answer = λ k b lo hi m l.
-              reply-carried start begun r (h .opens) cs k _ (h .sent .answer k lo hi m) .right b
-              (complete-held (plan-of (plan-in a)) (view s .replies) (plan-in a .blocks) k lo hi m b l)
-              ∙ ap (λ (g : Handed). getD (g .part) b 0) (same k);
-        }
+pub aside-residues : Aside-residues
+unfolding Aside-residues round.Aside-residues filled
+aside-residues before cs r z is-signed xs x lent o b rows =
+    let a = arrays-behind before r cs in
+    let others = without (replied-in a) z in
+    let h = b .pooled in
+    let held = sent-held before cs r others is-signed xs x lent o h (λ k lo m. without-in (replied-in a) z k (b .low) (b .inside) lo m .1) in
+    let w = formed before cs r others is-signed xs x lent o h in
+    let f = finishing before cs r others is-signed xs x lent o h in
+    finished-right a o _ _ (round-proved.aside-residues-sixteen (state a) z (λ k. code-use (is-signed k)) xs x (λ k. lent k .key-buffer)
+    (λ k. lent k .buffer) w (f .untested) (h .list) rows (h .room) (record {
+      low = b .low;
+      high = b .high;
+      inside = b .inside;
+      many = b .many;
+      others = held;
+    }))
 
 pub round-right : Round-right
 unfolding Round-right Round-residues filled
@@ -155,16 +192,39 @@ round-right before cs r xs x lent o h rows =
     let done = round-residues before cs r (λ k. 0) xs x lent o h rows in
     (done .0, done .1 ∙ ap (padded most-places) (totals-whole sixteen p x v rows sixteen-whole), total-fits sixteen p x v rows)
 
-pub signed-total : Signed-total
-unfolding Signed-total Round-residues as-reading filled
-signed-total before cs r n m xs z lent o h good =
+pub aside-right : Aside-right
+unfolding Aside-right Aside-residues filled
+aside-right before cs r z xs x lent o h rows =
     let a = arrays-behind before r cs in
     let p = plan-of (plan-in a) in
     let v = state a .head .survivors in
-    let done = round-residues before cs r (λ k. suc (n k)) xs (residues sixteen z) lent o h (changes-admissible sixteen p (in-set v) z good) in (
-      done .0,
-      ap (λ (l : List ℕ). map (total-read (suc m)) (take (places p) l)) (done .1)
-          ∙ ap (map (total-read (suc m))) (filled-take most-places (total-at sixteen p (residues sixteen z) v) (places p))
-          ∙ map-map (total-read (suc m)) (total-at sixteen p (residues sixteen z) v) (span (places p) 0)
-          ∙ map-below-same _ _ (places p) (λ i l. ap as-reading (round-proved.total-is-read sixteen laws16 sixteen-whole p z v good i)),
-    )
+    let done = aside-residues before cs r z (λ k. 0) xs x lent o h rows in
+    (done .0, done .1 ∙ ap (padded most-places) (totals-whole sixteen p x v rows sixteen-whole), total-fits sixteen p x v rows)
+
+totals-read : (p : Plan) (c : Changes) (v m : ℕ) (l : List ℕ) → changes-good sixteen p (in-set v) c
+    → l ≡ filled most-places (places p) (total-at sixteen p (residues sixteen c) v)
+    → map (total-read (suc m)) (take (places p) l) ≡ map (λ i. record { number = 0; value = change-total p c v i }) (span (places p) 0)
+unfolding as-reading
+totals-read p c v m l good e =
+    ap (λ (l : List ℕ). map (total-read (suc m)) (take (places p) l)) e
+    ∙ ap (map (total-read (suc m))) (filled-take most-places (total-at sixteen p (residues sixteen c) v) (places p))
+    ∙ map-map (total-read (suc m)) (total-at sixteen p (residues sixteen c) v) (span (places p) 0)
+    ∙ map-below-same _ _ (places p) (λ i l. ap as-reading (round-proved.total-is-read sixteen laws16 sixteen-whole p c v good i))
+
+pub signed-total : Signed-total
+unfolding Signed-total Round-residues
+signed-total before cs r n m xs c lent o h good =
+    let a = arrays-behind before r cs in
+    let p = plan-of (plan-in a) in
+    let v = state a .head .survivors in
+    let done = round-residues before cs r (λ k. suc (n k)) xs (residues sixteen c) lent o h (changes-admissible sixteen p (in-set v) c good) in
+    (done .0, totals-read p c v m _ good (done .1))
+
+pub aside-signed : Aside-signed
+unfolding Aside-signed Aside-residues
+aside-signed before cs r z n m xs c lent o h good =
+    let a = arrays-behind before r cs in
+    let p = plan-of (plan-in a) in
+    let v = state a .head .survivors in
+    let done = aside-residues before cs r z (λ k. suc (n k)) xs (residues sixteen c) lent o h (changes-admissible sixteen p (in-set v) c good) in
+    (done .0, totals-read p c v m _ good (done .1))

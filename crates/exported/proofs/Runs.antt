@@ -46,7 +46,7 @@ module _ (a : Arrays) (w : Formed sixteen (state a)) where
   step-right (reply-call k b x) = stands (calls-stand a .reply-stands k b x) (reply-steps sixteen (state a) k b x w)
   step-right (finish-call o) =
       let t = finish-step sixteen laws16 (state a) in
-      let say : List ℕ → Answer = λ l. totalled (state a .head .round) (take (places (plan-of (plan-in a))) l) in
+      let say : List ℕ → Answer = λ l. totalled (state a .head .round) (t .aside) (take (places (plan-of (plan-in a))) l) in
       stands (calls-stand a .finish-stands)
       (subst (λ (b : Answer). Is-step sixteen finish-record (state a) b (t .service)) (sym (told-after say (t .number) (t .totals) o))
       (finish-steps sixteen laws16 (state a) w))

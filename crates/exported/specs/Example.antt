@@ -45,4 +45,4 @@ pub record Example-right : Type 0 where
   pub user-2 : example-given 2 ≡ record { key = 200 ∷ 103 ∷ 22017 ∷ 230 ∷ []; message = 220 ∷ []; part = [] }
   pub user-3 : example-given 3 ≡ record { key = 300 ∷ 112 ∷ 133 ∷ 174 ∷ []; message = 330 ∷ []; part = 112 ∷ [] }
   pub answered : answers example-calls zeros
-      ≡ planned (plan-of example-plan) ∷ opened 7 ∷ silent ∷ silent ∷ closed 7 5 ∷ refused 12 ∷ silent ∷ silent ∷ totalled 7 (40 ∷ []) ∷ []
+      ≡ planned (plan-of example-plan) ∷ opened 7 ∷ silent ∷ silent ∷ closed 7 5 ∷ refused 12 ∷ silent ∷ silent ∷ totalled 7 0 (40 ∷ []) ∷ []

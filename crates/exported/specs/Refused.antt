@@ -1,5 +1,6 @@
 -- "The state and every lent buffer stay as before the call", of the exported calls, whatever the lent memory holds.
---   Refused-unchanged   of the list from bytes, key maker, airfield end and service; reader and way in are lent nothing, and hand out 0
+--   Refused-unchanged   of the list from bytes, key maker, airfield end and service; reader and way in are lent nothing, and hand out 0;
+--                       finish sets no user aside
 -- Assumes nothing: these are definitions.
 use mathlib.Core.Path.{_≡_}
 use mathlib.Core.Logic.{_≢_}
@@ -15,10 +16,10 @@ use Rattle.client.specs.Client.{begun, first-answer, message-left, reply-answer
 use Rattle.capi.specs.Ends.{end-at, start-left, kept, part-answer}
 use Rattle.capi.specs.Lent.{Arrays, finish-totals}
 use Rattle.capi.specs.Meaning.{total-read, residue-given}
-use Rattle.exported.specs.Runs.{Call, finish-call, number-of, leaves}
+use Rattle.exported.specs.Runs.{Call, finish-call, finish-hands, number-of, leaves}
 
 -- the list; the key's buffer; the end's array; array and buffer; array, and no part; the service's arrays; no value, no element; the
--- buffer for totals
+-- buffer for totals, and no user set aside
 pub record Refused-unchanged : Type 0 where
   pub list-kept : (p : Plan) (s o : List ℕ) → list-refusal sixteen (plan-of p) s (length o) ≢ 0 → list-left sixteen (plan-of p) s o ≡ o
   pub key-kept : (p : Plan) (k : ℕ) (xs o : List ℕ) → key-refusal sixteen (plan-of p) k xs (length o) ≢ 0 →
@@ -32,3 +33,4 @@ pub record Refused-unchanged : Type 0 where
   pub value-nought : (n t : ℕ) → total-read n t .number ≢ 0 → total-read n t .value ≡ pos 0
   pub element-nought : (p : Plan) (z : ℤ) → residue-given (plan-of p) z .number ≢ 0 → residue-given (plan-of p) z .element ≡ 0
   pub totals-kept : (a : Arrays) (o : List ℕ) → number-of (finish-call o) a ≢ 0 → finish-totals a o ≡ o
+  pub aside-nought : (a : Arrays) → finish-hands a .number ≢ 0 → finish-hands a .aside ≡ 0

@@ -2,33 +2,40 @@
 -- finishes as the survivors' total.
 --   Each-taken         a fact of each call of a list that is taken where it comes, refused ones left out
 --   First-of, Reply-of the records that carry an element of a user carry those of its first message, of its part
---   Sent-in            what is taken of the survivors' first messages, and of the replies of those that replied whole, is what their calls gave
 --   opened-by, arrays-behind    the arrays behind any calls and an open, and behind the round's calls too
+--   replied-in         the users whose replies arrays hold whole
+--   Sent-in            what is taken of the survivors' first messages, and of the replies of a set of users, is what their calls gave
 --   Pooled             such a round: arrays from zeros, any calls and rounds before; between, any other calls, and refused ones of survivors
 --                      too: another element (13), late (12), out of place (8), no elements (3)
+--   But-one            such a round but for the reply of one user, among at least U + 2 whole ones
+--   named-in           the user to name: that one if its reply is not the right one, and 0 if it is
+--   signed-totals      what cutawheno_read_total reads of the totals that finish leaves in the lent buffer, as those of signed figures
 --   Round-residues     the total modulo 65521, the survivors' uses in any mix
 --   Round-right        where the survivors report counts: the whole-number total
---   Signed-total       where they report signed figures: what cutawheno_read_total reads is the whole-number total
+--   Signed-total       where they report signed figures: what is read is the whole-number total
+--   Aside-residues, Aside-right, Aside-signed    the same where one reply may be false: its user is set aside exactly if it is
 -- Assumes nothing: these are definitions.
 use mathlib.Core.Path.{_≡_}
 use mathlib.Core.Logic.{_≢_}
 use mathlib.Core.Bool.{true}
 use mathlib.Core.List.{List, [], _∷_, map}
-use Prim.Native.Nat.{ℕ, suc, _≤_}
+use Prim.Native.Nat.{ℕ, suc, _+_, _≤_}
 use lib.ListN.{getD, take}
 use Rattle.scheme.specs.Limits.{most-places}
 use Rattle.scheme.specs.Lists.{span, filled}
-use Rattle.scheme.specs.Scheme.{sixteen, places, counts, in-set, total-at, whole-total}
+use Rattle.scheme.specs.Scheme.{sixteen, places, counts, in-set, ones, total-at, whole-total}
 use Rattle.scheme.specs.Promise.{Table, admissible, list-good}
 use Rattle.scheme.specs.Signed.{Changes, changes-good, residues, change-total}
 use Rattle.scheme.specs.Totals.{Totals-fit}
-use Rattle.scheme.specs.Service.{Record, plan-record, open-record, first-record, close-record, reply-record, finish-record, replied}
+use Rattle.scheme.specs.Aside.{without, named}
+use Rattle.scheme.specs.Service.{Record, plan-record, open-record, first-record, close-record, reply-record, finish-record, replied, values}
 use Rattle.plan.specs.Plan.{plan-of, use-of, code-use}
 use Rattle.client.specs.Shown.{Handed}
 use Rattle.service.specs.View.{view}
 use Rattle.capi.specs.Lent.{Arrays, zeros, state, finish-totals}
+use Rattle.capi.specs.declared.meaning.CutawhenoReading.{CutawhenoReading}
 use Rattle.capi.specs.Meaning.{total-read}
-use Rattle.exported.specs.Runs.{Call, open-call, finish-call, record-of, plan-in, number-of, leaves, run}
+use Rattle.exported.specs.Runs.{Call, open-call, finish-call, record-of, plan-in, finish-hands, number-of, leaves, run}
 use Rattle.exported.specs.Shown.{Lent, Room, calls}
 
 unfoldable pub Each-taken : (Record → Type 0) → List Call → Arrays → Type 0
@@ -58,16 +65,19 @@ opened-by before r = leaves (open-call r) (run before zeros)
 abbrev pub arrays-behind : (before : List Call) → (r : ℕ) → (round : List Call) → Arrays
 arrays-behind before r round = run round (opened-by before r)
 
--- of the calls since an open, and the arrays that the open left
-pub record Sent-in (round : List Call) (opened : Arrays) (given : (k : ℕ) → Handed) : Type 0 where
+abbrev pub replied-in : Arrays → ℕ
+replied-in a = replied (view (state a))
+
+-- of the calls since an open, and the arrays that the open left: all survivors' first messages, and the replies of the users heard
+pub record Sent-in (round : List Call) (opened : Arrays) (heard : ℕ) (given : (k : ℕ) → Handed) : Type 0 where
   pub first : let a = run round opened in (k : ℕ) → 1 ≤ k → k ≤ plan-in a .users → in-set (state a .head .survivors) k ≡ true →
       Each-taken (First-of k (given k .message)) round opened
-  pub answer : let a = run round opened in (k : ℕ) → 1 ≤ k → k ≤ plan-in a .users → in-set (replied (view (state a))) k ≡ true →
+  pub answer : (k : ℕ) → 1 ≤ k → k ≤ plan-in (run round opened) .users → in-set heard k ≡ true →
       Each-taken (Reply-of k (given k .part)) round opened
 
 -- a round that any calls open on arrays from zeros: what the exported calls of the airfields give for one random list and one table, each
--- survivor by its own use, is put in, and finish is not refused by 11, 12 or 15
-pub record Pooled (before round : List Call) (r : ℕ) (is-signed : (k : ℕ) → ℕ) (xs : List ℕ) (x : Table) (lent : (k : ℕ) → Lent) (o : List ℕ) : Type 0 where
+-- survivor by its own use, is put in, first messages and the replies of the users heard, and finish is not refused by 11, 12 or 15
+pub record Pooled (before round : List Call) (r heard : ℕ) (is-signed : (k : ℕ) → ℕ) (xs : List ℕ) (x : Table) (lent : (k : ℕ) → Lent) (o : List ℕ) : Type 0 where
   pub opens : number-of (open-call r) (run before zeros) ≡ 0
   pub planned : number-of (finish-call o) (arrays-behind before r round) ≢ 11
   pub replying : number-of (finish-call o) (arrays-behind before r round) ≢ 12
@@ -75,17 +85,34 @@ pub record Pooled (before round : List Call) (r : ℕ) (is-signed : (k : ℕ) �
   pub list : list-good sixteen (plan-of (plan-in (arrays-behind before r round))) xs ≡ true
   pub room : let p = plan-in (arrays-behind before r round) in (k : ℕ) → 1 ≤ k → k ≤ p .users → Room p k (lent k)
   pub sent : let a = arrays-behind before r round in
-      Sent-in round (opened-by before r) (λ k. calls (plan-in a) (is-signed k) xs (x k) (state a .head .survivors) k (lent k))
+      Sent-in round (opened-by before r) heard (λ k. calls (plan-in a) (is-signed k) xs (x k) (state a .head .survivors) k (lent k))
 
--- it answers 0 and leaves in the lent buffer the sums of the survivors' figures modulo 65521, place by place, and 0 behind them
+-- the reply of z may be anything; its first message is what its calls gave, as those of all survivors are
+pub record But-one (before round : List Call) (r z : ℕ) (is-signed : (k : ℕ) → ℕ) (xs : List ℕ) (x : Table) (lent : (k : ℕ) → Lent) (o : List ℕ) : Type 0 where
+  pub low : 1 ≤ z
+  pub high : z ≤ plan-in (arrays-behind before r round) .users
+  pub inside : in-set (replied-in (arrays-behind before r round)) z ≡ true
+  pub many : let a = arrays-behind before r round in plan-in a .threshold + 2 ≤ ones (plan-in a .users) (replied-in a)
+  pub pooled : Pooled before round r (without (replied-in (arrays-behind before r round)) z) is-signed xs x lent o
+
+abbrev pub named-in : Arrays → (list : List ℕ) → (z : ℕ) → ℕ
+named-in a xs z = named sixteen (plan-of (plan-in a)) xs (state a .head .survivors) z (values (view (state a) .replies) z)
+
+-- whatever number above 0 stands for signed
+abbrev pub signed-totals : (m : ℕ) → Arrays → (o : List ℕ) → List CutawhenoReading
+signed-totals m a o = map (total-read (suc m)) (take (places (plan-of (plan-in a))) (finish-totals a o))
+
+-- ---- all whole replies are what the calls gave
+-- it answers 0, sets no user aside, and leaves in the lent buffer the sums of the survivors' figures modulo 65521, place by place, and 0
+-- behind them
 unfoldable pub Round-residues : Type 0
 Round-residues =
     (before round : List Call) (r : ℕ) (is-signed : (k : ℕ) → ℕ) (xs : List ℕ) (x : Table) (lent : (k : ℕ) → Lent) (o : List ℕ) →
     let a = arrays-behind before r round in
     let p = plan-of (plan-in a) in
     let v = state a .head .survivors in
-    Pooled before round r is-signed xs x lent o → admissible sixteen p (in-set v) (λ k. use-of (code-use (is-signed k))) x →
-    (number-of (finish-call o) a ≡ 0) × (finish-totals a o ≡ filled most-places (places p) (total-at sixteen p x v))
+    Pooled before round r (replied-in a) is-signed xs x lent o → admissible sixteen p (in-set v) (λ k. use-of (code-use (is-signed k))) x →
+    (finish-hands a ≡ record { number = 0; aside = 0 }) × (finish-totals a o ≡ filled most-places (places p) (total-at sixteen p x v))
 
 -- the whole-number sums, each at most 65520
 unfoldable pub Round-right : Type 0
@@ -94,16 +121,48 @@ Round-right =
     let a = arrays-behind before r round in
     let p = plan-of (plan-in a) in
     let v = state a .head .survivors in
-    Pooled before round r (λ k. 0) xs x lent o → admissible sixteen p (in-set v) (λ k. counts) x →
-    (number-of (finish-call o) a ≡ 0) × (finish-totals a o ≡ filled most-places (places p) (whole-total p x v)) × Totals-fit sixteen p x v
+    Pooled before round r (replied-in a) (λ k. 0) xs x lent o → admissible sixteen p (in-set v) (λ k. counts) x →
+    (finish-hands a ≡ record { number = 0; aside = 0 }) × (finish-totals a o ≡ filled most-places (places p) (whole-total p x v))
+    × Totals-fit sixteen p x v
 
--- whatever numbers above 0 stand for signed: the reader gives the whole-number sums of the survivors' signed figures, place by place
+-- whatever numbers above 0 stand for signed: the whole-number sums of the survivors' signed figures, place by place
 unfoldable pub Signed-total : Type 0
 Signed-total =
-    (before round : List Call) (r : ℕ) (n : (k : ℕ) → ℕ) (m : ℕ) (xs : List ℕ) (z : Changes) (lent : (k : ℕ) → Lent) (o : List ℕ) →
+    (before round : List Call) (r : ℕ) (n : (k : ℕ) → ℕ) (m : ℕ) (xs : List ℕ) (c : Changes) (lent : (k : ℕ) → Lent) (o : List ℕ) →
     let a = arrays-behind before r round in
     let p = plan-of (plan-in a) in
     let v = state a .head .survivors in
-    Pooled before round r (λ k. suc (n k)) xs (residues sixteen z) lent o → changes-good sixteen p (in-set v) z →
-    (number-of (finish-call o) a ≡ 0)
-    × (map (total-read (suc m)) (take (places p) (finish-totals a o)) ≡ map (λ i. record { number = 0; value = change-total p z v i }) (span (places p) 0))
+    Pooled before round r (replied-in a) (λ k. suc (n k)) xs (residues sixteen c) lent o → changes-good sixteen p (in-set v) c →
+    (finish-hands a ≡ record { number = 0; aside = 0 })
+    × (signed-totals m a o ≡ map (λ i. record { number = 0; value = change-total p c v i }) (span (places p) 0))
+
+-- ---- all whole replies but that of z are what the calls gave: the same totals, and z is set aside exactly if its reply is not the right one
+unfoldable pub Aside-residues : Type 0
+Aside-residues =
+    (before round : List Call) (r z : ℕ) (is-signed : (k : ℕ) → ℕ) (xs : List ℕ) (x : Table) (lent : (k : ℕ) → Lent) (o : List ℕ) →
+    let a = arrays-behind before r round in
+    let p = plan-of (plan-in a) in
+    let v = state a .head .survivors in
+    But-one before round r z is-signed xs x lent o → admissible sixteen p (in-set v) (λ k. use-of (code-use (is-signed k))) x →
+    (finish-hands a ≡ record { number = 0; aside = named-in a xs z })
+    × (finish-totals a o ≡ filled most-places (places p) (total-at sixteen p x v))
+
+unfoldable pub Aside-right : Type 0
+Aside-right =
+    (before round : List Call) (r z : ℕ) (xs : List ℕ) (x : Table) (lent : (k : ℕ) → Lent) (o : List ℕ) →
+    let a = arrays-behind before r round in
+    let p = plan-of (plan-in a) in
+    let v = state a .head .survivors in
+    But-one before round r z (λ k. 0) xs x lent o → admissible sixteen p (in-set v) (λ k. counts) x →
+    (finish-hands a ≡ record { number = 0; aside = named-in a xs z })
+    × (finish-totals a o ≡ filled most-places (places p) (whole-total p x v)) × Totals-fit sixteen p x v
+
+unfoldable pub Aside-signed : Type 0
+Aside-signed =
+    (before round : List Call) (r z : ℕ) (n : (k : ℕ) → ℕ) (m : ℕ) (xs : List ℕ) (c : Changes) (lent : (k : ℕ) → Lent) (o : List ℕ) →
+    let a = arrays-behind before r round in
+    let p = plan-of (plan-in a) in
+    let v = state a .head .survivors in
+    But-one before round r z (λ k. suc (n k)) xs (residues sixteen c) lent o → changes-good sixteen p (in-set v) c →
+    (finish-hands a ≡ record { number = 0; aside = named-in a xs z })
+    × (signed-totals m a o ≡ map (λ i. record { number = 0; value = change-total p c v i }) (span (places p) 0))

@@ -1,6 +1,7 @@
 -- The exported service calls one after the other, over the arrays that the caller lends, as their contracts have them.
 --   Call, record-of        a call with what it is given; the record of document 01 that it stands for
 --   plan-in                the plan that arrays hold
+--   finish-hands           what finish hands back: its number, and the user set aside
 --   number-of, leaves      the number that a call hands back, and the arrays that it leaves
 --   handed, answer-to      what it hands back beside the number, and with it: document 01's answer
 --   run, answers           the arrays after a list of calls, and what the calls answered
@@ -20,7 +21,8 @@ use Rattle.service.specs.View.{view, Formed}
 use Rattle.service.specs.Calls.{plan-step, open-step, first-refusal, first-left, close-step, reply-refusal, reply-left}
 use Rattle.service.specs.Promise.{told}
 use Rattle.finish.specs.Finish.{finish-step}
-use Rattle.capi.specs.Lent.{Arrays, arrays, zeros, head-at, state, plan-left, open-left, closed-answer, close-left, finish-left, finish-totals}
+use Rattle.capi.specs.declared.pooling.CutawhenoFinished.{CutawhenoFinished}
+use Rattle.capi.specs.Lent.{Arrays, arrays, zeros, head-at, state, plan-left, open-left, closed-answer, close-left, finished-answer, finish-left, finish-totals}
 
 -- finish is lent a buffer for the totals
 pub data Call : Type 0 where
@@ -42,13 +44,16 @@ record-of (finish-call o) = finish-record
 abbrev pub plan-in : Arrays → Plan
 plan-in a = state a .head .plan
 
+abbrev pub finish-hands : Arrays → CutawhenoFinished
+finish-hands a = finished-answer (finish-step sixteen laws16 (state a))
+
 unfoldable pub number-of : Call → Arrays → ℕ
 number-of (plan-call p) a = plan-step (state a) p .number
 number-of (open-call r) a = open-step (state a) r .number
 number-of (first-call k i x) a = first-refusal sixteen (head-at (a .head)) (a .first) k i x
 number-of close-call a = closed-answer (close-step (state a)) .number
 number-of (reply-call k b x) a = reply-refusal sixteen (head-at (a .head)) (a .reply) k b x
-number-of (finish-call o) a = finish-step sixteen laws16 (state a) .number
+number-of (finish-call o) a = finish-hands a .number
 
 unfoldable pub leaves : Call → Arrays → Arrays
 leaves (plan-call p) a = plan-left a p
@@ -58,14 +63,14 @@ leaves close-call a = close-left a
 leaves (reply-call k b x) a = arrays (a .head) (a .first) (reply-left sixteen (head-at (a .head)) (a .reply) k b x)
 leaves (finish-call o) a = finish-left a
 
--- of a taken call: the set that close hands back; the totals are the first L of the lent buffer as finish leaves it
+-- of a taken call: the set that close hands back; the user that finish sets aside; the totals are the first L of the lent buffer as it leaves it
 unfoldable pub handed : Call → Arrays → Answer
 handed (plan-call p) a = planned (plan-of p)
 handed (open-call r) a = opened r
 handed (first-call k i x) a = silent
 handed close-call a = closed (state a .head .round) (closed-answer (close-step (state a)) .set)
 handed (reply-call k b x) a = silent
-handed (finish-call o) a = totalled (state a .head .round) (take (places (plan-of (plan-in a))) (finish-totals a o))
+handed (finish-call o) a = totalled (state a .head .round) (finish-hands a .aside) (take (places (plan-of (plan-in a))) (finish-totals a o))
 
 abbrev pub answer-to : Call → Arrays → Answer
 answer-to c a = told (number-of c a) (handed c a)

@@ -1,13 +1,11 @@
 -- One block: the closed solution of the first U complete replies, over an arithmetic with its laws.
---   columns-points, users-few, enough-rows, rows-square, listed-few, listed-points      the points of columns and rows
---   value-at, values-small         the reply of a row; where the replies are elements
+--   column-at, columns-points, users-few, enough-rows, rows-square, listed-few, listed-points      the points of columns and rows
+--   value-at                       the reply of a row
 --   explained-small                replies that something explains are elements
 --   choice-first                   where they are elements the closed solution explains the first U of them
---   further-fit                    whether the further replies fit too
---   explains-further, fits-further     if so it explains all, and where it explains all they fit
 -- Assumes nothing.
 use mathlib.Core.Path.{_≡_, refl, sym, _∙_, subst}
-use mathlib.Core.Bool.{Bool, true}
+use mathlib.Core.Bool.{true}
 use mathlib.Core.List.{List, map}
 use Prim.Native.Nat.{ℕ, _+_, _≤_, _<_}
 use native.Mathlib.Omega.{arith}
@@ -20,7 +18,7 @@ use Rattle.scheme.specs.Lists.{span, all-of, padded, filled}
 use Rattle.scheme.specs.Scheme.{Arithmetic, Plan, ones, users-in, in-set}
 use Rattle.scheme.specs.Laws.{Laws}
 use Rattle.scheme.specs.Good.{Good}
-use Rattle.scheme.specs.Solve.{Points, Square, solution-of, fits-of}
+use Rattle.scheme.specs.Solve.{Points, Square, solution-of}
 use Rattle.scheme.specs.Totals.{explains-all}
 use Rattle.scheme.proofs.Lists.{map-span-length, in-span, members-once, members-le, all-of-in, in-at}
 use Rattle.scheme.proofs.Sums.{row-value-small}
@@ -28,11 +26,11 @@ use Rattle.scheme.proofs.Sets.{users-in-in, users-in-size}
 use Rattle.scheme.proofs.Pooling.Totals.{at-apart, unknown, Explained, explained}
 use Rattle.scheme.proofs.Padded.{padded-at, map-at}
 use Rattle.scheme.proofs.Solving.Closed.{points-some}
-use Rattle.scheme.proofs.Solving.Explains.{Block, explains-first, fits-explains, explains-fits}
+use Rattle.scheme.proofs.Solving.Explains.{Block, explains-first}
 use Rattle.finish.specs.Finish.{rows-of, values-of, columns, choice-of}
 
 -- ---- the points
-column-at : (i : ℕ) → i < most-threshold → getD columns i 0 ≡ i + 1
+pub column-at : (i : ℕ) → i < most-threshold → getD columns i 0 ≡ i + 1
 unfolding all-of padded
 column-at i h =
     let n : ℕ = most-threshold in
@@ -90,9 +88,6 @@ module _ (p : Plan) (r : ℕ) (y : (k block : ℕ) → ℕ) where
       padded-at most-users (map (λ k. y k b) (users-in p r)) a (omega (arith, length-map (users-in p r) (λ k. y k b)))
       ∙ map-at (λ k. y k b) (users-in p r) a h
 
-  pub values-small : (size b : ℕ) → ((k : ℕ) → y k b < size) → (a : ℕ) → a < length (users-in p r) → getD (values-of p r y b) a 0 < size
-  values-small size b h a l = rw (value-at b a l) (h (getD (users-in p r) a 0))
-
 -- ---- what explains them
 module _ (A : Arithmetic) (L : Laws A most-users most-threshold) (p : Plan) (r : ℕ) where
   pub explained-small : (y : (k block : ℕ) → ℕ) (f : (block : ℕ) → List ℕ) → explains-all A p r y f ≡ true
@@ -109,11 +104,6 @@ module _ (A : Arithmetic) (L : Laws A most-users most-threshold) (p : Plan) (r :
     abbrev pub Explains : (n : ℕ) (unknowns : List ℕ) → Type 0
     Explains n = Explained A p (users-in p r) n (λ k. y k b)
 
-    abbrev pub further-fit : Bool
-    further-fit =
-        fits-of A (rows-of p r) columns (values-of p r y b) (solution-of A L (rows-of p r) columns (values-of p r y b) (p .threshold))
-        (p .threshold) (length (users-in p r))
-
     module _ (small : (a : ℕ) → a < length (users-in p r) → getD (values-of p r y b) a 0 < A .size) where
       block : Block A p (users-in p r) (length (users-in p r)) (λ k. y k b) (rows-of p r) columns (values-of p r y b)
       block = record {
@@ -126,9 +116,3 @@ module _ (A : Arithmetic) (L : Laws A most-users most-threshold) (p : Plan) (r :
 
       pub choice-first : Explains (p .threshold) (choice-of A L p r y b)
       choice-first = subst (Explains (p .threshold)) choice-take (explains-first A L _ _ _ _ _ _ _ block (rows-square p r good many))
-
-      pub explains-further : further-fit ≡ true → Explains (length (users-in p r)) (choice-of A L p r y b)
-      explains-further e = subst (Explains _) choice-take (fits-explains A L _ _ _ _ _ _ _ block (rows-square p r good many) e)
-
-      pub fits-further : Explains (length (users-in p r)) (choice-of A L p r y b) → further-fit ≡ true
-      fits-further e = explains-fits A L _ _ _ _ _ _ _ block (rows-square p r good many) (subst (Explains _) (sym choice-take) e)

@@ -2,6 +2,8 @@
 pub mod Turns
 pub mod Blocks
 pub mod Systems
+pub mod Seeking
+pub mod Searching
 pub mod Totalling
 pub mod Answers
 pub mod Steps

@@ -1,41 +1,79 @@
--- All blocks, as the code solves them, over an arithmetic with its laws.
---   reply-cell, grid-elements                                   the grid of the replies: one of them; where they are elements
---   system-few, system-many, system-points, system-ready        the system of the complete replies
---   unknowns-right, fits-right, nothing-fits                    its unknowns, and whether they explain the replies
+-- All blocks, as the code solves them, over an arithmetic with its laws: the rows are the users of a set, in some order.
+--   listed-arranged, arranged-points, turned-right     the rows of the first turn, and of the next
+--   square, a-turn, cell-right            the system of a turn, what it is for the search, and its unknowns
+--   elements-right, elements-back         where the replies are elements
 -- Assumes nothing.
-use mathlib.Core.Path.{_≡_, sym, ap, ap₂, _∙_, subst}
-use mathlib.Core.Bool.{Bool, true, false}
+use mathlib.Core.Path.{_≡_, refl, sym, ap, _∙_, subst}
+use mathlib.Core.Bool.{Bool, true, cond}
 use mathlib.Core.List.{List}
-use Prim.Native.Nat.{ℕ, _+_, _*_, _-_, _≤_, _<_}
-use native.Mathlib.Nat.{zero-add}
+use Prim.Native.Nat.{ℕ, _+_, _-_, _≤_, _<_}
 use native.Mathlib.Decide.{decLt}
 use native.Mathlib.Omega.{arith}
-use lib.Dec.{eqb}
-use lib.ListN.{length, getD}
+use lib.ListN.{getD, take}
+use lib.Seq.{getD-take}
+use borrow.Author.Tests.{eq-eqb, eqb-true, lt-ltb, le-ltb, ltb-true}
 use Rattle.algebra.specs.Sums.{In}
 use Rattle.scheme.specs.Limits.{most-users, most-threshold, most-blocks}
-use Rattle.scheme.specs.Lists.{span, all-of}
-use Rattle.scheme.specs.Scheme.{Arithmetic, elements, Plan, users-in}
+use Rattle.scheme.specs.Lists.{span, filled}
+use Rattle.scheme.specs.Scheme.{Arithmetic, elements, Plan, in-set, users-in, row-value}
 use Rattle.scheme.specs.Laws.{Laws}
-use Rattle.scheme.specs.Solve.{Points, Weighted, unknown-at, solution-of, value-of, fits-of, cell, block, unknowns-of, row-fits}
-use Rattle.scheme.specs.Totals.{explains-all}
-use Rattle.scheme.proofs.Lists.{map-span-at, span-in, in-span, all-of-in, at-all-of, all-of-same, in-at, all-of-swap}
+use Rattle.scheme.specs.Good.{Good}
+use Rattle.scheme.specs.Solve.{Points, Square, solution-of, value-of, cell, block, unknowns-of, row-fits}
+use Rattle.scheme.proofs.Lists.{span-in, in-span, in-members, all-of-in, at-all-of, in-at}
 use Rattle.scheme.proofs.Sums.{zero-small}
+use Rattle.scheme.proofs.Sets.{users-in-in}
 use Rattle.scheme.proofs.Keys.{elements-at, elements-every}
-use Rattle.scheme.proofs.Tests.{is-false, holds, same-test}
-use Rattle.scheme.proofs.Pooling.Totals.{explained, explained-back}
+use Rattle.scheme.proofs.Pooling.Totals.{unknown}
+use Rattle.scheme.proofs.Pooling.Turns.{Place, in-place, Arranged, Turn, Turned}
 use Rattle.scheme.proofs.Padded.{filled-at}
 use Rattle.scheme.proofs.Solving.Grids.{block-at, grid-at, grid-small}
 use Rattle.scheme.proofs.Weighed.{weighed-same}
-use Rattle.scheme.proofs.Solving.Closed.{unknown-same, unknowns-at}
-use Rattle.plan.specs.declared.Plan as code
-use Rattle.plan.specs.Plan.{plan-of}
+use Rattle.scheme.proofs.Solving.Closed.{points-some, unknowns-at}
+use Rattle.scheme.proofs.Solving.Explains.{Block, row-told, explains-first}
 use Rattle.service.specs.View.{held-in}
-use Rattle.finish.specs.Finish.{rows-of, values-of, columns, choice-of}
-use Rattle.finish.specs.Parts.{row-reply, reply-grid, Prepared}
-use Rattle.finish.specs.declared.System.{System}
+use Rattle.finish.specs.Finish.{columns, all-elements}
+use Rattle.finish.specs.Parts.{row-reply, reply-grid, row-before, Listed}
+use Rattle.finish.specs.declared.Users.{Users}
 use Rattle.finish.proofs.Turns.{row-reply-inside, row-reply-behind}
-use Rattle.finish.proofs.Blocks.{users-few, enough-rows, rows-square, listed-few, listed-points, listed-at, value-at, explains-further, fits-further, explained-small}
+use Rattle.finish.proofs.Blocks.{column-at, columns-points, listed-at, listed-points}
+
+-- ---- the rows
+module _ (p : Plan) (r : ℕ) (good : Good p) where
+  pub listed-arranged : (u : Users) → Listed p r u → Arranged p r (u .list) (u .count)
+  unfolding users-in
+  listed-arranged u h = record {
+    inside = λ a l. rw (at a l) (users-in-in p r _ (in-at (users-in p r) a (omega (arith, h .count-right))));
+    apart = λ a c l k. points .apart a c l k;
+    place = λ k lo hi e. found k (in-members (in-set r) (p .users) 1 k lo (omega arith) e);
+  }
+    where
+      at : (a : ℕ) → a < u .count → getD (u .list) a 0 ≡ getD (users-in p r) a 0
+      at = listed-at p r (good .users-high) _ _ (h .list-right) (h .count-right)
+
+      points : Points most-users (u .count) (u .list)
+      points = listed-points p r (good .users-high) _ _ (h .list-right) (h .count-right)
+
+      found : (k : ℕ) → In k (users-in p r) → Place (u .list) (u .count) k
+      found k m =
+          let c = in-place (users-in p r) k m in
+          let l : c .at < u .count = omega (arith, c .low, h .count-right) in
+          record { at = c .at; low = l; same = at (c .at) l ∙ c .same }
+
+  pub arranged-points : (rs : List ℕ) (m : ℕ) → Arranged p r rs m → Points most-users m rs
+  arranged-points rs m h = record {
+    inside = λ a l. let s = h .inside a l in (s .0, omega (arith, s .1, good .users-high));
+    apart = h .apart;
+  }
+
+pub turned-right : (rs next : List ℕ) (n m : ℕ) → n ≤ m → next ≡ filled most-users m (λ i. getD rs (row-before n m i) 0) → Turned n m rs next
+unfolding row-before
+turned-right rs next n m few e = record {
+  front = λ j l. at j (omega arith) ∙ ap (λ (b : Bool). getD rs (cond b (j + (m - n)) (j - n)) 0) (lt-ltb j n l);
+  behind = λ j l i. at j i ∙ ap (λ (b : Bool). getD rs (cond b (j + (m - n)) (j - n)) 0) (le-ltb j n l);
+}
+  where
+    at : (j : ℕ) → j < m → getD next j 0 ≡ getD rs (row-before n m j) 0
+    at j l = ap (λ (u : List ℕ). getD u j 0) e ∙ filled-at most-users _ m j l
 
 -- ---- the grid of the replies
 module _ (ys rs : List ℕ) (n m : ℕ) where
@@ -52,98 +90,84 @@ module _ (ys rs : List ℕ) (n m : ℕ) where
       go a b l (yes k) = rw (row-reply-inside ys rs m a b k) (h a b l k)
       go a b l (no k) = rw (row-reply-behind ys rs m a b (omega arith)) z
 
--- ---- the system of the complete replies
-module _ (A : Arithmetic) (L : Laws A most-users most-threshold) (plan : code.Plan) (r : ℕ) (s : System) (h : Prepared A L plan r s) where
-  abbrev p : Plan
-  p = plan-of plan
+-- ---- the system of a turn
+module _ (A : Arithmetic) (L : Laws A most-users most-threshold) (p : Plan) (good : Good p) (r : ℕ) (ys rs : List ℕ) (m : ℕ)
+    (rows : Arranged p r rs m) (few : m ≤ most-users) where
+  abbrev n : ℕ
+  n = p .threshold
 
-  pub system-few : s .users .count ≤ most-users
-  system-few = listed-few p r (h .good .users-high) _ _ (h .listed .list-right) (h .listed .count-right)
+  abbrev y : (k block : ℕ) → ℕ
+  y = held-in most-blocks ys
 
-  pub system-many : plan .threshold ≤ s .users .count
-  system-many = omega (arith, enough-rows p r (h .good) (h .enough), h .listed .count-right)
+  threshold-few : n ≤ most-threshold
+  threshold-few = omega (arith, good .threshold-high, good .users-high)
 
-  pub system-points : Points most-users (s .users .count) (s .users .list)
-  system-points = listed-points p r (h .good .users-high) _ _ (h .listed .list-right) (h .listed .count-right)
+  pub square : p .threshold ≤ m → Square rs columns (p .threshold)
+  square many = record {
+    few = omega arith;
+    rows-good = points-some (arranged-points p r good rs m rows) (omega arith) many;
+    columns-good = columns-points n threshold-few;
+  }
 
-  user-at : (a : ℕ) → a < length (users-in p r) → getD (s .users .list) a 0 ≡ getD (users-in p r) a 0
-  user-at a l =
-      let k : a < s .users .count = omega (arith, h .listed .count-right) in
-      listed-at p r (h .good .users-high) _ _ (h .listed .list-right) (h .listed .count-right) a k
+  module _ (vs : List ℕ) (v : vs ≡ reply-grid ys rs m (p .blocks)) where
+    cell-at : (a b : ℕ) → a < m → b < p .blocks → cell vs a b ≡ y (getD rs a 0) b
+    cell-at a b l k = ap (λ (g : List ℕ). cell g a b) v ∙ reply-cell ys rs m (p .blocks) a b l k (good .blocks-high)
 
-  pub system-ready : (cs : List ℕ) → cs ≡ columns → Weighted A L (s .users .list) cs (s .alpha) (s .beta) (plan .threshold)
-  system-ready cs e =
-      rw (h .listed .list-right, e) (record { square = rows-square p r (h .good) (h .enough); alpha-right = h .alpha-right; beta-right = h .beta-right })
+    -- the replies are elements exactly if the grid's numbers are
+    pub elements-right : elements A vs ≡ true → all-elements A p r (held-in most-blocks ys) ≡ true
+    unfolding all-elements
+    elements-right ok = at-all-of _ (users-in p r) (λ c i. at-all-of _ (span (p .blocks) 0) (λ d j.
+        let s = users-in-in p r _ (in-at (users-in p r) c i) in
+        let o = rows .place _ (s .0) (s .1) (s .2) in
+        let k : getD (span (p .blocks) 0) d 0 < p .blocks = omega (arith, span-in (p .blocks) 0 _ (in-at (span (p .blocks) 0) d j) .1) in
+        lt-ltb _ _ (subst (λ (u : ℕ). y u (getD (span (p .blocks) 0) d 0) < A .size) (o .same)
+        (subst (λ (x : ℕ). x < A .size) (cell-at (o .at) _ (o .low) k) (elements-at A (zero-small A most-users most-threshold L) vs _ ok)))))
 
-  -- the replies as a grid, and its unknowns
-  module _ (ys cs g ws : List ℕ) (c : cs ≡ columns) (v : g ≡ reply-grid ys (s .users .list) (s .users .count) (plan .blocks))
-      (x : ws ≡ unknowns-of A L (s .users .list) cs g (plan .threshold)) where
-    abbrev y : (k block : ℕ) → ℕ
-    y = held-in most-blocks ys
+    pub elements-back : all-elements A p r (held-in most-blocks ys) ≡ true → elements A vs ≡ true
+    unfolding all-elements users-in
+    elements-back e = ap (elements A) v ∙ grid-elements ys rs m (p .blocks) A (zero-small A most-users most-threshold L) (λ a b l k.
+        let s = rows .inside a l in
+        ltb-true _ _ (all-of-in _ (span (p .blocks) 0) (all-of-in _ (users-in p r) e _ (in-members (in-set r) (p .users) 1 _ (s .0) (omega arith) (s .2)))
+        b (in-span (p .blocks) 0 b (omega arith) (omega arith))))
 
-    abbrev n : ℕ
-    n = plan .threshold
+    module _ (ok : elements A vs ≡ true) (many : p .threshold ≤ m) (ws : List ℕ) (w : ws ≡ unknowns-of A L rs columns vs (p .threshold)) where
+      abbrev solved : (block : ℕ) → List ℕ
+      solved b = solution-of A L rs columns (block vs b) n
 
-    abbrev m : ℕ
-    m = length (users-in p r)
+      a-block : (b : ℕ) → b < p .blocks → Block A p rs m (λ k. y k b) rs columns (block vs b)
+      a-block b k = record {
+        many = many;
+        columns = λ i l. column-at i (omega (arith, threshold-few));
+        rows = λ a l. refl;
+        values = λ a l. block-at vs b a (omega arith) ∙ cell-at a b l k;
+        small = λ a l. rw (block-at vs b a (omega arith)) (elements-at A (zero-small A most-users most-threshold L) vs _ ok);
+      }
 
-    abbrev solved : (block at : ℕ) → ℕ
-    solved b = unknown-at A L (rows-of p r) columns (values-of p r y b) n
+      unknown-cell : (i b : ℕ) → i < n → b < p .blocks → cell ws i b ≡ getD (solved b) i 0
+      unfolding solution-of
+      unknown-cell i b l k =
+          ap (λ (u : List ℕ). cell u i b) w ∙ unknowns-at A L rs columns n vs i b l (omega (arith, good .blocks-high)) ∙ sym (filled-at most-users _ n i l)
 
-    cell-at : (a b : ℕ) → a < m → b < plan .blocks → cell g a b ≡ getD (values-of p r y b) a 0
-    cell-at a b l k =
-        ap (λ (u : List ℕ). cell u a b) v
-        ∙ reply-cell ys (s .users .list) (s .users .count) (plan .blocks) a b (omega (arith, h .listed .count-right)) k (h .good .blocks-high)
-        ∙ ap (λ (k : ℕ). y k b) (user-at a l) ∙ sym (value-at p r y b a l)
+      row-value-at : (a b : ℕ) → a < m → b < p .blocks
+          → row-value A n (getD rs a 0) (unknown (take n (solved b))) ≡ value-of A (getD rs a 0) columns (block ws b) n
+      row-value-at a b l k =
+          row-told A L p rs m _ rs columns (block vs b) (a-block b k) (square many) a l
+          ∙ weighed-same A _ n (λ i j. sym (block-at ws b i (omega (arith, threshold-few)) ∙ unknown-cell i b j k))
 
-    unknown-cell : (i b : ℕ) → i < n → b < plan .blocks → cell ws i b ≡ solved b i
-    unknown-cell i b l k =
-        ap (λ (u : List ℕ). cell u i b) x ∙ unknowns-at A L _ cs n g i b l (omega (arith, h .good .blocks-high))
-        ∙ ap₂ (λ (rs cs : List ℕ). unknown-at A L rs cs (block g b) n i) (h .listed .list-right) c ∙ unknown-same A L _ _ n _ _ i (λ a few.
-        let in-set : a < m = omega (arith, enough-rows p r (h .good) (h .enough)) in
-        block-at g b a (omega (arith, users-few p r, h .good .users-high)) ∙ cell-at a b in-set k)
+      pub a-turn : Turn A p r (held-in most-blocks ys) rs m (λ b. take (p .threshold) (solution-of A L rs columns (block vs b) (p .threshold)))
+          (row-fits A rs columns vs ws (p .threshold) (p .blocks))
+      unfolding row-fits
+      a-turn = record {
+        rows = rows;
+        many = many;
+        first = λ b k. explains-first A L p rs m _ rs columns (block vs b) (a-block b k) (square many);
+        told = λ a l h b k.
+            row-value-at a b l k ∙ eqb-true _ _ (all-of-in _ (span (p .blocks) 0) h b (in-span (p .blocks) 0 b (omega arith) (omega arith))) ∙ cell-at a b l k;
+        back = λ a l h. at-all-of _ (span (p .blocks) 0) (λ d j.
+            let k : getD (span (p .blocks) 0) d 0 < p .blocks = omega (arith, span-in (p .blocks) 0 _ (in-at (span (p .blocks) 0) d j) .1) in
+            eq-eqb _ _ (sym (row-value-at a _ l k) ∙ h _ k ∙ sym (cell-at a _ l k)));
+      }
 
-    pub unknowns-right : (i b : ℕ) → i < plan .threshold → b < plan .blocks → cell ws i b ≡ getD (choice-of A L p r (held-in most-blocks ys) b) i 0
-    unfolding choice-of
-    unknowns-right i b l k = unknown-cell i b l k ∙ sym (map-span-at (solved b) n 0 i l ∙ ap (solved b) (zero-add i))
-
-    abbrev passes : (a b : ℕ) → Bool
-    passes a b =
-        eqb (value-of A (getD (rows-of p r) a 0) columns (solution-of A L (rows-of p r) columns (values-of p r y b) n) n) (getD (values-of p r y b) a 0)
-
-    tested : (a b : ℕ) → a < m → b < plan .blocks → eqb (value-of A (getD (s .users .list) a 0) cs (block ws b) n) (cell g a b) ≡ passes a b
-    unfolding solution-of
-    tested a b l k =
-        ap₂ eqb (ap₂ (λ (rs cs : List ℕ). value-of A (getD rs a 0) cs (block ws b) n) (h .listed .list-right) c
-        ∙ weighed-same A _ n (λ i few.
-        block-at ws b i (omega (arith, rows-square p r (h .good) (h .enough) .few)) ∙ unknown-cell i b few k ∙ sym (filled-at most-users _ n i few)))
-        (cell-at a b l k)
-
-    pub fits-right : elements A g ≡ true
-        → all-of (row-fits A (s .users .list) cs g ws (plan .threshold) (plan .blocks)) (span (s .users .count - plan .threshold) (plan .threshold))
-        ≡ explains-all A p r (held-in most-blocks ys) (choice-of A L p r (held-in most-blocks ys))
-    unfolding row-fits fits-of
-    fits-right ok =
-        let ks : List ℕ = span (m - n) n in
-        let bs : List ℕ = span (plan .blocks) 0 in
-        ap (λ (k : ℕ). all-of (row-fits A (s .users .list) cs g ws n (plan .blocks)) (span (k - n) n)) (h .listed .count-right)
-        ∙ all-of-same _ _ ks (λ a i. all-of-same _ _ bs (λ b j. tested a b (omega (arith, span-in (m - n) n a i)) (block-in b j)))
-        ∙ all-of-swap passes ks bs ∙ same-test _ _ (λ e. explained-back A p r y (choice-of A L p r y) (λ b k.
-        explains-further A L p r (h .good) (h .enough) y b (small b k) (all-of-in _ bs e b (in-span (plan .blocks) 0 b (omega arith) (omega arith)))))
-        (λ e. at-all-of _ bs (λ j l.
-        let k = block-in (getD bs j 0) (in-at bs j l) in
-        fits-further A L p r (h .good) (h .enough) y (getD bs j 0) (small (getD bs j 0) k)
-        (explained A p r y (choice-of A L p r y) e (getD bs j 0) k)))
-      where
-        block-in : (b : ℕ) → In b (span (plan .blocks) 0) → b < plan .blocks
-        block-in b j = omega (arith, span-in (plan .blocks) 0 b j)
-
-        small : (b : ℕ) → b < plan .blocks → (a : ℕ) → a < m → getD (values-of p r y b) a 0 < A .size
-        small b k a l = subst (λ (z : ℕ). z < A .size) (cell-at a b l k) (elements-at A (zero-small A most-users most-threshold L) g (a * most-blocks + b) ok)
-
-    -- a reply that is no element
-    pub nothing-fits : elements A g ≡ false → false ≡ explains-all A p r (held-in most-blocks ys) (choice-of A L p r (held-in most-blocks ys))
-    nothing-fits bad =
-        sym (is-false _ (λ d. holds (sym bad ∙ ap (elements A) v ∙ grid-elements ys _ _ _ A (zero-small A most-users most-threshold L) (λ a b l k.
-        let in-list : a < m = omega (arith, h .listed .count-right) in
-        subst (λ (u : ℕ). y u b < A .size) (sym (user-at a in-list)) (explained-small A L p r y _ d a b in-list k)))))
+      pub cell-right : (i b : ℕ) → i < p .threshold → b < p .blocks
+          → cell ws i b ≡ getD (take (p .threshold) (solution-of A L rs columns (block vs b) (p .threshold))) i 0
+      cell-right i b l k = unknown-cell i b l k ∙ sym (getD-take n (solved b) i 0 l)

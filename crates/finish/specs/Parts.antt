@@ -1,35 +1,35 @@
 -- What the functions under finish answer.
 --   Listed                               the users of a set
 --   row-reply, reply-grid                the reply of a row in a block, and 0 from M on; of all rows
+--   row-before                           where a row of the next turn stood: the last n come first, and the others behind them
 --   most-sum, At-most                    of a sum of a number of 16 bits for each user; bounds of a list
 --   raised, first-sum, First-sums        a sum and one element more; the sum of the first elements of a place; of each place, not reduced
 --   block-total, place-total             a total: by its block and item, by its place
 -- Over an arithmetic with its laws:
---   Prepared, Blocks-solved              the system of the complete replies; the closed solution of each block, and whether it explains them
---   Totalled, Answered                   the number and the totals: of a set of complete replies, of a state
+--   Rows-solved                          the closed solution of the first U rows, and the first two further rows that do not fit
+--   Explained-right                      what settles the replies of a set
+--   Totalled, Answered                   the numbers and the totals: of a set of complete replies, of a state
 -- Assumes nothing: these are definitions.
 use mathlib.Core.Path.{_≡_}
-use mathlib.Core.Bool.{cond}
+use mathlib.Core.Bool.{cond, _&&_}
 use mathlib.Core.List.{List}
 use Prim.Native.Nat.{ℕ, _+_, _*_, _-_, _/_, _%_, _≤_, _<_}
 use lib.Dec.{ltb}
 use lib.ListN.{length, getD, replicate}
 use Rattle.scheme.specs.Limits.{most-users, most-threshold, most-blocks, most-places}
 use Rattle.scheme.specs.Lists.{span, padded}
-use Rattle.scheme.specs.Scheme.{Arithmetic, modular, sum, Plan, ones, users-in, unless, after}
+use Rattle.scheme.specs.Scheme.{Arithmetic, modular, sum, Plan, users-in, unless, after}
 use Rattle.scheme.specs.Laws.{Laws}
-use Rattle.scheme.specs.Good.{Good}
-use Rattle.scheme.specs.Solve.{row-weights, column-weights, cell, grid}
-use Rattle.scheme.specs.Totals.{explains-all, totals}
+use Rattle.scheme.specs.Solve.{cell, grid, unknowns-of, row-fits, First-misfit}
+use Rattle.scheme.specs.Totals.{totals}
 use Rattle.element.specs.Fold.{most-word}
-use Rattle.plan.specs.declared.Plan as code
-use Rattle.plan.specs.Plan.{plan-of}
 use Rattle.service.specs.declared.Service.{Service}
 use Rattle.service.specs.View.{held-in}
 use Rattle.finish.specs.declared.Users.{Users}
-use Rattle.finish.specs.declared.System.{System}
+use Rattle.finish.specs.declared.Solved.{Solved}
 use Rattle.finish.specs.declared.Explained.{Explained}
-use Rattle.finish.specs.Finish.{rows-of, columns, choice-of, finish-refusal, finish-answer}
+use Rattle.finish.specs.declared.Numbers.{Numbers}
+use Rattle.finish.specs.Finish.{rows-of, columns, choice-of, aside-of, heard, all-elements, is-settled, finish-refusal, finish-answer}
 
 pub record Listed (p : Plan) (v : ℕ) (us : Users) : Type 0 where
   pub list-right : us .list ≡ rows-of p v
@@ -40,6 +40,9 @@ row-reply ys rs m a b = cond (ltb b m) (held-in most-blocks ys (getD rs a 0) b) 
 
 unfoldable pub reply-grid : (reply rows : List ℕ) → (count blocks : ℕ) → List ℕ
 reply-grid ys rs n m = grid n (row-reply ys rs m)
+
+unfoldable pub row-before : (n m at : ℕ) → ℕ
+row-before n m i = cond (ltb i n) (i + (m - n)) (i - n)
 
 -- ---- sums that are not reduced
 abbrev pub most-sum : ℕ
@@ -69,26 +72,28 @@ block-total A xs ws b at j = A .subtract (getD xs (at + j) 0) (cell ws j b)
 unfoldable pub place-total : Arithmetic → (sums unknowns : List ℕ) → (items place : ℕ) → ℕ
 place-total A xs ws n i = A .subtract (getD xs i 0) (cell ws (i % n) (i / n))
 
--- ---- what explains the replies
+-- ---- what settles the replies
 module _ (A : Arithmetic) (L : Laws A most-users most-threshold) where
-  -- at least U users of a good plan
-  pub record Prepared (p : code.Plan) (r : ℕ) (s : System) : Type 0 where
-    pub good : Good (plan-of p)
-    pub enough : p .threshold ≤ ones (p .users) r
-    pub listed : Listed (plan-of p) r (s .users)
-    pub alpha-right : s .alpha ≡ row-weights A L (rows-of (plan-of p) r) columns (p .threshold)
-    pub beta-right : s .beta ≡ column-weights A L (rows-of (plan-of p) r) columns (p .threshold)
+  -- of m rows with their values
+  pub record Rows-solved (p : Plan) (rows values : List ℕ) (m : ℕ) (s : Solved) : Type 0 where
+    pub unknowns-right : s .unknowns ≡ unknowns-of A L rows columns values (p .threshold)
+    pub first-right : First-misfit (row-fits A rows columns values (s .unknowns) (p .threshold) (p .blocks)) (p .threshold) m (s .first)
+    pub second-right : s .first < m
+        → First-misfit (row-fits A rows columns values (s .unknowns) (p .threshold) (p .blocks)) (s .first + 1) m (s .second)
 
-  pub record Blocks-solved (p : Plan) (r : ℕ) (reply : List ℕ) (e : Explained) : Type 0 where
-    pub fits-right : e .fits ≡ explains-all A p r (held-in most-blocks reply) (choice-of A L p r (held-in most-blocks reply))
-    pub unknowns-right : (i b : ℕ) → i < p .threshold → b < p .blocks
-        → cell (e .unknowns) i b ≡ getD (choice-of A L p r (held-in most-blocks reply) b) i 0
+  pub record Explained-right (p : Plan) (r : ℕ) (reply : List ℕ) (e : Explained) : Type 0 where
+    pub number-right : let y = held-in most-blocks reply in e .number ≡ unless (all-elements A p r y && is-settled A L p r y) 16
+    pub aside-right : e .aside ≡ after (e .number) (aside-of A L p r (held-in most-blocks reply)) 0
+    pub unknowns-right : e .number ≡ 0 → (i b : ℕ) → i < p .threshold → b < p .blocks
+        → cell (e .unknowns) i b ≡ getD (choice-of A L p (heard A L p r (held-in most-blocks reply)) (held-in most-blocks reply) b) i 0
 
-  pub record Totalled (p : Plan) (r v : ℕ) (first reply : List ℕ) (n : ℕ) (out : List ℕ) : Type 0 where
-    pub number-right : n ≡ unless (explains-all A p r (held-in most-blocks reply) (choice-of A L p r (held-in most-blocks reply))) 16
-    pub totals-right : out ≡ after n
-        (padded most-places (totals A p v (held-in most-places first) (choice-of A L p r (held-in most-blocks reply)))) (replicate most-places 0)
+  pub record Totalled (p : Plan) (r v : ℕ) (first reply : List ℕ) (n : Numbers) (out : List ℕ) : Type 0 where
+    pub number-right : let y = held-in most-blocks reply in n .number ≡ unless (all-elements A p r y && is-settled A L p r y) 16
+    pub aside-right : n .aside ≡ after (n .number) (aside-of A L p r (held-in most-blocks reply)) 0
+    pub totals-right : let y = held-in most-blocks reply in out ≡ after (n .number)
+        (padded most-places (totals A p v (held-in most-places first) (choice-of A L p (heard A L p r y) y))) (replicate most-places 0)
 
-  pub record Answered (s : Service) (n : ℕ) (out : List ℕ) : Type 0 where
-    pub number-right : n ≡ finish-refusal A L s
-    pub totals-right : out ≡ finish-answer A L n s .totals
+  pub record Answered (s : Service) (n : Numbers) (out : List ℕ) : Type 0 where
+    pub number-right : n .number ≡ finish-refusal A L s
+    pub aside-right : n .aside ≡ finish-answer A L (n .number) s .aside
+    pub totals-right : out ≡ finish-answer A L (n .number) s .totals

@@ -1,12 +1,14 @@
 // The finish call of document 01's service: the survivors' total from the first messages and the complete replies.
 //   Users, users_of                           the users of a set, in a place each
 //   the_columns                               the points of the columns
-//   System, system_of                         the users whose replies are complete, with what the solver needs of them
 //   put_held, gather                          the replies of all blocks, in the order of the rows
-//   Explained, explain                        the sums and noise that explain them
+//   Solved, solve_rows                        a turn of the search: U rows solved, and the further ones compared
+//   row_before, turned                        the rows of the next turn
+//   Explained, unexplained, explain           the sums and noise that explain the replies, and the user set aside
 //   add_first, no_sums, first_sums            the sum of the first elements of each place
 //   total, put_block_totals, put_all_totals   the totals: of a place, of a block, of all blocks
-//   put_explained_totals, put_state_totals    0 and the totals, or 16, of a set; or 11, 12, 15, 16, of a state
+//   Numbers, refused                          a refusal's number, and the user set aside
+//   put_explained_totals, put_state_totals    these and the totals: of a set, 0 or 16; of a state, 11, 12, 15 too
 //   no_totals, idle                           what stands in the places before; the head after a finish
 //   FinishedHead, finish_lent                 the call on lent arrays
 //   Finished, finish                          the call with the state
@@ -27,7 +29,7 @@ ghost use Rattle.plan.specs.Plan.{plan-of};
 ghost use Rattle.service.specs.Calls.{lent};
 ghost use Rattle.solve.specs.Solve.{laws16};
 ghost use Rattle.finish.specs.Finish.{columns, finished, finishing, finish-step};
-ghost use Rattle.finish.specs.Parts.{Listed, Prepared, reply-grid, Blocks-solved, most-sum, At-most, raised, First-sums, block-total, place-total, Totalled, Answered};
+ghost use Rattle.finish.specs.Parts.{Listed, reply-grid, row-before, Rows-solved, Explained-right, most-sum, At-most, raised, First-sums, block-total, place-total, Totalled, Answered};
 use plan::BLOCKS;
 use plan::CELLS;
 use plan::FIRSTS;
@@ -69,26 +71,6 @@ fn the_columns() -> [u32; USERS]
     [1, 2, 3, 4, 5, 6, 7, 0]
 }
 
-// The users whose replies are complete, and the solver's weights for the first U of them.
-struct System {
-    users: Users,
-    alpha: [u16; USERS],
-    beta: [u16; USERS],
-}
-
-fn system_of(plan: Plan, set: u32) -> System
-    requires { ⌜ Good (plan-of plan) × (plan .threshold ≤ ones (plan .users) set) ⌝ }
-    ensures { λ r. ⌜ Prepared sixteen laws16 plan set r ⌝ }
-{
-    let users = users_of(plan, set);
-    let rows = users.list;
-    let columns = the_columns();
-    let n = plan.threshold as usize;
-    let alpha = solve::weights(&rows, &columns, n);
-    let beta = solve::weights(&columns, &rows, n);
-    System { users, alpha, beta }
-}
-
 // The replies of a user, which stand from `from` on, are put from `at` on.
 fn put_held(out: &mut [u16; CELLS], at: usize, reply: &[u16; CELLS], from: usize, blocks: usize)
     requires { ⌜ (blocks ≤ most-blocks) × (at + blocks ≤ cells) × (from + blocks ≤ cells) × (length (now out) ≡ cells) ⌝ }
@@ -118,37 +100,126 @@ fn gather(reply: &[u16; CELLS], rows: &[u32; USERS], count: usize, blocks: usize
     out
 }
 
-// Whether the complete replies are explained, and by what.
+// The unknowns of the first U rows, and the first two of the further rows that do not fit: the count of rows for none.
+struct Solved {
+    unknowns: [u16; CELLS],
+    first: usize,
+    second: usize,
+}
+
+fn solve_rows(plan: Plan, rows: &[u32; USERS], values: &[u16; CELLS], count: usize) -> Solved
+    requires { ⌜ Good (plan-of plan) × (plan .threshold ≤ count) × (count ≤ most-users) × Points most-users count (now rows) ⌝ }
+    ensures { λ r. ⌜ Rows-solved sixteen laws16 (plan-of plan) (now (rows .entry)) (now (values .entry)) count r ⌝ }
+{
+    let n = plan.threshold as usize;
+    let blocks = plan.blocks as usize;
+    let columns = the_columns();
+    let alpha = solve::weights(rows, &columns, n);
+    let beta = solve::weights(&columns, rows, n);
+    let unknowns = solve::solve(rows, &columns, &alpha, &beta, values, n);
+    let first = solve::misfit(rows, &columns, values, &unknowns, n, n, count, blocks);
+    if first == count {
+        return Solved {
+            unknowns,
+            first,
+            second: first,
+        };
+    }
+    let next = first + 1;
+    let second = solve::misfit(rows, &columns, values, &unknowns, n, next, count, blocks);
+    Solved {
+        unknowns,
+        first,
+        second,
+    }
+}
+
+// Where a row of the next turn stood: the last n rows come first and are solved, and the others go behind them and are compared, so that the
+// turns go round all rows.
+fn row_before(at: usize, n: usize, count: usize) -> usize
+    requires { ⌜ (at < count) × (n ≤ count) × (count ≤ most-users) ⌝ }
+    ensures { λ r. ⌜ (r ≡ row-before n count at) × (r < count) ⌝ }
+{
+    if at < n {
+        return at + (count - n);
+    }
+    at - n
+}
+
+fn turned(rows: &[u32; USERS], n: usize, count: usize) -> [u32; USERS]
+    requires { ⌜ (n ≤ count) × (count ≤ most-users) ⌝ }
+    ensures { λ r. ⌜ r ≡ filled most-users count (λ i. getD (now (rows .entry)) (row-before n count i) 0) ⌝ }
+{
+    let mut out = [0u32; USERS];
+    let mut i = 0;
+    while i < count {
+        out[i] = rows[row_before(i, n, count)];
+        i += 1;
+    }
+    out
+}
+
+// 0, the user set aside, 0 if none, and what explains the other replies; or 16.
 struct Explained {
-    fits: bool,
+    number: u32,
+    aside: u32,
     unknowns: [u16; CELLS],
 }
 
-// The sums and noise of each block from the first U replies, and whether they explain all. Nothing explains a reply that is no
-// element; no state that calls make has one.
+fn unexplained() -> Explained
+    ensures { λ r. ⌜ (r .number ≡ 16) × (r .aside ≡ 0) ⌝ }
+{
+    let unknowns = solve::no_cells();
+    Explained {
+        number: 16,
+        aside: 0,
+        unknowns,
+    }
+}
+
+// The sums and noise of each block that explain the replies of a set, or those of all of its users but one. A further row that alone does
+// not fit is set aside; where two do not, none of the further rows is the one, and the next turn has others. Nothing explains a reply that
+// is no element; no state that calls make has one.
 fn explain(plan: Plan, set: u32, reply: &[u16; CELLS]) -> Explained
     requires { ⌜ Good (plan-of plan) × (plan .threshold ≤ ones (plan .users) set) ⌝ }
-    ensures { λ r. ⌜ Blocks-solved sixteen laws16 (plan-of plan) set (now (reply .entry)) r ⌝ }
+    ensures { λ r. ⌜ Explained-right sixteen laws16 (plan-of plan) set (now (reply .entry)) r ⌝ }
 {
-    let system = system_of(plan, set);
-    let users = system.users;
-    let rows = users.list;
+    let users = users_of(plan, set);
     let count = users.count;
-    let columns = the_columns();
-    let alpha = system.alpha;
-    let beta = system.beta;
     let n = plan.threshold as usize;
     let blocks = plan.blocks as usize;
-    let values = gather(reply, &rows, count, blocks);
-    let unknowns = solve::solve(&rows, &columns, &alpha, &beta, &values, n);
+    let mut rows = users.list;
+    let mut values = gather(reply, &rows, count, blocks);
     if !element::all_elements(&values) {
-        return Explained {
-            fits: false,
-            unknowns,
-        };
+        return unexplained();
     }
-    let fits = solve::fits(&rows, &columns, &values, &unknowns, n, count, blocks);
-    Explained { fits, unknowns }
+    let mut cleared = 0;
+    while cleared < count {
+        let solved = solve_rows(plan, &rows, &values, count);
+        let unknowns = solved.unknowns;
+        let odd = solved.first;
+        if odd == count {
+            return Explained {
+                number: 0,
+                aside: 0,
+                unknowns,
+            };
+        }
+        if count - n < 2 {
+            return unexplained();
+        }
+        if solved.second == count {
+            return Explained {
+                number: 0,
+                aside: rows[odd],
+                unknowns,
+            };
+        }
+        rows = turned(&rows, n, count);
+        values = gather(reply, &rows, count, blocks);
+        cleared += count - n;
+    }
+    unexplained()
 }
 
 // Adds a user's first elements, which stand from `from` on.
@@ -242,7 +313,13 @@ fn put_all_totals(
     }
 }
 
-// From a set of at least U complete replies: 0 and the totals, or 16 where nothing explains the replies.
+// A refusal's number, or 0 and the user set aside, 0 if none.
+struct Numbers {
+    number: u32,
+    aside: u32,
+}
+
+// From a set of at least U complete replies: 0, the user set aside and the totals, or 16.
 fn put_explained_totals<'a>(
     plan: Plan,
     set: u32,
@@ -250,13 +327,15 @@ fn put_explained_totals<'a>(
     first: &'a [u16; FIRSTS],
     reply: &'a [u16; CELLS],
     out: &mut [u16; MOST_PLACES],
-) -> u32
+) -> Numbers
     requires { ⌜ Good (plan-of plan) × (plan .threshold ≤ ones (plan .users) set) × (now out ≡ replicate most-places 0) ⌝ }
     ensures { λ r. ⌜ Totalled sixteen laws16 (plan-of plan) set survivors (now (first .entry)) (now (reply .entry)) r (now (out .exit)) ⌝ }
 {
     let explained = explain(plan, set, reply);
-    if !explained.fits {
-        return 16;
+    let number = explained.number;
+    let aside = explained.aside;
+    if number != 0 {
+        return Numbers { number, aside };
     }
     let unknowns = explained.unknowns;
     let users = users_of(plan, survivors);
@@ -264,7 +343,13 @@ fn put_explained_totals<'a>(
     let sums = first_sums(first, &rows, users.count, plan::places_of(plan));
     let items = (plan.threshold - plan.collusion) as usize;
     put_all_totals(&sums, &unknowns, items, plan.blocks as usize, out);
-    0
+    Numbers { number, aside }
+}
+
+fn refused(number: u32) -> Numbers
+    ensures { λ r. ⌜ (r .number ≡ number) × (r .aside ≡ 0) ⌝ }
+{
+    Numbers { number, aside: 0 }
 }
 
 // What finish answers of a state whose arrays are lent. The plan's test never acts on a state that calls make.
@@ -273,22 +358,22 @@ fn put_state_totals<'a>(
     first: &'a [u16; FIRSTS],
     reply: &'a [u16; CELLS],
     out: &mut [u16; MOST_PLACES],
-) -> u32
+) -> Numbers
     requires { ⌜ now out ≡ replicate most-places 0 ⌝ }
     ensures { λ r. ⌜ Answered sixteen laws16 (lent head (now (first .entry)) (now (reply .entry))) r (now (out .exit)) ⌝ }
 {
     let phase = head.phase;
     let number = service::not_replying(phase);
     if number != 0 {
-        return number;
+        return refused(number);
     }
     let plan = head.plan;
     if !plan::is_good(plan) {
-        return 15;
+        return refused(15);
     }
     let set = service::complete_set(reply, BLOCKS, plan, plan.blocks as usize);
     if u32::count_ones(set) < plan.threshold {
-        return 15;
+        return refused(15);
     }
     put_explained_totals(plan, set, head.survivors, first, reply, out)
 }
@@ -313,9 +398,10 @@ fn idle(head: Head) -> Head
     }
 }
 
-// The answer, and the head after it.
+// The answer, with the user set aside, 0 if none, and the head after it.
 pub struct FinishedHead {
     pub number: u32,
+    pub aside: u32,
     pub totals: [u16; MOST_PLACES],
     pub head: Head,
 }
@@ -323,6 +409,7 @@ pub struct FinishedHead {
 // The answer and the state.
 pub struct Finished {
     pub number: u32,
+    pub aside: u32,
     pub totals: [u16; MOST_PLACES],
     pub service: Service,
 }
@@ -334,10 +421,13 @@ pub fn finish_lent(head: Head, first: &mut [u16; FIRSTS], reply: &mut [u16; CELL
         ≡ finish-step sixteen laws16 (lent head (now (first .entry)) (now (reply .entry))) ⌝ }
 {
     let mut totals = no_totals();
-    let number = put_state_totals(head, first, reply, &mut totals);
+    let numbers = put_state_totals(head, first, reply, &mut totals);
+    let number = numbers.number;
+    let aside = numbers.aside;
     if number != 0 {
         return FinishedHead {
             number,
+            aside,
             totals,
             head,
         };
@@ -345,6 +435,7 @@ pub fn finish_lent(head: Head, first: &mut [u16; FIRSTS], reply: &mut [u16; CELL
     service::clear(first, reply);
     FinishedHead {
         number,
+        aside,
         totals,
         head: idle(head),
     }
@@ -358,6 +449,7 @@ pub fn finish(service: Service) -> Finished
     let mut reply = service.reply;
     let step = finish_lent(head, &mut first, &mut reply);
     let number = step.number;
+    let aside = step.aside;
     let totals = step.totals;
     let next = step.head;
     let service = Service {
@@ -367,6 +459,7 @@ pub fn finish(service: Service) -> Finished
     };
     Finished {
         number,
+        aside,
         totals,
         service,
     }

@@ -1,6 +1,7 @@
 // The lines of document 01's program, written into a lent buffer from a place on. Each function answers the place behind
 // what it wrote; before and behind that, the buffer stays as it was.
-//   put_plan, put_open, put_survivors, put_total, put_refusal   a line for each kind of answer
+//   put_plan, put_open, put_survivors, put_total, put_refusal   the text of each kind of answer
+//   put_aside               the line before a total's, if a user is set aside
 //   put_totals, put_short   the numbers of a total, each of 16 bits
 //   put_number, put_digits  a number behind one space; its digits
 //   put_low, put_few        the digits, where they are 8 or 4 at most
@@ -12,12 +13,13 @@ ghost use Prim.Native.Nat.{_+_, _*_, _≤_, _<_};
 ghost use lib.ListN.{length, take};
 ghost use Rattle.scheme.specs.Limits.{most-places};
 ghost use Rattle.scheme.specs.Service.{planned, opened, closed, totalled, refused};
-ghost use Rattle.lines.specs.Text.{spell, decimal, numbers, line};
-ghost use Rattle.lines.specs.Put.{number-room, short-room, room, Put, Says};
+ghost use Rattle.lines.specs.Text.{spell, decimal, numbers, aside-line, line};
+ghost use Rattle.lines.specs.Put.{number-room, short-room, aside-room, room, Put, Says};
 use plan::MOST_PLACES;
 
-// The bytes that any line fits into: `room`. A caller that tests for another number does not meet a contract that says `room`.
-pub const LINE: usize = 64 + 6 * MOST_PLACES;
+// The bytes that the text of any answer fits into: `room`. A caller that tests for another number does not meet a contract that says
+// `room`.
+pub const LINE: usize = 128 + 6 * MOST_PLACES;
 
 // 10 ^ 8.
 const EIGHT_DIGITS: u64 = 100000000;
@@ -67,21 +69,38 @@ pub fn put_survivors(out: &mut [u8], at: usize, round: u32, set: u32) -> usize
     put_bytes(out, c, b"\n")
 }
 
-// "total 7 40": the round and the first n of the totals.
+// "total 7 40": the round and the first n of the totals; before that the line of the user set aside, if any.
 pub fn put_total(
     out: &mut [u8],
     at: usize,
     round: u32,
+    aside: u32,
     totals: &[u16; MOST_PLACES],
     n: usize,
 ) -> usize
     requires { ⌜ (at + room ≤ length (now out)) × (n ≤ most-places) ⌝ }
     ensures short { λ r. ⌜ r ≤ at + room ⌝ }
-    ensures put { λ r. ⌜ Says (now (out .entry)) (now (out .exit)) at r (totalled round (take n (now (totals .entry)))) ⌝ }
+    ensures put { λ r. ⌜ Says (now (out .entry)) (now (out .exit)) at r (totalled round aside (take n (now (totals .entry)))) ⌝ }
 {
-    let a = put_bytes(out, at, b"total");
+    let a = put_aside(out, at, round, aside);
+    let b = put_bytes(out, a, b"total");
+    let c = put_number(out, b, round as u64);
+    let d = put_totals(out, c, *totals, n);
+    put_bytes(out, d, b"\n")
+}
+
+// "aside 7 3": the round and the number of the user set aside; nothing if that is 0.
+fn put_aside(out: &mut [u8], at: usize, round: u32, aside: u32) -> usize
+    requires { ⌜ at + aside-room ≤ length (now out) ⌝ }
+    ensures short { λ r. ⌜ r ≤ at + aside-room ⌝ }
+    ensures put { λ r. ⌜ Put (now (out .entry)) (now (out .exit)) at r (aside-line round aside) ⌝ }
+{
+    if aside == 0 {
+        return at;
+    }
+    let a = put_bytes(out, at, b"aside");
     let b = put_number(out, a, round as u64);
-    let c = put_totals(out, b, *totals, n);
+    let c = put_number(out, b, aside as u64);
     put_bytes(out, c, b"\n")
 }
 

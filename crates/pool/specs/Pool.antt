@@ -5,13 +5,13 @@
 --   brought, Untouched      what a read brings; no read is made where none is due
 --   eintr, interrupted      what errno tells behind a call that failed
 --   read-as, Fills          one read: the bytes that waited stay in front
---   Read-fits               what was read stands within the input's buffer, and a line fits into the output's
+--   Read-fits               what was read stands within the input's buffer, and the lines of a record fit into the output's
 --   step-of, stepped        one step of the code's value
 --   write-as, Writes-from   one write of the bytes that are left
 --   most-turns              how often a loop is made at most
 --   Written, Writes         how far a text is written, by writes of which each goes on where the one before ended
 --   sent-live               the value behind that
---   longest, Sound          there is room for a read where one is due, and for a line
+--   longest, Sound          there is room for a read where one is due, and for the lines of a record
 --   Turned                  one turn: a read, its step, and how far its text was written
 --   Ran                     a run from the start on
 -- Of the bytes read and written, and of errno, no contract of the C library speaks. Assumes nothing: these are definitions.
@@ -145,7 +145,7 @@ sent-live l w =
 abbrev pub longest : ℕ
 longest = 6
 
--- there is room for a read where one is due, and for a line
+-- there is room for a read where one is due, and for the lines of a record
 pub record Sound (l : Live) (b out : List ℕ) : Type 0 where
   pub have : l .have ≤ length b
   pub space : l .next ≡ Await → l .have < length b

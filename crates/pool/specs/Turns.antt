@@ -50,7 +50,7 @@ abbrev pub first-turn : Turn
 first-turn = record { service = new-service; waiting = []; offset = 0; next = Await; text = [] }
 
 -- ---- ONE TURN
--- a record that is not whole waits for a read; where there was no room for a line the rest is fed again; an unknown kind is refused; past
+-- a record that is not whole waits for a read; where there was no room for a record's lines the rest is fed again; an unknown kind is refused; past
 -- 64 bits all is over
 abbrev pub comes : Stop → Next
 comes Used = Await

@@ -50,6 +50,7 @@ agreed verdict.Damaged = false
 agreed verdict.Number = false
 agreed verdict.Stage = false
 agreed verdict.Set = false
+agreed verdict.Aside = false
 agreed verdict.Start = false
 agreed verdict.Value = false
 agreed verdict.Elements = false

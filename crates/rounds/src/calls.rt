@@ -8,7 +8,7 @@
 //   judge, agree, judge_pair   what differs first
 //   new_case                   a case of a plan
 //   fits, check                how many numbers a line has; the call of one line
-// Every answer is compared whole: number, stage, set, start, value, and the lent buffer to its end.
+// Every answer is compared whole: number, stage, set, airfield set aside, start, value, and the lent buffer to its end.
 ghost use mathlib.Core.Path.{_≡_};
 ghost use mathlib.Core.Bool.{true};
 ghost use Rattle.rounds.specs.Judged.{judged, judged-pair};
@@ -37,6 +37,7 @@ pub enum Verdict {
     Number,
     Stage,
     Set,
+    Aside,
     Start,
     Value,
     Elements,
@@ -115,9 +116,9 @@ fn fits(letter: u8, count: usize) -> bool {
         b'w' | b'x' => count == 4,
         b's' => count == 3,
         b'o' | b'c' => count == 2,
+        b't' => 2 <= count,
         b'd' | b'k' | b'r' | b'e' | b'a' => 3 <= count,
         b'f' => 4 <= count,
-        b't' => 1 <= count,
         b'l' | b'y' => true,
         _ => false,
     }

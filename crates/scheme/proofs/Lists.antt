@@ -6,7 +6,7 @@
 --   members-append, members-in, in-members, members-once, members-fewer, members-le     those that pass a test
 --   rank-start, rank-more, rank-at, rank-lt                      how many below v pass
 --   rows-same, rows-append, rows-length, rows-at                        one list for each number
---   all-of-in, at-all-of, all-of-same, all-of-swap, all-of-part         a test of each number of a list; of every pair of two lists; a weaker one
+--   all-of-in, at-all-of, all-of-same, all-of-part         a test of each number of a list; a weaker one
 --   in-at                                                       the number at a place of a list
 --   sets-append, sets-more, sets-whole                          lists written one behind the other; one word more of a map; all of a list
 --   zeros-at                                                    a list of zeros
@@ -25,7 +25,7 @@ use lib.ListN.{length, getD, take, drop, set, replicate, length-append, drop-of-
 use lib.Seq.{sets, sets-eq, take-at, drop-at, getD-at}
 use Rattle.algebra.specs.Sums.{In, Distinct}
 use Rattle.scheme.specs.Lists.{span, keep, members, rank, rows, all-of}
-use Rattle.scheme.proofs.Tests.{holds, same-test, and-both, and-joined}
+use Rattle.scheme.proofs.Tests.{holds, and-both, and-joined}
 
 -- ---- span
 pub span-append : (m n k : ℕ) → span (m + n) k ≡ span m k ++ span n (k + m)
@@ -244,13 +244,6 @@ pub in-at : (l : List ℕ) (a : ℕ) → a < length l → In (getD l a 0) l
 in-at [] a i = absurd (omega arith)
 in-at (k ∷ l) zero i = inl refl
 in-at (k ∷ l) (suc a) i = inr (in-at l a (omega arith))
-
--- a test of every pair of two lists, by either first
-pub all-of-swap : (s : (a b : ℕ) → Bool) (ks bs : List ℕ) → all-of (λ a. all-of (s a) bs) ks ≡ all-of (λ b. all-of (λ a. s a b) ks) bs
-all-of-swap s ks bs = same-test _ _ (turn s ks bs) (turn (λ b a. s a b) bs ks)
-  where
-    turn : (s : (a b : ℕ) → Bool) (ks bs : List ℕ) → all-of (λ a. all-of (s a) bs) ks ≡ true → all-of (λ b. all-of (λ a. s a b) ks) bs ≡ true
-    turn s ks bs h = at-all-of _ bs (λ j l. at-all-of _ ks (λ i k. all-of-in (s (getD ks i 0)) bs (all-of-in _ ks h _ (in-at ks i k)) _ (in-at bs j l)))
 
 -- a weaker test of a part of a list
 pub all-of-part : (t u : ℕ → Bool) (l m : List ℕ) → ((k : ℕ) → In k m → In k l) → ((k : ℕ) → In k m → t k ≡ true → u k ≡ true) →

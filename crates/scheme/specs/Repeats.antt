@@ -67,7 +67,7 @@ accepted-after h r (refused n) = h
 accepted-after h r (planned p) = []
 accepted-after h r (opened n) = []
 accepted-after h r (closed n v) = []
-accepted-after h r (totalled n x) = []
+accepted-after h r (totalled n k x) = []
 
 -- records with the answers to them; and, with repeats added, the same answers where the records are the same, and silence to each repeat,
 -- which is of an element accepted earlier, the phase having lasted since
@@ -89,7 +89,7 @@ twice silent x l = x ∷ x ∷ l
 twice (planned p) x l = x ∷ l
 twice (opened n) x l = x ∷ l
 twice (closed n v) x l = x ∷ l
-twice (totalled n t) x l = x ∷ l
+twice (totalled n k t) x l = x ∷ l
 twice (refused n) x l = x ∷ l
 
 unfoldable pub all-twice : {X : Type 0} → List Answer → List X → List X

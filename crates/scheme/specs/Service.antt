@@ -8,7 +8,8 @@
 --   element-refusal                the tests that both kinds of element share
 --   refusal                        0, or the earliest refusal that applies, but for 16
 --   next-state, answer-of          of an accepted record other than finish
---   Steps, Runs                    one record, by a relation: finish goes by what explains the replies; and a list of records
+--   settled-by, apart-in, totals-by    what settles the complete replies of a state, or that nothing does; the totals
+--   Steps, Runs                    one record, by a relation: finish goes by what settles the replies; and a list of records
 --   Well                           what holds of every state that records lead to
 -- Assumes nothing: these are definitions.
 use mathlib.Core.Path.{_≡_}
@@ -20,7 +21,8 @@ use Prim.Native.Nat.{ℕ, zero, suc, _+_, _-_, _^_, _<_}
 use lib.Dec.{ltb, leb, eqb}
 use Rattle.scheme.specs.Lists.{span, all-of}
 use Rattle.scheme.specs.Scheme.{Arithmetic, Plan, plan-good, places, in-set, ones, usable, _then_, unless}
-use Rattle.scheme.specs.Totals.{explains-all, totals}
+use Rattle.scheme.specs.Totals.{totals}
+use Rattle.scheme.specs.Aside.{Settles, Apart}
 
 -- no plan yet; idle, gathering, replying
 pub data Phase : Type 0 where
@@ -124,13 +126,13 @@ pub data Record : Type 0 where
   reply-record : (k block element : ℕ) → Record
   finish-record : Record
 
--- an accepted element prints nothing
+-- an accepted element prints nothing; the user set aside is 0 if there is none
 pub data Answer : Type 0 where
   silent : Answer
   planned : Plan → Answer
   opened : (round : ℕ) → Answer
   closed : (round set : ℕ) → Answer
-  totalled : (round : ℕ) → (totals : List ℕ) → Answer
+  totalled : (round aside : ℕ) → (totals : List ℕ) → Answer
   refused : (number : ℕ) → Answer
 
 -- 4, 8, 3 of an element that one of `users` sends for one of `limit` places or blocks
@@ -186,12 +188,15 @@ is-finish close-record = false
 is-finish (reply-record k b x) = false
 is-finish finish-record = true
 
--- ---- the elements held as functions of numbers, and the sums and noise that explain the complete replies
+-- ---- the elements held as functions of numbers, and what settles the complete replies
 abbrev pub values : ((k at : ℕ) → Option ℕ) → (k at : ℕ) → ℕ
 values f k i = element-of (f k i)
 
-unfoldable pub explained-by : Arithmetic → State → (choice : (block : ℕ) → List ℕ) → Bool
-explained-by A s f = explains-all A (s .plan) (replied s) (values (s .replies)) f
+abbrev pub settled-by : Arithmetic → State → (aside : ℕ) → (choice : (block : ℕ) → List ℕ) → Type 0
+settled-by A s k f = Settles A (s .plan) (replied s) (values (s .replies)) k f
+
+abbrev pub apart-in : Arithmetic → State → Type 0
+apart-in A s = Apart A (s .plan) (replied s) (values (s .replies))
 
 unfoldable pub totals-by : Arithmetic → State → (choice : (block : ℕ) → List ℕ) → List ℕ
 totals-by A s f = totals A (s .plan) (s .survivors) (values (s .firsts)) f
@@ -199,10 +204,9 @@ totals-by A s f = totals A (s .plan) (s .survivors) (values (s .firsts)) f
 pub data Steps (A : Arithmetic) : Record → State → Answer → State → Type 0 where
   refuses : (r : Record) (s : State) → refusal A r s ≢ 0 → Steps A r s (refused (refusal A r s)) s
   accepts : (r : Record) (s : State) → is-finish r ≡ false → refusal A r s ≡ 0 → Steps A r s (answer-of r s) (next-state r s)
-  totals-up : (s : State) (f : (block : ℕ) → List ℕ) → refusal A finish-record s ≡ 0 → explained-by A s f ≡ true →
-      Steps A finish-record s (totalled (s .round) (totals-by A s f)) (idle-state s)
-  disagrees : (s : State) → refusal A finish-record s ≡ 0 → ((f : (block : ℕ) → List ℕ) → explained-by A s f ≡ true → ⊥) →
-      Steps A finish-record s (refused 16) s
+  totals-up : (s : State) (k : ℕ) (f : (block : ℕ) → List ℕ) → refusal A finish-record s ≡ 0 → settled-by A s k f →
+      Steps A finish-record s (totalled (s .round) k (totals-by A s f)) (idle-state s)
+  disagrees : (s : State) → refusal A finish-record s ≡ 0 → apart-in A s → Steps A finish-record s (refused 16) s
 
 pub data Runs (A : Arithmetic) : List Record → State → List Answer → State → Type 0 where
   done : (s : State) → Runs A [] s [] s

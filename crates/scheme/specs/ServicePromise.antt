@@ -3,6 +3,8 @@
 --   As-new                                           a round keeps nothing but the plan of what was before
 --   Finish-right, Finish-residues                    replies that follow the rules give the survivors' whole-number total of counts;
 --                                                    behind it, of any table, the total in the arithmetic
+--   named-in, Aside-right, Aside-residues            so do at least U + 2 of which one may be false: its user is set aside exactly
+--                                                    if it is
 --   Unexplained, Sixteen-exactly, Never-sixteen      when 16 is given, and when never
 --   Stays-well                                       every run stays well-formed
 --   Demand-2                                         all of them modulo 65521, that totals of signed figures are read as what they are, and
@@ -12,13 +14,14 @@ use mathlib.Core.Path.{_≡_}
 use mathlib.Core.Logic.{_↔_}
 use mathlib.Core.Bool.{true}
 use mathlib.Core.List.{List, _∷_, map}
-use Prim.Native.Nat.{ℕ}
+use Prim.Native.Nat.{ℕ, _+_, _≤_}
 use Rattle.scheme.specs.Lists.{span}
-use Rattle.scheme.specs.Scheme.{Arithmetic, sixteen, Plan, places, counts, in-set, ones, total-at, whole-total}
+use Rattle.scheme.specs.Scheme.{Arithmetic, sixteen, Plan, plan-good, places, counts, in-set, ones, total-at, whole-total}
 use Rattle.scheme.specs.Promise.{Table, admissible, list-good}
 use Rattle.scheme.specs.Signed.{Signed-read}
 use Rattle.scheme.specs.Totals.{Follows, Totals-fit}
-use Rattle.scheme.specs.Service.{State, new-state, replied, Record, open-record, finish-record, Answer, opened, totalled, refused, refusal, planned-state, values, explained-by, Steps, Runs, Well}
+use Rattle.scheme.specs.Aside.{named, One-false, At-most-one}
+use Rattle.scheme.specs.Service.{State, new-state, replied, Record, open-record, finish-record, Answer, opened, totalled, refused, refusal, planned-state, values, apart-in, Steps, Runs, Well}
 use Rattle.scheme.specs.Repeats.{Thirteen-exactly, Repeat-silent, Repeats-quiet, Twice-repeats}
 
 -- each record has at most one answer
@@ -54,20 +57,42 @@ Finish-right A =
     (s t : State) (a : Answer) (xs : List ℕ) (x : Table) → Well A s → refusal A finish-record s ≡ 0 → list-good A (s .plan) xs ≡ true →
     admissible A (s .plan) (in-set (s .survivors)) (λ k. counts) x →
     Follows A (s .plan) xs x (s .survivors) (replied s) (values (s .firsts)) (values (s .replies)) → Steps A finish-record s a t →
-    (a ≡ totalled (s .round) (map (whole-total (s .plan) x (s .survivors)) (span (places (s .plan)) 0))) × Totals-fit A (s .plan) x (s .survivors)
+    (a ≡ totalled (s .round) 0 (map (whole-total (s .plan) x (s .survivors)) (span (places (s .plan)) 0))) × Totals-fit A (s .plan) x (s .survivors)
 
 unfoldable pub Finish-residues : Arithmetic → Type 0
 Finish-residues A =
     (s t : State) (a : Answer) (xs : List ℕ) (x : Table) → Well A s → refusal A finish-record s ≡ 0 → list-good A (s .plan) xs ≡ true →
     Follows A (s .plan) xs x (s .survivors) (replied s) (values (s .firsts)) (values (s .replies)) →
-    Steps A finish-record s a t → a ≡ totalled (s .round) (map (total-at A (s .plan) x (s .survivors)) (span (places (s .plan)) 0))
+    Steps A finish-record s a t → a ≡ totalled (s .round) 0 (map (total-at A (s .plan) x (s .survivors)) (span (places (s .plan)) 0))
 
--- 16 is the answer to a finish of enough complete replies that nothing explains, and to nothing else
+-- the user to name: z if its reply is not the right one, and 0 if it is
+abbrev pub named-in : Arithmetic → State → (list : List ℕ) → (z : ℕ) → ℕ
+named-in A s xs z = named A (s .plan) xs (s .survivors) z (values (s .replies) z)
+
+-- where all survivors' first messages and all complete replies but that of z follow the rules, and at least U + 2 are complete, the total is
+-- the same, and z is set aside exactly if its reply is not the right one
+unfoldable pub Aside-right : Arithmetic → Type 0
+Aside-right A =
+    (s t : State) (a : Answer) (xs : List ℕ) (x : Table) (z : ℕ) → Well A s → refusal A finish-record s ≡ 0 → list-good A (s .plan) xs ≡ true →
+    admissible A (s .plan) (in-set (s .survivors)) (λ k. counts) x → s .plan .threshold + 2 ≤ ones (s .plan .users) (replied s) →
+    One-false A (s .plan) xs x (s .survivors) (replied s) z (values (s .firsts)) (values (s .replies)) → Steps A finish-record s a t →
+    (a ≡ totalled (s .round) (named-in A s xs z) (map (whole-total (s .plan) x (s .survivors)) (span (places (s .plan)) 0)))
+    × Totals-fit A (s .plan) x (s .survivors)
+
+unfoldable pub Aside-residues : Arithmetic → Type 0
+Aside-residues A =
+    (s t : State) (a : Answer) (xs : List ℕ) (x : Table) (z : ℕ) → Well A s → refusal A finish-record s ≡ 0 → list-good A (s .plan) xs ≡ true →
+    s .plan .threshold + 2 ≤ ones (s .plan .users) (replied s) →
+    One-false A (s .plan) xs x (s .survivors) (replied s) z (values (s .firsts)) (values (s .replies)) → Steps A finish-record s a t →
+    a ≡ totalled (s .round) (named-in A s xs z) (map (total-at A (s .plan) x (s .survivors)) (span (places (s .plan)) 0))
+
+-- 16 is the answer to a finish of enough complete replies that disagree, where there are U + 1 of them or no single user fits, and to
+-- nothing else
 pub record Unexplained (A : Arithmetic) (r : Record) (s t : State) : Type 0 where
   pub finish : r ≡ finish-record
   pub unchanged : t ≡ s
   pub enough : refusal A finish-record s ≡ 0
-  pub no-choice : (f : (block : ℕ) → List ℕ) → explained-by A s f ≡ true → ⊥
+  pub apart : apart-in A s
 
 unfoldable pub Sixteen-exactly : Arithmetic → Type 0
 Sixteen-exactly A = (r : Record) (s t : State) → Steps A r s (refused 16) t ↔ Unexplained A r s t
@@ -90,6 +115,9 @@ pub record Demand-2 : Type 0 where
   pub as-new : As-new sixteen
   pub finish-right : Finish-right sixteen
   pub finish-residues : Finish-residues sixteen
+  pub at-most-one : (p : Plan) → plan-good p ≡ true → At-most-one sixteen p
+  pub aside-right : Aside-right sixteen
+  pub aside-residues : Aside-residues sixteen
   pub signed-read : (p : Plan) → Signed-read sixteen p
   pub sixteen-exactly : Sixteen-exactly sixteen
   pub never-sixteen : Never-sixteen sixteen

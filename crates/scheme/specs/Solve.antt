@@ -1,9 +1,9 @@
 -- Square Cauchy systems on lists of numbers, over an arithmetic with its laws, everything by position: row a has the point of the
 -- number rows[a], column i that of columns[i], and the coefficient is 1 / (row + column).
 --   Points, Square             the first n numbers are in range and different; such rows and columns
---   value-of, fits-of          the value of a row; the rows from n to m - 1 have the values that follow from the unknowns
+--   value-of                   the value of a row
 --   cell, grid, block          a grid: the number of a row and a block; n rows by a rule; the numbers of a block
---   row-fits                   whether a row of several blocks has the values that follow
+--   row-fits, First-misfit     whether a row of several blocks has the values that follow; the first row of some that fails a test
 --   row-points, column-points, right-side       the points of rows and columns, and values, as elements of the field
 --   row-weight .. column-weights                the weights of algebra's closed solution
 --   Weighted                   a system with its weights
@@ -17,7 +17,7 @@
 -- Assumes nothing: these are definitions.
 use mathlib.Core.Path.{_≡_}
 use mathlib.Core.Logic.{_≢_}
-use mathlib.Core.Bool.{Bool, cond}
+use mathlib.Core.Bool.{Bool, true, false, cond}
 use mathlib.Core.List.{List, map}
 use Prim.Native.Nat.{ℕ, _+_, _*_, _-_, _/_, _%_, _≤_, _<_}
 use lib.Dec.{eqb}
@@ -44,9 +44,6 @@ pub record Square (rows columns : List ℕ) (n : ℕ) : Type 0 where
 abbrev pub value-of : Arithmetic → (x : ℕ) → (points values : List ℕ) → (n : ℕ) → ℕ
 value-of A x ps vs n = weighed-by A (λ i. A .coefficient x (getD ps i 0)) n (λ i. getD vs i 0)
 
-unfoldable pub fits-of : Arithmetic → (rows columns values unknowns : List ℕ) → (n m : ℕ) → Bool
-fits-of A rs cs vs ws n m = all-of (λ a. eqb (value-of A (getD rs a 0) cs ws n) (getD vs a 0)) (span (m - n) n)
-
 -- ---- GRIDS: a row for each user, in it a number for each block
 abbrev pub cell : (grid : List ℕ) → (a b : ℕ) → ℕ
 cell g a b = getD g (a * most-blocks + b) 0
@@ -60,6 +57,13 @@ block g b = map (λ a. cell g a b) (span most-users 0)
 
 unfoldable pub row-fits : Arithmetic → (rows columns values unknowns : List ℕ) → (n blocks a : ℕ) → Bool
 row-fits A rs cs vs ws n m a = all-of (λ b. eqb (value-of A (getD rs a 0) cs (block ws b) n) (cell vs a b)) (span m 0)
+
+-- of the rows from `from` to m - 1, and m where all pass
+pub record First-misfit (test : ℕ → Bool) (from m at : ℕ) : Type 0 where
+  pub low : from ≤ at
+  pub high : at ≤ m
+  pub before : (a : ℕ) → from ≤ a → a < at → test a ≡ true
+  pub fails : at < m → test at ≡ false
 
 -- ---- THE CLOSED SOLUTION
 module _ (A : Arithmetic) (L : Laws A most-users most-threshold) where

@@ -3,7 +3,7 @@
 //   factors, inverse_row                a row of the system, and a row of its inverse
 //   two_products, all_products          a row times the numbers of a block
 //   put_row, solve                      the unknowns of every block
-//   same_row, fits                      whether further rows have the values that follow
+//   same_row, misfit                    whether a further row has the values that follow; the first that has not
 // Everything goes by position: row a has the point rows[a], 1 to MOST_USERS, column i the point columns[i], 1 to MOST_THRESHOLD, and
 // of each array the first n entries count. A grid has a row for each user, in it a number for each block. The functions are for points
 // that the caller knows to be in range and different. What they compute is defined in Solve of crate scheme.
@@ -17,7 +17,7 @@ ghost use Rattle.scheme.specs.Limits.{most-users, most-threshold, most-blocks, 
 ghost use Rattle.scheme.specs.Lists.{span, all-of, filled};
 ghost use Rattle.scheme.specs.Scheme.{q, sixteen};
 ghost use Rattle.scheme.specs.Weighed.{weighed, Unreduced};
-ghost use Rattle.scheme.specs.Solve.{Points, Weighted, cell, row-weight, row-weights, column-weights, unknowns-of, row-fits, gap-between, gap-entry, inverse-at, Sums-low, Factors};
+ghost use Rattle.scheme.specs.Solve.{Points, Weighted, cell, row-weight, row-weights, column-weights, unknowns-of, row-fits, First-misfit, gap-between, gap-entry, inverse-at, Sums-low, Factors};
 ghost use Rattle.element.specs.Fold.{most-folded};
 ghost use Rattle.solve.specs.Solve.{laws16};
 use plan::BLOCKS;
@@ -228,29 +228,31 @@ fn same_row(
     good
 }
 
-// Whether the rows from n to m - 1 have in each block the values that follow from the unknowns.
-pub fn fits(
+// The first of the rows from `from` to m - 1 that has not in each block the value that follows from the unknowns, and m where all have.
+pub fn misfit(
     rows: &[u32; USERS],
     columns: &[u32; USERS],
     values: &[u16; CELLS],
     unknowns: &[u16; CELLS],
     n: usize,
+    from: usize,
     m: usize,
     blocks: usize,
-) -> bool
-    requires { ⌜ (n ≤ m) × (m ≤ most-users) × (blocks ≤ most-blocks) × Points most-users m (now rows) × Points most-threshold n (now columns) ⌝ }
-    ensures { λ r. ⌜ r ≡ all-of
-        (row-fits sixteen (now (rows .entry)) (now (columns .entry)) (now (values .entry)) (now (unknowns .entry)) n blocks) (span (m - n) n) ⌝ }
+) -> usize
+    requires { ⌜ (n ≤ from) × (from ≤ m) × (m ≤ most-users) × (blocks ≤ most-blocks)
+        × Points most-users m (now rows) × Points most-threshold n (now columns) ⌝ }
+    ensures { λ r. ⌜ First-misfit
+        (row-fits sixteen (now (rows .entry)) (now (columns .entry)) (now (values .entry)) (now (unknowns .entry)) n blocks) from m r ⌝ }
 {
-    let mut at = n * BLOCKS;
-    let mut a = n;
+    let mut at = from * BLOCKS;
+    let mut a = from;
     while a < m {
         let list = factors(rows[a], columns, n);
         if !same_row(&list, unknowns, n, values, at, blocks) {
-            return false;
+            return a;
         }
         at += BLOCKS;
         a += 1;
     }
-    true
+    m
 }

@@ -1,18 +1,19 @@
--- One record: its answer and its line.
+-- One record: its answer and its lines.
 --   told-taken, told-refused                  what a number answers
 --   turn-told, turn-taken, turn-refused       the call's answer decides the line
 --   plan-says .. finish-says                  what each call says
 --   record-finish                             which record stands at a place
 --   finish-good                               an accepted finish has a good plan
---   line-short                                every line fits into the room for one
+--   line-short                                the text of every answer fits into the room for any
 -- Assumes nothing.
 use mathlib.Core.Path.{_≡_, refl, sym, ap}
 use mathlib.Core.Logic.{_≢_}
-use mathlib.Core.List.{List, [], _∷_, map}
+use mathlib.Core.Bool.{true, false, cond}
+use mathlib.Core.List.{List, [], _∷_, _++_, map}
 use Prim.Native.Nat.{ℕ, zero, suc, _+_, _*_, _^_, _≤_, _<_}
 use native.Mathlib.Nat.{mod-lt, lt-trans, mul-suc}
 use native.Mathlib.Omega.{arith}
-use lib.Dec.{lit<}
+use lib.Dec.{lit<, eqb}
 use lib.ListN.{length, getD, take, length-append}
 use borrow.Author.Tests.{ne-eqb}
 use Rattle.scheme.specs.Limits.{most-places}
@@ -37,8 +38,8 @@ use Rattle.service.specs.View.{view}
 use Rattle.service.specs.Promise.{told}
 use Rattle.finish.specs.Finish.{finish-refusal, finish-answer, finish-step}
 use Rattle.finish.proofs.Steps.{totals-first}
-use Rattle.lines.specs.Text.{decimal, numbers, line}
-use Rattle.lines.specs.Put.{number-room, room, Put}
+use Rattle.lines.specs.Text.{decimal, numbers, aside-word, line-end, aside-line, line}
+use Rattle.lines.specs.Put.{number-room, aside-room, room, Put}
 use Rattle.lines.proofs.Decimals.{decimal-twenty, decimal-most}
 use Rattle.lines.proofs.Lines.{put-as}
 use Rattle.stream.specs.Stream.{record-at, Other, Outcome, outcome, step, Turns}
@@ -79,7 +80,7 @@ unfolding step
 close-says s e = rw e
 
 pub finish-says : (s : Service) {n : ℕ} {r : Finished} → n ≡ places (plan-of (s .head .plan)) → r ≡ finish-step sixteen laws16 s
-    → outcome (r .number) (totalled (s .head .round) (take n (r .totals))) (r .service) ≡ step s finish-record
+    → outcome (r .number) (totalled (s .head .round) (r .aside) (take n (r .totals))) (r .service) ≡ step s finish-record
 unfolding step
 finish-says s d e = rw (d, e)
 
@@ -95,7 +96,7 @@ pub finish-good : (s : Service) → finish-step sixteen laws16 s .number ≡ 0 �
 unfolding finish-step finish-answer finish-refusal
 finish-good s e = good _ (unless-zero _ _ (then-zero _ _ (then-zero _ _ e .1) .0))
 
--- ---- every line fits into the room for one
+-- ---- the text of every answer fits into the room for any
 numbers-short : (l : List ℕ) → length (numbers l) ≤ number-room * length l
 unfolding numbers
 numbers-short [] = omega arith
@@ -115,18 +116,24 @@ module _ (o : ℕ) where
   told-short zero a h = h refl
   told-short (suc n) a h = simp length-append (omega (arith, numbers-short (suc n ∷ []), numbers-short (o ∷ [])))
 
-  -- an element of 16 bits has 5 digits at most
-  total-short : (r : ℕ) (f : ℕ → ℕ) (n : ℕ) → ((i : ℕ) → f i < 10 ^ 5) → n ≤ most-places → length (line o (totalled r (map f (span n 0)))) ≤ room
-  unfolding line numbers
-  total-short r f n h l = simp length-append (omega (arith, decimal-twenty r, numbers-most 5 (lit< tt) f h (span n 0), span-length n 0))
+  aside-short : (r k : ℕ) → length (aside-line r k) ≤ aside-room
+  unfolding aside-line
+  aside-short r k = elim (eqb k 0) as (λ b. length (cond b [] (aside-word ++ numbers (r ∷ k ∷ []) ++ line-end)) ≤ aside-room)
+      [ true ↦ omega arith | false ↦ simp length-append (omega (arith, numbers-short (r ∷ k ∷ []))) ]
 
-  finish-short : (s : Service) → finish-step sixteen laws16 s .number ≡ 0
-      → length (line o (totalled (s .head .round) (take (places (plan-of (s .head .plan))) (finish-step sixteen laws16 s .totals)))) ≤ room
+  -- an element of 16 bits has 5 digits at most
+  total-short : (r k : ℕ) (f : ℕ → ℕ) (n : ℕ) → ((i : ℕ) → f i < 10 ^ 5) → n ≤ most-places → length (line o (totalled r k (map f (span n 0)))) ≤ room
+  unfolding line numbers
+  total-short r k f n h l =
+      simp length-append (omega (arith, aside-short r k, decimal-twenty r, numbers-most 5 (lit< tt) f h (span n 0), span-length n 0))
+
+  finish-short : (s : Service) → let t = finish-step sixteen laws16 s in t .number ≡ 0
+      → length (line o (totalled (s .head .round) (t .aside) (take (places (plan-of (s .head .plan))) (t .totals)))) ≤ room
   unfolding finish-step finish-answer totals-by totals total-of view
   finish-short s e =
       let p = plan-of (s .head .plan) in
       rw (totals-first sixteen laws16 s _ e)
-      (total-short (s .head .round) _ (places p) (λ i. lt-trans (mod-lt _ (lit< tt)) (lit< tt)) (places-le p (finish-good s e)))
+      (total-short (s .head .round) _ _ (places p) (λ i. lt-trans (mod-lt _ (lit< tt)) (lit< tt)) (places-le p (finish-good s e)))
 
   pub line-short : (s : Service) (r : Record) → length (line o (step s r .answer)) ≤ room
   unfolding step line

@@ -83,7 +83,7 @@ Cut-free =
     lines s o (a ++ c) ≡ lines s o a ++ lines (last-state s (items o a)) (o + length a) c
 
 -- ---- a chunk at a time
--- why feed stops: all bytes used; an unknown kind, or a record that is not whole, at the place; no room for a line; an offset past 64 bits
+-- why feed stops: all bytes used; an unknown kind, or a record that is not whole, at the place; no room for the lines of a record; an offset past 64 bits
 unfoldable pub Stops : Stop → (b : List ℕ) → (offset n at wrote : ℕ) → Type 0
 Stops Used b o n i w = i ≡ length b
 Stops Unknown b o n i w = (i < length b) × (length-at b i ≡ 0)

@@ -10,7 +10,7 @@
 --   ready-at, stop-at            whether a record is taken at a place, and why none is
 --   fed-from, fed                what feed hands back: the state, the bytes used and written, and why it stops
 --   early-refusal                the refusal that the head alone decides
---   Turns                        one record: the state before and after it, and its line written
+--   Turns                        one record: the state before and after it, and its lines written
 --   cut-length, cut-left         the line of refusal 7
 -- Assumes nothing: these are definitions.
 use mathlib.Core.Path.{_≡_}
@@ -110,8 +110,8 @@ step s (first-record k i x) = outcome (first-step sixteen s k i x .number) silen
 step s close-record = outcome (close-step s .number) (closed (s .head .round) (close-step s .set)) (close-step s .service)
 step s (reply-record k b x) = outcome (reply-step sixteen s k b x .number) silent (reply-step sixteen s k b x .service)
 step s finish-record =
-    outcome (finish-step sixteen laws16 s .number) (totalled (s .head .round) (take (places (plan-of (s .head .plan))) (finish-step sixteen laws16 s .totals)))
-    (finish-step sixteen laws16 s .service)
+    let t = finish-step sixteen laws16 s in
+    outcome (t .number) (totalled (s .head .round) (t .aside) (take (places (plan-of (s .head .plan))) (t .totals))) (t .service)
 
 pub record Placed : Type 0 where
   pub offset : ℕ
@@ -134,16 +134,16 @@ lines s o b = text (answers s (items o b))
 abbrev pub halt : Service → (at wrote : ℕ) → Stop → Fed
 halt s i w e = record { service = s; at = i; wrote = w; stop = e }
 
--- a record is taken at the place i of a chunk: it is of a known kind and whole, and a line fits into what is left of the buffer
+-- a record is taken at the place i of a chunk: it is of a known kind and whole, and the text of any answer fits into what is left of the buffer
 unfoldable pub ready-at : List ℕ → (at left : ℕ) → Bool
 ready-at b i left = ltb i (length b) && not (eqb (length-at b i) 0) && leb (length-at b i) (length b - i) && leb room left
 
--- why none is: there the chunk ends, or there is an unknown kind, or a record that is not whole, or else no room for a line
+-- why none is: there the chunk ends, or there is an unknown kind, or a record that is not whole, or else no room for an answer's text
 unfoldable pub stop-at : List ℕ → (at : ℕ) → Stop
 stop-at b i =
     cond (leb (length b) i) Used (cond (eqb (length-at b i) 0) Unknown (cond (leb (length-at b i) (length b - i)) Full Partial))
 
--- from the place i of a chunk on, where w bytes of n are written: it stops, or it takes a record and goes on behind it, and behind its line
+-- from the place i of a chunk on, where w bytes of n are written: it stops, or it takes a record and goes on behind it, and behind its lines
 unfoldable pub fed-from : (most : ℕ) → Service → (b : List ℕ) → (offset n i w : ℕ) → Fed
 fed-from zero s b o n i w = halt s i w (stop-at b i)
 fed-from (suc m) s b o n i w =
@@ -164,7 +164,7 @@ early-refusal h close-record = not-gathering (phase-of (h .phase))
 early-refusal h (reply-record k b x) = 0
 early-refusal h finish-record = not-replying (phase-of (h .phase))
 
--- one record, at an offset: the state before and after it, and its line written behind what was written before
+-- one record, at an offset: the state before and after it, and its lines written behind what was written before
 pub record Turns (r : Record) (o : ℕ) (s t : Service) (out out-now : List ℕ) (wrote next : ℕ) : Type 0 where
   pub state : t ≡ step s r .service
   pub put : Put out out-now wrote next (line o (step s r .answer))

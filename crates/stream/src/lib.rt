@@ -26,7 +26,8 @@ use plan::Plan;
 use service::Head;
 use service::Service;
 
-// All bytes are used; an unknown kind or a record that is not whole comes next; no room for a line; offsets would pass 64 bits.
+// All bytes are used; an unknown kind or a record that is not whole comes next; no room for the lines of a record; offsets would pass
+// 64 bits.
 pub enum Stop {
     Used,
     Unknown,
@@ -225,6 +226,7 @@ fn take_finish(
     let plan = head.plan;
     let step = finish::finish_lent(head, first, reply);
     let number = step.number;
+    let aside = step.aside;
     let totals = step.totals;
     let next = step.head;
     if number != 0 {
@@ -232,7 +234,7 @@ fn take_finish(
         return Turned { head: next, wrote };
     }
     let places = plan::places_of(plan);
-    let wrote = lines::put_total(out, at, round, &totals, places);
+    let wrote = lines::put_total(out, at, round, aside, &totals, places);
     Turned { head: next, wrote }
 }
 
@@ -318,7 +320,7 @@ fn take_reply(
     put_element(out, at, number, offset)
 }
 
-// Why no record is taken at a place: the room for a line is the last test.
+// Why no record is taken at a place: the room for its lines is the last test.
 fn stop_at(b: &[u8], at: usize) -> Stop
     ensures { λ r. ⌜ r ≡ stop-at (now (b .entry)) at ⌝ }
 {
@@ -407,7 +409,7 @@ pub fn feed(start: Service, b: &[u8], offset: u64, out: &mut [u8]) -> Fed
     feed_records(start, b, offset, out)
 }
 
-// Writes the line of refusal 7 and answers its length, or 0 where out has no room for a line.
+// Writes the line of refusal 7 and answers its length, or 0 where out has not LINE bytes.
 pub fn cut(offset: u64, out: &mut [u8]) -> usize
     ensures length { λ r. ⌜ r ≡ cut-length offset (length (now (out .entry))) ⌝ }
     ensures left { λ r. ⌜ now (out .exit) ≡ cut-left offset (now (out .entry)) ⌝ }

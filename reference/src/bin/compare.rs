@@ -1,12 +1,12 @@
-//! `compare PROGRAM rounds|repeated|damaged FIRST LAST`: runs a program on the
-//! streams of these seeds, each whole and in random small pieces, and expects
-//! the lines of this implementation. Names the first seed that differs, with
-//! exit status 1.
+//! `compare PROGRAM rounds|repeated|garbled|damaged FIRST LAST`: runs a program
+//! on the streams of these seeds, each whole and in random small pieces, and
+//! expects the lines of this implementation. Names the first seed that differs,
+//! with exit status 1.
 //!
 //! A piece is one datagram: each read of the program gets one piece, however
 //! fast the pieces are sent.
 
-use reference::material::{damaged, repeated, rounds};
+use reference::material::{damaged, garbled, repeated, rounds};
 use reference::random::Random;
 use reference::stream::{run, to_bytes};
 use std::io::{self, Read, Write};
@@ -14,7 +14,7 @@ use std::os::unix::io::OwnedFd;
 use std::os::unix::net::UnixDatagram;
 use std::process::{Child, Command, ExitCode, Stdio};
 
-const USAGE: &str = "usage: compare PROGRAM rounds|repeated|damaged FIRST LAST";
+const USAGE: &str = "usage: compare PROGRAM rounds|repeated|garbled|damaged FIRST LAST";
 /// Rounds or random records in a stream, and the longest piece.
 const COUNT: u32 = 6;
 const LONGEST_PIECE: usize = 12;
@@ -32,6 +32,7 @@ fn main() -> io::Result<ExitCode> {
         let stream = match kind {
             Kind::Rounds => to_bytes(&rounds::records(seed, COUNT)),
             Kind::Repeated => to_bytes(&repeated::records(seed, COUNT)),
+            Kind::Garbled => to_bytes(&garbled::records(seed, COUNT)),
             Kind::Damaged => damaged::bytes(seed, COUNT),
         };
         let expected = run(&stream);
@@ -52,6 +53,7 @@ fn main() -> io::Result<ExitCode> {
 enum Kind {
     Rounds,
     Repeated,
+    Garbled,
     Damaged,
 }
 
@@ -63,6 +65,7 @@ fn read(arguments: &[String]) -> Option<(&str, Kind, u64, u64)> {
     let kind = match kind.as_str() {
         "rounds" => Kind::Rounds,
         "repeated" => Kind::Repeated,
+        "garbled" => Kind::Garbled,
         "damaged" => Kind::Damaged,
         _ => return None,
     };

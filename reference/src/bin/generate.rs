@@ -2,6 +2,7 @@
 //! - `rounds`: a record stream of COUNT rounds
 //! - `repeated`: a record stream of COUNT rounds and one more, in which every
 //!   record comes twice
+//! - `garbled`: a record stream of COUNT rounds with false replies
 //! - `damaged`: a record stream that must be refused in many places, with
 //!   COUNT random records in it
 //! - `calls`: COUNT cases for the key maker and the airfield end,
@@ -11,13 +12,13 @@
 //! - `whole`: COUNT cases of whole rounds, as text for the program `rounds`;
 //!   src/material/vectors.rs sets it out
 
-use reference::material::{calls, damaged, drawn, found, read, repeated, rounds, whole};
+use reference::material::{calls, damaged, drawn, found, garbled, read, repeated, rounds, whole};
 use reference::stream::to_bytes;
 use std::io::{self, BufWriter, Write};
 use std::process::ExitCode;
 
 const USAGE: &str =
-    "usage: generate rounds|repeated|damaged|calls|drawn|found|read|whole SEED [COUNT]";
+    "usage: generate rounds|repeated|garbled|damaged|calls|drawn|found|read|whole SEED [COUNT]";
 const DEFAULT_COUNT: u32 = 20;
 
 fn main() -> io::Result<ExitCode> {
@@ -33,6 +34,7 @@ fn main() -> io::Result<ExitCode> {
     match kind {
         "rounds" => out.write_all(&to_bytes(&rounds::records(seed, count)))?,
         "repeated" => out.write_all(&to_bytes(&repeated::records(seed, count)))?,
+        "garbled" => out.write_all(&to_bytes(&garbled::records(seed, count)))?,
         "damaged" => out.write_all(&damaged::bytes(seed, count))?,
         "calls" => calls::cases(seed, count).try_for_each(|case| write!(out, "{case}"))?,
         "drawn" => drawn::cases(seed, count).try_for_each(|case| write!(out, "{case}"))?,

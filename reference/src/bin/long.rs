@@ -1,10 +1,10 @@
 //! `long PROGRAM COUNT`: COUNT rounds in one process, with numbers that rise
-//! to 4294967295. Expects each line, the totals summed up plainly from the
-//! figures as whole numbers, of which they are the residues, and a peak of
-//! memory that stays where it was after the first tenth. Says what differs,
-//! with exit status 1.
+//! to 4294967295, and in some of them one garbled reply among U + 2. Expects each
+//! line, that reply set aside, the totals summed up plainly from the figures as
+//! whole numbers, of which they are the residues, and a peak of memory that stays
+//! where it was after the first tenth. Says what differs, with exit status 1.
 
-use reference::field::Element;
+use reference::field::{add, Element};
 use reference::material::{first_records, reply_records, table, totals, Row};
 use reference::random::Random;
 use reference::scheme::{first_message, holds, members, shares, Plan, RandomList, Set};
@@ -13,11 +13,11 @@ use std::io::{self, BufRead, BufReader, BufWriter, Write};
 use std::process::{Command, ExitCode, Stdio};
 
 const USAGE: &str = "usage: long PROGRAM COUNT";
-const PLAN: [u8; 4] = [3, 2, 1, 2];
+const PLAN: [u8; 4] = [4, 2, 1, 2];
 /// In kB: the system's own count is that rough. A byte kept for each round would show as ten times this.
 const SLACK: u64 = 64;
 /// The sets that can survive under this plan.
-const SURVIVORS: [Set; 4] = [3, 5, 6, 7];
+const SURVIVORS: [Set; 11] = [3, 5, 6, 7, 9, 10, 11, 12, 13, 14, 15];
 
 fn main() -> io::Result<ExitCode> {
     let arguments: Vec<String> = std::env::args().skip(1).collect();
@@ -130,6 +130,7 @@ struct Round {
     table: Vec<Row>,
     survivors: Set,
     answering: Set,
+    garbled: Option<u8>,
 }
 
 impl Round {
@@ -139,7 +140,10 @@ impl Round {
         let survivors = random.pick(&SURVIVORS);
         let answering = random.pick(&SURVIVORS.map(|set| set & survivors));
         let answering = if plan.usable(answering) { answering } else { survivors };
-        Round { number, list, table, survivors, answering }
+        let tells = members(answering).count() >= plan.least() + 2;
+        let any = 1 + random.below(usize::from(plan.airfields())) as u8;
+        let garbled = random.pick(&[None, Some(any)]).filter(|_| tells);
+        Round { number, list, table, survivors, answering, garbled }
     }
 
     /// The survivors' messages, the close, the others' messages too late, the
@@ -150,7 +154,13 @@ impl Round {
             let figures = self.table[usize::from(airfield - 1)].lent();
             first_records(airfield, &first_message(list.s(airfield), &figures))
         };
-        let reply = |airfield| reply_records(airfield, &shares(&list, airfield, self.survivors));
+        let reply = |airfield| {
+            let mut shares = shares(&list, airfield, self.survivors);
+            if self.garbled == Some(airfield) {
+                shares[0] = add(shares[0], 1);
+            }
+            reply_records(airfield, &shares)
+        };
         let mut records = vec![Record::Open(self.number)];
         records.extend(members(self.survivors).flat_map(first));
         records.push(Record::Close);
@@ -180,6 +190,7 @@ impl Round {
             *offset += FIRST;
         }
         *offset += members(self.answering).count() * REPLY * plan.blocks() + BARE;
+        lines.extend(self.garbled.map(|airfield| format!("aside {} {airfield}", self.number)));
         let totals = totals(plan, &self.table, self.survivors);
         lines.push(format!("total {}{}", self.number, spaced(&totals)));
         lines

@@ -7,10 +7,10 @@
 //! In order: every kind before a plan; plans outside their ranges; the plan;
 //! every kind, and each value at its bound and one past it, when idle, when
 //! gathering and when replying; a round with just U replies, in which all
-//! elements come again, and one with replies drawn at random; `steps` random
-//! records; the last round number; and one ending: none, an unknown kind, each
-//! kind cut after each length, or random bytes. With the last ending the stream
-//! is random bytes from the start.
+//! elements come again, one with replies drawn at random, and one in which all
+//! replies but one agree; `steps` random records; the last round number; and one
+//! ending: none, an unknown kind, each kind cut after each length, or random
+//! bytes. With the last ending the stream is random bytes from the start.
 
 use super::{first_records, plan_by_seed, reply_records};
 use crate::field::{LARGEST, Q};
@@ -33,7 +33,7 @@ const ELEMENTS: [u16; 4] = [0, LARGEST, Q, u16::MAX];
 const STEP_WEIGHTS: usize = 32;
 
 /// Rounds opened before the random records start.
-const FIXED_ROUNDS: u32 = 4;
+const FIXED_ROUNDS: u32 = 5;
 
 pub fn bytes(seed: u64, steps: u32) -> Vec<u8> {
     let mut random = Random::new(seed);
@@ -132,6 +132,8 @@ fn every_phase(plan: &Plan, random: &mut Random) -> Vec<Record> {
         [vec![Record::Finish], kinds.clone(), bounds].concat(),
         [vec![Record::Open(3)], rows(plan, all, random), vec![Record::Close]].concat(),
         [answers(plan, all, random), vec![Record::Finish; 2], vec![Record::Open(3)]].concat(),
+        [vec![Record::Open(4)], rows(plan, all, random), vec![Record::Close]].concat(),
+        [one_false(plan, random), vec![Record::Finish], kinds.clone()].concat(),
         [vec![Record::Open(FIXED_ROUNDS)], kinds].concat(),
     ]
     .concat()
@@ -148,6 +150,15 @@ fn rows(plan: &Plan, last: u8, random: &mut Random) -> Vec<Record> {
 fn answers(plan: &Plan, last: u8, random: &mut Random) -> Vec<Record> {
     (1..=last)
         .flat_map(|airfield| reply_records(airfield, &random.elements(plan.blocks())))
+        .collect()
+}
+
+/// Whole replies of all airfields: 0 throughout, but for one airfield.
+fn one_false(plan: &Plan, random: &mut Random) -> Vec<Record> {
+    let odd = 1 + random.below(usize::from(plan.airfields())) as u8;
+    let element = |airfield| if airfield == odd { LARGEST } else { 0 };
+    (1..=plan.airfields())
+        .flat_map(|airfield| reply_records(airfield, &vec![element(airfield); plan.blocks()]))
         .collect()
 }
 

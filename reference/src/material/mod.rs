@@ -3,6 +3,7 @@
 //!
 //! - `rounds`: streams of whole rounds, with the ways a round can go wrong
 //! - `repeated`: streams of whole rounds in which every record comes twice
+//! - `garbled`: streams of whole rounds with false replies
 //! - `damaged`: streams that try every bound in every phase, and damage
 //! - `vectors`: calls with their answers as text, one a line
 //! - `calls`: cases for the key maker and the airfield end, by `vectors`
@@ -21,6 +22,7 @@ pub mod calls;
 pub mod damaged;
 pub mod drawn;
 pub mod found;
+pub mod garbled;
 pub mod read;
 pub mod repeated;
 pub mod rounds;

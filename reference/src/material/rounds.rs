@@ -234,9 +234,13 @@ fn repeat(records: &mut Vec<Record>, random: &mut Random) {
 
 /// The same record with another element; others than elements stay as they are.
 pub(super) fn with_other_element(mut record: Record, random: &mut Random) -> Record {
-    let change = 1 + random.below(usize::from(LARGEST)) as Element;
     if let Record::First { element, .. } | Record::Reply { element, .. } = &mut record {
-        *element = add(*element, change);
+        *element = another(*element, random);
     }
     record
+}
+
+/// Any element but this one.
+pub(super) fn another(element: Element, random: &mut Random) -> Element {
+    add(element, 1 + random.below(usize::from(LARGEST)) as Element)
 }

@@ -21,7 +21,7 @@
 //! | `e airfield place number elements..` | first elements from this place on, each with this answer |
 //! | `c number set` | close; the set is 0 if it is refused |
 //! | `a airfield block number elements..` | reply elements from this block on, each with this answer |
-//! | `t number totals..` | finish |
+//! | `t number aside totals..` | finish; the airfield set aside is 0 if there is none, or if it is refused |
 //! | `v use total number below size` | the reader of totals, and the value read; 0 0 if it is refused |
 //! | `x below size number element` | the residue of a value, as a signed figure; the element is 0 if it is refused |
 //!
@@ -35,7 +35,7 @@ use crate::field::Element;
 use crate::reading::{read_total, residue_of};
 use crate::refusal::Refusal;
 use crate::scheme::{Set, Use};
-use crate::service::Service;
+use crate::service::{Finished, Service};
 use crate::stream::spaced;
 
 pub struct Case {
@@ -161,13 +161,15 @@ impl Case {
         self.runs('a', airfield, block.into(), elements, &numbers);
     }
 
-    /// Gives the totals, none if it is refused.
-    pub fn finish(&mut self) -> Vec<Element> {
+    /// Gives what was finished, nothing if it is refused.
+    pub fn finish(&mut self) -> Option<Finished> {
         let result = self.service.finish();
         let number = number_of(&result);
-        let totals = result.map_or(vec![], |(_, totals)| totals);
-        self.line('t', &[&[number], &totals[..]].concat());
-        totals
+        let finished = result.ok();
+        let aside = finished.as_ref().and_then(|finished| finished.aside).unwrap_or(0);
+        let totals = finished.as_ref().map_or(&[][..], |finished| &finished.totals);
+        self.line('t', &[&[number, aside.into()], totals].concat());
+        finished
     }
 
     pub fn read_total(&mut self, usage: Use, total: u16) {

@@ -6,21 +6,22 @@
 //! case has one round or two, each with its own random list. Every airfield
 //! makes its calls; then the service is given what it sends. Airfields may
 //! drop out before or after the close, leave rows and replies unfinished, come
-//! late, reply though they are no survivors, and one reply may be garbled; a
-//! message may come again, as it was or changed; close and finish may be asked
-//! too early, or once too often. Figures lie within the bound of their
-//! airfield's use. Where no reply is garbled the totals are held against the
-//! residues of the whole-number sums of the survivors' figures; and where the
-//! survivors have one use, what is read from them against those sums.
+//! late, reply though they are no survivors, and one reply or two may be
+//! garbled, in one block or in all; a message may come again, as it was or
+//! changed; close and finish may be asked too early, or once too often. Figures
+//! lie within the bound of their airfield's use. Where no reply is garbled, or
+//! one among U + 2 or more, which is then set aside, the totals are held against
+//! the residues of the whole-number sums of the survivors' figures; and where
+//! the survivors have one use, what is read from them against those sums.
 
 use super::rounds::some_of;
 use super::vectors::Case;
 use super::{
     common_use, plan_by_seed,
-    rounds::{OFTEN, RARE, SOMETIMES},
+    rounds::{another, OFTEN, RARE, SOMETIMES},
     table, totals, whole_sums, Row,
 };
-use crate::field::{add, Element, LARGEST, Q};
+use crate::field::{Element, Q};
 use crate::random::Random;
 use crate::reading::read_total;
 use crate::scheme::{set_of, Plan, Set, Use};
@@ -64,7 +65,7 @@ fn round(case: &mut Case, plan: &Plan, number: u16, random: &mut Random) {
     case.open(number);
     gathering(case, plan, &of(&senders), &of(&others), random);
     let given = replying(case, plan, &of(&repliers), &of(&silent), &of(&others), random);
-    if !given.is_empty() {
+    if let Some(given) = given {
         assert_eq!(given, totals(plan, &table, survivors));
         read_back(case, plan, &table, survivors, &given, random);
     }
@@ -157,9 +158,9 @@ fn gathering(
 }
 
 /// Unfinished replies, replies of others than survivors, then whole replies,
-/// perhaps one garbled, perhaps with a finish before the last one that is
-/// needed or replies that come again; then the finish. Gives its totals, none if
-/// it is refused or a reply is garbled.
+/// perhaps some garbled, perhaps with a finish before the last one that is
+/// needed, for a total or to tell the garbled one, or replies that come again;
+/// then the finish. Gives its totals where they must be right.
 fn replying(
     case: &mut Case,
     plan: &Plan,
@@ -167,7 +168,7 @@ fn replying(
     silent: &[&Sent],
     others: &[&Sent],
     random: &mut Random,
-) -> Vec<Element> {
+) -> Option<Vec<Element>> {
     for sent in silent {
         if random.chance(OFTEN) && !sent.reply.is_empty() {
             let end = random.below(sent.reply.len());
@@ -179,14 +180,18 @@ fn replying(
             case.reply_elements(sent.airfield, 0, &[random.element()]);
         }
     }
-    let garbled = random.chance(SOMETIMES).then(|| random.below(repliers.len().max(1)));
+    let garbled = garbled_ones(repliers.len(), random);
     for (index, sent) in repliers.iter().enumerate() {
         if index + 1 == plan.least() && random.chance(RARE) {
             case.finish();
         }
+        let garbled_came = garbled.iter().any(|&garbled| garbled < index);
+        if index == plan.least() + 1 && garbled_came && random.chance(OFTEN) {
+            case.finish();
+        }
         let mut reply = sent.reply.clone();
-        if garbled == Some(index) && !reply.is_empty() {
-            change_one(&mut reply, random);
+        if garbled.contains(&index) && !reply.is_empty() {
+            garble(&mut reply, random);
         }
         give(&reply, random, |reply| case.reply_elements(sent.airfield, 0, reply));
     }
@@ -194,11 +199,36 @@ fn replying(
         case.reply_elements(plan.airfields() + 1, 0, &[0]);
         case.reply_elements(1, plan.blocks() as u8, &[0]);
     }
-    let totals = case.finish();
-    if garbled.is_none() {
-        totals
+    let finished = case.finish()?;
+    let expected_aside = match garbled[..] {
+        [] => None,
+        [one] if repliers.len() >= plan.least() + 2 => Some(repliers[one].airfield),
+        _ => return None,
+    };
+    assert_eq!(finished.aside, expected_aside);
+    Some(finished.totals)
+}
+
+/// Which of so many replies are garbled: mostly none, sometimes one, rarely two.
+fn garbled_ones(replies: usize, random: &mut Random) -> Vec<usize> {
+    if !random.chance(SOMETIMES) || replies == 0 {
+        return vec![];
+    }
+    let one = random.below(replies);
+    let next = (one + 1) % replies;
+    if next != one && random.chance(SOMETIMES) {
+        vec![one, next]
     } else {
-        vec![]
+        vec![one]
+    }
+}
+
+/// Changes one element of a reply, or all of them.
+fn garble(reply: &mut [Element], random: &mut Random) {
+    if random.chance(OFTEN) {
+        change_one(reply, random);
+    } else {
+        reply.iter_mut().for_each(|element| *element = another(*element, random));
     }
 }
 
@@ -219,5 +249,5 @@ fn give(message: &[Element], random: &mut Random, mut send: impl FnMut(&[Element
 
 fn change_one(message: &mut [Element], random: &mut Random) {
     let at = random.below(message.len());
-    message[at] = add(message[at], 1 + random.below(usize::from(LARGEST)) as Element);
+    message[at] = another(message[at], random);
 }

@@ -1,92 +1,221 @@
--- `finish::explain` meets its contract: proofs/Systems.antt has what the solver's answer says of the replies. Assumes nothing.
-use mathlib.Core.Path.{sym, _∙_}
+-- `finish::explain` meets its contract. The loop's invariant is Searching: proofs/Searching.antt has what each end of a turn shows.
+-- The measure is how many rows are left. Assumes nothing.
+use mathlib.Core.Path.{_≡_, refl, sym, _∙_}
+use Prim.Native.Nat.{_-_, _≤_}
+use native.Mathlib.Omega.{arith}
 use borrow.Author.Needs.{needs}
 use borrow.Author.Tests.{not-true, not-false}
-use Rattle.scheme.specs.Scheme.{sixteen}
+use Rattle.scheme.specs.Scheme.{sixteen, ones}
+use Rattle.scheme.specs.Good.{Good}
+use Rattle.plan.specs.Plan.{plan-of}
 use Rattle.solve.specs.Solve.{laws16}
-use Rattle.finish.proofs.Systems.{system-few, system-many, system-points, system-ready, unknowns-right, fits-right, nothing-fits}
+use Rattle.finish.proofs.Blocks.{listed-few, listed-points}
+use Rattle.scheme.proofs.Pooling.Turns.{arranged-turned}
+use Rattle.finish.proofs.Systems.{arranged-points, turned-right}
+use Rattle.finish.proofs.Searching.{Searching, not-elements, searching-start, searching-more, turn-agreed, turn-left, turn-one, turns-over}
 use Rattle.finish.proofs.explain.Statement.{statement}
 use Rattle.finish.proofs.explain.Tie as tie
 
+abbrev Inv-loop : tie.InvT-loop
+Inv-loop plan set reply count n blocks rows₀ values₀ cleared₀ rows values cleared =
+    (n ≡ plan .threshold) × (blocks ≡ plan .blocks)
+    × ((good : Good (plan-of plan)) (many : plan .threshold ≤ ones (plan .users) set)
+    → Searching sixteen laws16 (plan-of plan) good set many reply count rows values cleared)
+
+abbrev μ-loop : tie.MeasureT-loop
+μ-loop plan set reply count n blocks rows₀ values₀ cleared₀ rows values cleared = count - cleared
+
 -- ---- the places where the facts stand
-abbrev prepared : tie.After-the-columns → tie.After-system-of
-prepared c = c .before .before .before
+abbrev listed : tie.After-gather Inv-loop μ-loop → tie.After-users-of Inv-loop μ-loop
+listed c = let lent = c .before in lent .before .before .before .before
 
-abbrev pointed : tie.After-rows2 → tie.After-the-columns
-pointed c = let weighed = c .before .before .before in weighed .before .before
+abbrev gathered : tie.Else1 Inv-loop μ-loop → tie.After-gather Inv-loop μ-loop
+gathered c = c .before .before .before
 
-abbrev gathered : tie.After-values → tie.After-gather
-gathered c = let lent = c .before .before .before in lent .before .before
+abbrev entered : tie.After-solve-rows Inv-loop μ-loop → tie.Else1 Inv-loop μ-loop
+entered c = let looped = c .before .before .before .before in looped .before
 
-abbrev solved : tie.After-all-elements → tie.After-solve
+abbrev solved : tie.Else2 Inv-loop μ-loop → tie.After-solve-rows Inv-loop μ-loop
 solved c = c .before .before
 
-abbrev tested : tie.After-unknowns → tie.Else1
-tested c = c .before .before .before .before
+abbrev tried : tie.Else4 Inv-loop μ-loop → tie.Else2 Inv-loop μ-loop
+tried c = let more = c .before .before in more .before
 
--- ---- the needs
-system-of-requires : tie.Need-system-of-requires
-system-of-requires c κs = search needs
+abbrev moved : tie.After-gather2 Inv-loop μ-loop → tie.Else4 Inv-loop μ-loop
+moved c = let turned = c .before .before in turned .before .before
 
-the-columns-requires : tie.Need-the-columns-requires
-the-columns-requires c κs = search needs
+-- the search as it stands before a turn, for the plan and the set that came
+searching : (c : tie.After-solve-rows Inv-loop μ-loop) → let e = entered c in let u = listed (gathered e) in let a = u .before .args in
+    let l = c .before .before .before .before .loop in
+    Searching sixteen laws16 (plan-of (a .plan)) (u .before .pre .0) (a .set) (u .before .pre .1) (a .reply .now) (u .users-of .result .count)
+    (l .rows) (l .values) (l .cleared)
+searching c = let s = listed (gathered (entered c)) .before .pre in c .before .before .before .before .loop .inv .2 (s .0) (s .1)
 
-cast-n : tie.Need-cast-n
+users-of-requires : tie.Need-users-of-requires Inv-loop μ-loop
+users-of-requires c κs = c .pre .0 .users-high
+
+cast-n : tie.Need-cast-n Inv-loop μ-loop
 cast-n c = search needs
 
-cast-blocks : tie.Need-cast-blocks
+cast-blocks : tie.Need-cast-blocks Inv-loop μ-loop
 cast-blocks c = search needs
 
-gather-requires : tie.Need-gather-requires
+gather-requires : tie.Need-gather-requires Inv-loop μ-loop
 gather-requires c κs =
-    let h = prepared (pointed c) .system-of .ensures in
-    (system-few sixteen laws16 _ _ _ h, h .good .blocks-high, system-points sixteen laws16 _ _ _ h)
+    let u = c .before .before .before .before in
+    let g = u .before .pre .0 in
+    let h = u .users-of .ensures in
+    let few = listed-few _ _ (g .users-high) _ _ (h .list-right) (h .count-right) in
+    (few, g .blocks-high, listed-points _ _ (g .users-high) _ _ (h .list-right) (h .count-right))
 
-solve-requires : tie.Need-solve-requires
-solve-requires c κs = let k = pointed (gathered c .before) in system-ready sixteen laws16 _ _ _ (prepared k .system-of .ensures) _ (k .the-columns .ensures)
-
-slice-aggregate-all-elements : tie.Need-slice-aggregate-all-elements
+slice-aggregate-all-elements : tie.Need-slice-aggregate-all-elements Inv-loop μ-loop
 slice-aggregate-all-elements c = search needs
 
-all-elements-requires : tie.Need-all-elements-requires
+all-elements-requires : tie.Need-all-elements-requires Inv-loop μ-loop
 all-elements-requires c κs = search needs
 
-returns : tie.Need-returns
+unexplained-requires : tie.Need-unexplained-requires Inv-loop μ-loop
+unexplained-requires c κs = search needs
+
+returns : tie.Need-returns Inv-loop μ-loop
 returns c =
-    let w = solved (c .before) in let g = gathered (w .before) in let k = pointed (g .before) in let h = prepared k .system-of .ensures in
-    let bad = sym (c .before .all-elements .ensures) ∙ not-true _ (c .if1 .taken) in
-    let fit = nothing-fits sixteen laws16 _ _ _ h _ _ _ _ (k .the-columns .ensures) (g .gather .ensures) (w .solve .ensures) bad in
-    let told = unknowns-right sixteen laws16 _ _ _ h _ _ _ _ (k .the-columns .ensures) (g .gather .ensures) (w .solve .ensures) in
-    record { fits-right = fit; unknowns-right = told }
+    let t = c .before .before in
+    let v = t .before .before in
+    let u = listed v in
+    let s = u .before .pre in
+    not-elements sixteen laws16 _ (s .0) _ (s .1) _ _ (u .users-of .ensures) _ (v .gather .ensures)
+    (sym (t .all-elements .ensures) ∙ not-true _ (c .before .if1 .taken)) _ (c .unexplained .ensures)
 
-fits-requires : tie.Need-fits-requires
-fits-requires c κs =
-    let k = pointed (gathered (solved (tested c .before) .before) .before) in
-    let h = prepared k .system-of .ensures in
-    let s = system-ready sixteen laws16 _ _ _ h _ (k .the-columns .ensures) .square in
-    (system-many sixteen laws16 _ _ _ h, system-few sixteen laws16 _ _ _ h, h .good .blocks-high, system-points sixteen laws16 _ _ _ h, s .columns-good)
+loop-holds : tie.Need-loop-holds Inv-loop μ-loop
+loop-holds c =
+    let v = gathered c in
+    let u = listed v in (
+      refl,
+      refl,
+      λ good many.
+          searching-start sixteen laws16 _ good _ many _ _ (u .users-of .ensures) _ (v .gather .ensures)
+          (sym (c .before .all-elements .ensures) ∙ not-false _ (c .if1 .left)),
+    )
 
-returns-2 : tie.Need-returns-2
+solve-rows-requires : tie.Need-solve-rows-requires Inv-loop μ-loop
+solve-rows-requires c κs =
+    let l = c .before .before .before in
+    let u = listed (gathered (l .before)) in
+    let s = u .before .pre in
+    let h = l .loop .inv .2 (s .0) (s .1) in
+    (s .0, h .enough, h .few, arranged-points _ _ (s .0) _ _ (h .arranged))
+
+returns-2 : tie.Need-returns-2 Inv-loop μ-loop
 returns-2 c =
-    let t = tested (c .before) in let w = solved (t .before) in let g = gathered (w .before) in let k = pointed (g .before) in
-    let h = prepared k .system-of .ensures in
-    let ok = sym (t .before .all-elements .ensures) ∙ not-false _ (t .if1 .left) in
-    let fit = c .fits2 .ensures ∙ fits-right sixteen laws16 _ _ _ h _ _ _ _ (k .the-columns .ensures) (g .gather .ensures) (w .solve .ensures) ok in
-    let told = unknowns-right sixteen laws16 _ _ _ h _ _ _ _ (k .the-columns .ensures) (g .gather .ensures) (w .solve .ensures) in
-    record { fits-right = fit; unknowns-right = told }
+    let t = c .before .before in
+    turn-agreed sixteen laws16 _ _ _ _ _ _ _ _ _ (searching t) _ (t .solve-rows .ensures) (c .if2 .taken)
+
+sub-if3 : tie.Need-sub-if3 Inv-loop μ-loop
+sub-if3 c = searching (solved c) .enough
+
+unexplained-requires-2 : tie.Need-unexplained-requires-2 Inv-loop μ-loop
+unexplained-requires-2 c κs = search needs
+
+returns-3 : tie.Need-returns-3 Inv-loop μ-loop
+returns-3 c =
+    let f = c .before in
+    let e = f .before in
+    let t = solved e in
+    turn-left sixteen laws16 _ _ _ _ _ _ _ _ _ (searching t) _ (t .solve-rows .ensures) (e .if2 .left) (omega (arith, f .if3 .taken)) _
+    (c .unexplained2 .ensures)
+
+mul-t24 : tie.Need-mul-t24 Inv-loop μ-loop
+mul-t24 c =
+    let t = c .before .before .before .before .before in
+    omega (arith, t .solve-rows .ensures .first-right .high, searching t .few)
+
+array-read-t27 : tie.Need-array-read-t27 Inv-loop μ-loop
+array-read-t27 c =
+    let m = c .before .before in
+    let e = m .before in
+    let t = solved e in
+    omega (arith, t .solve-rows .ensures .first-right .high, searching t .few, e .if2 .left)
+
+returns-4 : tie.Need-returns-4 Inv-loop μ-loop
+returns-4 c =
+    let m = c .before .before in
+    let e = m .before in
+    let t = solved e in
+    turn-one sixteen laws16 _ _ _ _ _ _ _ _ _ (searching t) _ (t .solve-rows .ensures) (e .if2 .left) (omega (arith, m .if3 .left)) (c .if4 .taken)
+
+turned-requires : tie.Need-turned-requires Inv-loop μ-loop
+turned-requires c κs = let h = searching (solved (tried (c .before))) in (h .enough, h .few)
+
+gather-requires-2 : tie.Need-gather-requires-2 Inv-loop μ-loop
+gather-requires-2 c κs =
+    let n = c .before in
+    let h = searching (solved (tried (n .before .before))) in
+    let g = listed (gathered (entered (solved (tried (n .before .before))))) .before .pre .0 in
+    let d = turned-right _ _ _ _ (h .enough) (n .turned .ensures) in
+    (h .few, g .blocks-high, arranged-points _ _ g _ _ (arranged-turned _ _ _ _ _ (h .enough) d (h .arranged)))
+
+sub-cleared : tie.Need-sub-cleared Inv-loop μ-loop
+sub-cleared c = searching (solved (tried (moved c))) .enough
+
+add-cleared : tie.Need-add-cleared Inv-loop μ-loop
+add-cleared c =
+    let t = solved (tried (moved c)) in
+    omega (arith, searching t .few, t .before .before .before .loop-test .taken)
+
+loop-less : tie.Need-loop-less Inv-loop μ-loop
+loop-less c =
+    let e = moved c in
+    omega (arith, e .before .before .if3 .left, solved (tried e) .before .before .before .loop-test .taken)
+
+loop-again : tie.Need-loop-again Inv-loop μ-loop
+loop-again c =
+    let e = moved c in
+    let t = solved (tried e) in (
+      refl,
+      refl,
+      λ good many.
+          let h = t .before .before .before .before .loop .inv .2 good many in
+          searching-more sixteen laws16 _ good _ many _ _ _ _ _ h _ (t .solve-rows .ensures) (tried e .if2 .left) (omega (arith, e .before .before .if3 .left))
+          (e .if4 .left) _ _ (turned-right _ _ _ _ (h .enough) (c .before .before .turned .ensures)) (c .gather2 .ensures),
+    )
+
+unexplained-requires-3 : tie.Need-unexplained-requires-3 Inv-loop μ-loop
+unexplained-requires-3 c κs = search needs
+
+returns-5 : tie.Need-returns-5 Inv-loop μ-loop
+returns-5 c =
+    let l = c .before .before in
+    let s = listed (gathered (l .before)) .before .pre in
+    turns-over sixteen laws16 _ (s .0) _ (s .1) _ _ _ _ _ (l .loop .inv .2 (s .0) (s .1)) (c .before .loop-test .left) _ (c .unexplained3 .ensures)
 
 pub explain-spec : {M : Type 1} → statement M
 explain-spec =
     tie.close
     (tie.spec
-    system-of-requires
-    the-columns-requires
+    Inv-loop
+    μ-loop
+    users-of-requires
     cast-n
     cast-blocks
     gather-requires
-    solve-requires
     slice-aggregate-all-elements
     all-elements-requires
+    unexplained-requires
     returns
-    fits-requires
-    returns-2)
+    loop-holds
+    solve-rows-requires
+    returns-2
+    sub-if3
+    unexplained-requires-2
+    returns-3
+    mul-t24
+    array-read-t27
+    returns-4
+    turned-requires
+    gather-requires-2
+    sub-cleared
+    add-cleared
+    loop-less
+    loop-again
+    unexplained-requires-3
+    returns-5)

@@ -1,12 +1,11 @@
 -- `finish::put_explained_totals` meets its contract: what explains the replies is taken off the survivors' first elements.
 -- Assumes nothing.
-use mathlib.Core.Path.{refl, sym, _∙_}
+use mathlib.Core.Path.{sym, _∙_}
 use native.Mathlib.Omega.{arith}
 use borrow.Author.Needs.{needs}
-use borrow.Author.Tests.{not-true, not-false}
 use Rattle.scheme.specs.Scheme.{q, items, places}
 use Rattle.scheme.specs.Good.{Good}
-use Rattle.scheme.proofs.Refusals.{unless-held, unless-failed, after-taken, after-refused}
+use Rattle.scheme.proofs.Refusals.{after-taken, after-refused}
 use Rattle.plan.specs.Plan.{plan-of}
 use Rattle.scheme.proofs.PlanBounds.{places-le}
 use Rattle.finish.specs.Parts.{First-sums}
@@ -17,7 +16,7 @@ use Rattle.finish.proofs.put_explained_totals.Tie as tie
 
 -- ---- the places, and what is known there
 abbrev explained : tie.After-users-of → tie.After-explain
-explained c = c .before .before .before .before
+explained c = c .before .before .before
 
 abbrev listed : tie.After-places-of → tie.After-users-of
 listed c = c .before .before .before
@@ -38,12 +37,12 @@ explain-requires c κs = search needs
 
 returns : tie.Need-returns
 returns c =
-    let e = c .before .before in
-    let bad = sym (e .explain .ensures .fits-right) ∙ not-true _ (c .if1 .taken) in
-    record { number-right = sym (unless-failed bad 16); totals-right = e .before .pre .2 ∙ sym (after-refused (λ z. omega arith) _ _) }
+    let e = c .before in
+    let h = e .explain .ensures in
+    record { number-right = h .number-right; aside-right = h .aside-right; totals-right = e .before .pre .2 ∙ sym (after-refused (c .if1 .taken) _ _) }
 
 users-of-requires : tie.Need-users-of-requires
-users-of-requires c κs = c .before .before .before .before .pre .0 .users-high
+users-of-requires c κs = c .before .before .before .pre .0 .users-high
 
 places-of-requires : tie.Need-places-of-requires
 places-of-requires c κs = a-plan (c .before .before)
@@ -74,9 +73,9 @@ returns-2 : tie.Need-returns-2
 unfolding places items
 returns-2 c =
     let t = summed (c .before) in let u = listed (t .before) in let l = u .users-of .ensures in let e = explained u .explain .ensures in
-    let same = totals-same q _ _ _ _ _ _ _ _ (omega arith) (l .list-right) (l .count-right) (sums-right t) (e .unknowns-right) in
-    let fit = sym (e .fits-right) ∙ not-false _ (u .before .before .if1 .left) in
-    record { number-right = sym (unless-held fit 16); totals-right = c .put-all-totals .ensures ∙ same ∙ sym (after-taken refl _ _) }
+    let taken = u .before .before .if1 .left in
+    let same = totals-same q _ _ _ _ _ _ _ _ (omega arith) (l .list-right) (l .count-right) (sums-right t) (e .unknowns-right taken) in
+    record { number-right = e .number-right; aside-right = e .aside-right; totals-right = c .put-all-totals .ensures ∙ same ∙ sym (after-taken taken _ _) }
 
 pub put-explained-totals-spec : {M : Type 1} → statement M
 put-explained-totals-spec =

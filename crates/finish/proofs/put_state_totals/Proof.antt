@@ -62,19 +62,29 @@ passed c =
 not-replying-requires : tie.Need-not-replying-requires
 not-replying-requires c κs = search needs
 
+refused-requires : tie.Need-refused-requires
+refused-requires c κs = search needs
+
 returns : tie.Need-returns
 unfolding finish-refusal
-returns c = refused-right sixteen laws16 _ (c .if1 .taken) (then-stops (c .before .not-replying .ensures) (c .if1 .taken) _) (c .before .before .pre)
+returns c =
+    let t = c .before in
+    let stops = then-stops (t .before .not-replying .ensures) (t .if1 .taken) _ in
+    refused-right sixteen laws16 _ _ (c .refused .ensures) (t .if1 .taken) stops (t .before .before .pre)
 
 is-good-requires : tie.Need-is-good-requires
 is-good-requires c κs = search needs
 
+refused-requires-2 : tie.Need-refused-requires-2
+refused-requires-2 c κs = search needs
+
 returns-2 : tie.Need-returns-2
 unfolding finish-refusal
 returns-2 c =
-    let e = c .before .before .before in
-    let bad = sym (c .before .is-good .ensures) ∙ not-true _ (c .if2 .taken) in
-    refused-right sixteen laws16 _ (λ z. omega arith) (test-refused bad _ _ ∙ sym (then-taken (phase-right e) _)) (start e .pre)
+    let t = c .before in
+    let e = t .before .before .before in
+    let bad = sym (t .before .is-good .ensures) ∙ not-true _ (t .if2 .taken) in
+    refused-right sixteen laws16 _ _ (c .refused2 .ensures) (λ z. omega arith) (test-refused bad _ _ ∙ sym (then-taken (phase-right e) _)) (start e .pre)
 
 cast-complete-set : tie.Need-cast-complete-set
 cast-complete-set c = search needs
@@ -86,12 +96,15 @@ complete-set-requires c κs =
     let n : length (start (past-phase-test t) .args .reply .now) ≡ cells = search needs in
     (g .users-high, omega (arith, g .users-high), g .blocks-high, omega arith)
 
+refused-requires-3 : tie.Need-refused-requires-3
+refused-requires-3 c κs = search needs
+
 returns-3 : tie.Need-returns-3
 unfolding finish-refusal
 returns-3 c =
-    let d = c .before .before in let t = past-plan-test d in let e = past-phase-test t in
-    let h : ones (state d .head .plan .users) (replied (view (state d))) < state d .head .plan .threshold = omega (arith, c .if3 .taken, counted d) in
-    refused-right sixteen laws16 _ (λ z. omega arith)
+    let d = c .before .before .before in let t = past-plan-test d in let e = past-phase-test t in
+    let h : ones (state d .head .plan .users) (replied (view (state d))) < state d .head .plan .threshold = omega (arith, c .before .if3 .taken, counted d) in
+    refused-right sixteen laws16 _ _ (c .refused3 .ensures) (λ z. omega arith)
     (test-refused (lt-leb _ _ h) _ _ ∙ both-passed (phase-right e) (unless-held (a-plan t) 15) _) (start e .pre)
 
 put-explained-totals-requires : tie.Need-put-explained-totals-requires
@@ -107,11 +120,14 @@ put-state-totals-spec =
     tie.close
     (tie.spec
     not-replying-requires
+    refused-requires
     returns
     is-good-requires
+    refused-requires-2
     returns-2
     cast-complete-set
     complete-set-requires
+    refused-requires-3
     returns-3
     put-explained-totals-requires
     returns-4)

@@ -168,7 +168,7 @@ fn total_count(number: u32, places: u32) -> usize
     places as usize
 }
 
-// t number totals..: the finish, and the totals.
+// t number aside totals..: the finish, the airfield set aside, and the totals.
 fn check_finish(mut case: Case, line: &[u16]) -> Checked {
     let service = case.service;
     let finished = finish::finish(service);
@@ -176,17 +176,18 @@ fn check_finish(mut case: Case, line: &[u16]) -> Checked {
     let totals: [u16; MOST_PLACES] = finished.totals;
     let head = next.head;
     case.service = next;
-    let wanted = rest(line, 1);
-    if wanted.len() != total_count(number_at(line, 0), head.places) {
+    let number = number_at(line, 0);
+    let wanted = rest(line, 2);
+    if wanted.len() != total_count(number, head.places) {
         let verdict = Verdict::Damaged;
         return Checked { case, verdict };
     }
-    let verdict = judge(
-        finished.number,
-        number_at(line, 0),
-        true,
-        holds_just(&totals, wanted, 0),
-    );
+    if finished.number == number && finished.aside != number_at(line, 1) {
+        let verdict = Verdict::Aside;
+        return Checked { case, verdict };
+    }
+    let elements = holds_just(&totals, wanted, 0);
+    let verdict = judge(finished.number, number, true, elements);
     Checked { case, verdict }
 }
 

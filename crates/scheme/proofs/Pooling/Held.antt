@@ -1,4 +1,5 @@
 -- Sets made by a test, parts of a set, and the elements held.
+--   in-half                              the users of a set but the first
 --   set-of-below, set-of-in              the users that pass a test, as a set
 --   Part, part                           as many users of a set as are wanted
 --   complete-below, complete-in, complete-held     the users with all their elements held
@@ -33,7 +34,7 @@ unfolding in-set
 in-first b v = ap (λ (x : ℕ). eqb (x % 2) 1) (div-one (v * 2 + bit b)) ∙ ap (λ (x : ℕ). eqb x 1) (low v (bit b) 2 (bit-lt b))
     ∙ elim b as (λ b. eqb (bit b) 1 ≡ b) [ true ↦ refl | false ↦ refl ]
 
-in-half : (v k : ℕ) → in-set v (suc (suc k)) ≡ in-set (v / 2) (suc k)
+pub in-half : (v k : ℕ) → in-set v (suc (suc k)) ≡ in-set (v / 2) (suc k)
 unfolding in-set
 in-half v k =
     let e : suc k - 1 ≡ k = omega arith in

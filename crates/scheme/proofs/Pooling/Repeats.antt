@@ -136,7 +136,7 @@ module _ (A : Arithmetic) where
   thirteen-step : (r : Record) (s t : State) (a : Answer) → a ≡ refused 13 → Steps A r s a t → Other-held A r s t
   thirteen-step _ _ _ _ d (refuses r s e) = other-held r s cc
   thirteen-step _ _ _ _ d (accepts r s f e) = absurd (answer-not-refused r s 13 d)
-  thirteen-step _ _ _ _ d (totals-up s f e h) = let z : _≡_ {A = ℕ} 0 1 = cc in absurd (omega arith)
+  thirteen-step _ _ _ _ d (totals-up s k f e h) = let z : _≡_ {A = ℕ} 0 1 = cc in absurd (omega arith)
   thirteen-step _ _ _ _ d (disagrees s e h) = let z : _≡_ {A = ℕ} 16 13 = cc in absurd (omega arith)
 
   pub thirteen-exactly : Thirteen-exactly A
@@ -204,7 +204,7 @@ module _ (A : Arithmetic) where
   keeps _ _ _ _ h (accepts close-record s f e) g = none-held _
   keeps _ _ _ _ h (accepts (reply-record k b x) s f e) g = one-more _ s h (reply k b x) e g
   keeps _ _ _ _ h (accepts finish-record s f e) g = absurd (holds (sym f))
-  keeps _ _ _ _ h (totals-up s f e c) g = none-held _
+  keeps _ _ _ _ h (totals-up s k f e c) g = none-held _
   keeps _ _ _ _ h (disagrees s e c) g = g
 
   -- ---- many records
@@ -226,7 +226,7 @@ module _ (A : Arithmetic) where
   again-twice h r (planned q) rs l ms m p = own h r (planned q) rs l ms m p
   again-twice h r (opened n) rs l ms m p = own h r (opened n) rs l ms m p
   again-twice h r (closed n v) rs l ms m p = own h r (closed n v) rs l ms m p
-  again-twice h r (totalled n x) rs l ms m p = own h r (totalled n x) rs l ms m p
+  again-twice h r (totalled n k x) rs l ms m p = own h r (totalled n k x) rs l ms m p
   again-twice h r (refused n) rs l ms m p = own h r (refused n) rs l ms m p
 
   twice-from : (h rs : List Record) (l : List Answer) (s t : State) → Runs A rs s l t → Repeats h rs l (all-twice l rs) (all-twice l l)

@@ -1,7 +1,7 @@
 -- Demand 2 of one round: U replies settle the sums and the noise, and with them the total.
 --   all-of-more, all-of-stop, all-of-end     of the numbers from i on: i passes, i does not, none is left
 --   at-apart                           two places of a list without repeats
---   Enough, enough                     rows of at least U users
+--   Enough, enough                     rows whose first U are different users
 --   Explained, explained, explained-back     what `explains` says, for the first rows of a list
 --   columns-known, one-explained       U rows settle U columns
 --   one-choice, some-choice            at least U replies leave at most one choice; U leave one
@@ -59,15 +59,22 @@ at-apart (k ∷ l) d zero (suc b) i j ne = λ e. d .0 (rw e (in-at l b (omega ar
 at-apart (k ∷ l) d (suc a) zero i j ne = λ e. d .0 (rw (← e) (in-at l a (omega arith)))
 at-apart (k ∷ l) d (suc a) (suc b) i j ne = at-apart l (d .1) a b (omega arith) (omega arith) (λ e. ne (ap suc e))
 
--- ---- rows of at least U users
+-- ---- rows whose first U are different users
 pub record Enough (p : Plan) (rs : List ℕ) : Type 0 where
-  pub once : Distinct rs
-  pub inside : (k : ℕ) → In k rs → (1 ≤ k) × (k ≤ p .users)
-  pub many : p .threshold ≤ length rs
+  pub inside : (a : ℕ) → a < p .threshold → (1 ≤ getD rs a 0) × (getD rs a 0 ≤ p .users)
+  pub apart : (a b : ℕ) → a < p .threshold → b < p .threshold → a ≢ b → getD rs a 0 ≢ getD rs b 0
+
+enough-in : (p : Plan) (r : ℕ) → p .threshold ≤ ones (p .users) r → p .threshold ≤ length (users-in p r)
+enough-in p r h = omega (arith, users-in-size p r)
 
 pub enough : (p : Plan) (r : ℕ) → p .threshold ≤ ones (p .users) r → Enough p (users-in p r)
 unfolding users-in
-enough p r h = record { once = members-once (in-set r) (p .users) 1; inside = user-in p r; many = omega (arith, users-in-size p r) }
+enough p r h =
+    let many = enough-in p r h in
+    record {
+      inside = λ a l. user-in p r _ (in-at (users-in p r) a (omega arith));
+      apart = λ a b k l. at-apart (users-in p r) (members-once (in-set r) (p .users) 1) a b (omega arith) (omega arith);
+    }
 
 -- ---- unknowns that explain the values of the first n rows of a list
 abbrev pub unknown : List ℕ → (j : ℕ) → ℕ
@@ -116,14 +123,14 @@ module _ (A : Arithmetic) (p : Plan) (L : Laws A (p .users) (p .threshold)) wher
   -- the first U rows, by their places
   system : (rs : List ℕ) → Enough p rs → System K (λ a. row (getD rs a 0)) col (span (p .threshold) 0) (span (p .threshold) 1)
   system rs e = system-of L (λ a. getD rs a 0) (span (p .threshold) 0) (p .threshold) 1 (span-length (p .threshold) 0) (span-once (p .threshold) 0)
-      (λ a m. e .inside _ (in-at rs a (place a m))) (λ a b h l. at-apart rs (e .once) a b (place a h) (place b l)) (omega arith) (omega arith)
+      (λ a m. e .inside a (place a m)) (λ a b h l. e .apart a b (place a h) (place b l)) (omega arith) (omega arith)
     where
-      place : (a : ℕ) → In a (span (p .threshold) 0) → a < length rs
-      place a m = omega (arith, span-in (p .threshold) 0 a m .1, e .many)
+      place : (a : ℕ) → In a (span (p .threshold) 0) → a < p .threshold
+      place a m = omega (arith, span-in (p .threshold) 0 a m .1)
 
   row-el : (rs : List ℕ) → Enough p rs → (a : ℕ) → a < p .threshold → (f : (j : ℕ) → ℕ)
       → el (row-value A (p .threshold) (getD rs a 0) f) ≡ value K row col (span (p .threshold) 1) (getD rs a 0) (λ j. el (f j))
-  row-el rs e a i f = row-value-el A _ _ L (p .threshold) (getD rs a 0) f (e .inside _ (in-at rs a (omega arith))) (omega arith)
+  row-el rs e a i f = row-value-el A _ _ L (p .threshold) (getD rs a 0) f (e .inside a i) (omega arith)
 
   pub columns-known : (rs : List ℕ) → Enough p rs → (f g : (j : ℕ) → ℕ)
       → ((a : ℕ) → a < p .threshold → row-value A (p .threshold) (getD rs a 0) f ≡ row-value A (p .threshold) (getD rs a 0) g)
@@ -144,14 +151,14 @@ module _ (A : Arithmetic) (p : Plan) (L : Laws A (p .users) (p .threshold)) wher
   pub one-choice : One-choice A p
   unfolding One-choice
   one-choice r y f g many h l b i =
-      let e = enough p r many in
-      one-explained (users-in p r) e (λ k. y k b) _ _ (f b) (g b) (e .many) (e .many) (explained A p r y f h b i) (explained A p r y g l b i)
+      let long = enough-in p r many in
+      one-explained (users-in p r) (enough p r many) (λ k. y k b) _ _ (f b) (g b) long long (explained A p r y f h b i) (explained A p r y g l b i)
 
   -- unknowns that explain the first U replies are those of every choice that explains all
   module _ (r : ℕ) (y : (k block : ℕ) → ℕ) (many : p .threshold ≤ ones (p .users) r) (b : ℕ) (i : b < p .blocks) (w : List ℕ)
       (g : Explained A p (users-in p r) (p .threshold) (λ k. y k b) w) (f : (block : ℕ) → List ℕ) (h : explains-all A p r y f ≡ true) where
     pub settled : f b ≡ w
-    settled = let e = enough p r many in one-explained (users-in p r) e (λ k. y k b) _ _ (f b) w (e .many) (omega arith) (explained A p r y f h b i) g
+    settled = one-explained (users-in p r) (enough p r many) (λ k. y k b) _ _ (f b) w (enough-in p r many) (omega arith) (explained A p r y f h b i) g
 
   -- the closed solution
   pub some-choice : Some-choice A p

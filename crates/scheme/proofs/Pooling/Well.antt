@@ -132,7 +132,7 @@ module _ (A : Arithmetic) where
   unfolding idle-state is-replying
   steps-well _ _ _ _ w (refuses r s e) = w
   steps-well _ _ _ _ w (accepts r s f e) = next-well r s w f e
-  steps-well _ _ _ _ w (totals-up s f e h) = quiet _ _ (s .round) (some-element s w) (λ g. w .good (finishing A s e .planned)) refl
+  steps-well _ _ _ _ w (totals-up s k f e h) = quiet _ _ (s .round) (some-element s w) (λ g. w .good (finishing A s e .planned)) refl
   steps-well _ _ _ _ w (disagrees s e h) = w
 
   runs-well : (rs : List Record) (l : List Answer) (s t : State) → Well A s → Runs A rs s l t → Well A t

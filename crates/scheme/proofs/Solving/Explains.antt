@@ -1,23 +1,20 @@
 -- The solver in the words of demand 2: rows are users, columns are 1 to U, values are replies.
 --   Block                           the arrays of a block: users, columns, values
 --   explains-first                  the unknowns explain the first U values
---   fits-explains, explains-fits    they explain all values exactly if the further rows fit
+--   row-told                        what they give for a row
 -- Assumes nothing.
 use mathlib.Core.Path.{_≡_, sym, ap, ap₂, _∙_}
-use mathlib.Core.Bool.{true}
 use mathlib.Core.List.{List, map}
 use Prim.Native.Nat.{ℕ, _+_, _-_, _≤_, _<_}
-use native.Mathlib.Decide.{decLt}
 use native.Mathlib.Omega.{arith}
 use lib.ListN.{length, getD, take}
 use lib.Seq.{take-at, getD-take}
-use borrow.Author.Tests.{eq-eqb, eqb-true}
 use Rattle.scheme.specs.Limits.{most-users, most-threshold}
 use Rattle.scheme.specs.Lists.{span, padded, filled}
 use Rattle.scheme.specs.Scheme.{Arithmetic, Plan, row-value}
 use Rattle.scheme.specs.Laws.{Laws}
-use Rattle.scheme.specs.Solve.{Square, unknown-at, solution-of, value-of, fits-of}
-use Rattle.scheme.proofs.Lists.{span-in, in-span, map-span-length, all-of-in, at-all-of, in-at}
+use Rattle.scheme.specs.Solve.{Square, unknown-at, solution-of, value-of}
+use Rattle.scheme.proofs.Lists.{span-in, map-span-length}
 use Rattle.scheme.proofs.Sums.{sum-same}
 use Rattle.scheme.proofs.Keys.{elements-map}
 use Rattle.scheme.proofs.Pooling.Totals.{unknown, Explained}
@@ -43,9 +40,11 @@ module _ (A : Arithmetic) (L : Laws A most-users most-threshold) (p : Plan) (use
     unfolding solution-of filled padded
     first = take-at _ _ n (map-span-length _ n 0)
 
-    row-of : (a : ℕ) → a < m → row-value A n (getD users a 0) (unknown (take n W)) ≡ value-of A (getD rs a 0) cs W n
+    pub row-told : (a : ℕ) → a < m
+        → row-value A (p .threshold) (getD users a 0) (unknown (take (p .threshold) (solution-of A L rs cs vs (p .threshold))))
+        ≡ value-of A (getD rs a 0) cs (solution-of A L rs cs vs (p .threshold)) (p .threshold)
     unfolding row-value
-    row-of a h = sum-same A (span n 1) _ _ (λ j i.
+    row-told a h = sum-same A (span n 1) _ _ (λ j i.
         let s = span-in n 1 j i in
         ap₂ (λ (k x : ℕ). A .multiply (A .coefficient k j) x) (sym (block .rows a h)) (getD-take n W (j - 1) 0 (omega arith)))
         ∙ sym (value-row A (getD rs a 0) cs W n (block .columns))
@@ -55,7 +54,7 @@ module _ (A : Arithmetic) (L : Laws A most-users most-threshold) (p : Plan) (use
     explained-by k h f = record {
       long = ap length first ∙ map-span-length _ n 0;
       small = rw first (elements-map A (unknown-at A L rs cs vs n) (span n 0) (λ i l. L .val-small _));
-      fits = λ a l. row-of a (omega arith) ∙ f a l ∙ block .values a (omega arith);
+      fits = λ a l. row-told a (omega arith) ∙ f a l ∙ block .values a (omega arith);
     }
 
     solved : (a : ℕ) → a < n → value-of A (getD rs a 0) cs W n ≡ getD vs a 0
@@ -63,19 +62,3 @@ module _ (A : Arithmetic) (L : Laws A most-users most-threshold) (p : Plan) (use
 
     pub explains-first : Explained A p users (p .threshold) y (take (p .threshold) (solution-of A L rs cs vs (p .threshold)))
     explains-first = explained-by n (block .many) solved
-
-    pub fits-explains : fits-of A rs cs vs (solution-of A L rs cs vs (p .threshold)) (p .threshold) m ≡ true
-        → Explained A p users m y (take (p .threshold) (solution-of A L rs cs vs (p .threshold)))
-    unfolding fits-of
-    fits-explains e = explained-by m (omega arith) (λ a h. elim (decLt a n) [
-      | yes l ↦ solved a l
-      | no l ↦ eqb-true _ _ (all-of-in _ (span (m - n) n) e a (in-span (m - n) n a (omega arith) (omega arith)))
-    ])
-
-    pub explains-fits : Explained A p users m y (take (p .threshold) (solution-of A L rs cs vs (p .threshold)))
-        → fits-of A rs cs vs (solution-of A L rs cs vs (p .threshold)) (p .threshold) m ≡ true
-    unfolding fits-of
-    explains-fits e = at-all-of _ (span (m - n) n) (λ k l.
-        let s = span-in (m - n) n _ (in-at (span (m - n) n) k l) in
-        let a : getD (span (m - n) n) k 0 < m = omega arith in
-        eq-eqb _ _ (sym (row-of _ a) ∙ e .fits _ a ∙ sym (block .values _ a)))
