@@ -87,7 +87,7 @@ module _ (A : Arithmetic) (p : Plan) (r : ℕ) (y : (k block : ℕ) → ℕ) (rs
         → (a : ℕ) → a < m → in-set v (getD rs a 0) ≡ true → test a ≡ true
     passes v g h first a l e =
         let row : (a : ℕ) → a < n → a < m = λ a i. omega (arith, t .many) in
-        let e-nough : Enough p rs = record {
+        let rows-enough : Enough p rs = record {
           inside = λ a i. let s = t .rows .inside a (row a i) in (s .0, s .1);
           apart = λ a b i j. t .rows .apart a b (row a i) (row b j);
         } in
@@ -97,7 +97,7 @@ module _ (A : Arithmetic) (p : Plan) (r : ℕ) (y : (k block : ℕ) → ℕ) (rs
           small = h .small b i;
           fits = λ a j. let s = t .rows .inside a (row a j) in h .right b _ i (s .0) (s .1) (first a j);
         } in
-        let same : g b ≡ f b = one-explained A p L rs e-nough (λ k. y k b) n n (g b) (f b) (omega arith) (omega arith) known (t .first b i) in
+        let same : g b ≡ f b = one-explained A p L rs rows-enough (λ k. y k b) n n (g b) (f b) (omega arith) (omega arith) known (t .first b i) in
         let s = t .rows .inside a l in
         ap (λ (w : List ℕ). row-value A n (getD rs a 0) (unknown w)) (sym same) ∙ h .right b _ i (s .0) (s .1) e)
 
@@ -168,7 +168,7 @@ module _ (p : Plan) (r : ℕ) (rs next : List ℕ) (m : ℕ) (few : p .threshold
     place = λ k lo hi e. let c = g .place k lo hi e in subst (Place next m) (c .same) (new (c .at) (c .low));
   }
 
--- ---- rows that cannot be set aside: `from` of them so far
+-- ---- rows that cannot be set aside, once `from` rows were compared
 pub record Cleared (A : Arithmetic) (p : Plan) (r : ℕ) (y : (k block : ℕ) → ℕ) (rs : List ℕ) (m from : ℕ) : Type 0 where
   pub first : (j : ℕ) → j < p .threshold → p .threshold ≤ j + from → (g : (block : ℕ) → List ℕ) → Aside A p r y (getD rs j 0) g → ⊥
   pub further : (j : ℕ) → p .threshold ≤ j → j < m → m + p .threshold ≤ j + from → (g : (block : ℕ) → List ℕ) → Aside A p r y (getD rs j 0) g → ⊥
