@@ -1,7 +1,7 @@
 /* Document 01's example round through the library, from C: the random list from raw bytes, keys, first messages, the service, the
- * replies to set 5, the total 40, where the shares for each set start, the largest figure, a call for each refusal, elements that come
- * again, a round of signed figures, and rounds with false replies. Prints what it gets on standard error; exit status 1 where anything is
- * not as expected. */
+ * replies to set 5 of round 7, the total 40, notices for other rounds, where the shares for each set start, the largest figure, a call for
+ * each refusal, elements that come again, a round of signed figures, and rounds with false replies. Prints what it gets on standard error;
+ * exit status 1 where anything is not as expected. */
 #include <inttypes.h>
 #include <stdio.h>
 #include <string.h>
@@ -113,10 +113,10 @@ static Airfield report(uint32_t user)
 
     expect("make_key", cutawheno_make_key(list, LIST_LEN, a.key, KEY_LEN, PLAN, user), CUTAWHENO_TAKEN);
     expect_row("key", a.key, expected_keys[row], KEY_LEN);
-    expect("end_start", cutawheno_end_start(a.end, PLAN, user, CUTAWHENO_COUNTS), CUTAWHENO_TAKEN);
-    expect_numbers("fresh", a.end, (uint32_t[]){PLAN, user, CUTAWHENO_FRESH, CUTAWHENO_COUNTS, 0});
+    expect("end_start", cutawheno_end_start(a.end, PLAN, user, CUTAWHENO_COUNTS, ROUND), CUTAWHENO_TAKEN);
+    expect_numbers("fresh", a.end, (uint32_t[]){PLAN, user, CUTAWHENO_FRESH, CUTAWHENO_COUNTS, ROUND});
     expect("first_message", cutawheno_end_first_message(a.key, KEY_LEN, figures[row], PLACES, a.message, PLACES, a.end), CUTAWHENO_TAKEN);
-    expect_numbers("sent", a.end, (uint32_t[]){PLAN, user, CUTAWHENO_SENT, CUTAWHENO_COUNTS, 0});
+    expect_numbers("sent", a.end, (uint32_t[]){PLAN, user, CUTAWHENO_SENT, CUTAWHENO_COUNTS, ROUND});
     expect_row("first message", a.message, expected_messages[row], PLACES);
     return a;
 }
@@ -126,17 +126,17 @@ static uint16_t answer(Airfield *a, uint32_t user, uint32_t set)
 {
     const size_t row = user - 1;
 
-    CutawhenoPart part = cutawheno_end_reply(a->key, KEY_LEN, a->end, set);
+    CutawhenoPart part = cutawheno_end_reply(a->key, KEY_LEN, a->end, set, ROUND);
     if (user == 2) {
         expect_part("reply of user 2", part, (CutawhenoPart){CUTAWHENO_NOT_IN_SET, 0, 0});
-        expect_numbers("end of user 2", a->end, (uint32_t[]){PLAN, user, CUTAWHENO_SENT, CUTAWHENO_COUNTS, 0});
+        expect_numbers("end of user 2", a->end, (uint32_t[]){PLAN, user, CUTAWHENO_SENT, CUTAWHENO_COUNTS, ROUND});
         return 0;
     }
     expect_part("reply", part, (CutawhenoPart){CUTAWHENO_TAKEN, expected_starts[row], BLOCKS});
     expect_row("reply", a->key + part.start, &expected_replies[row], BLOCKS);
-    expect_part("reply again", cutawheno_end_reply(a->key, KEY_LEN, a->end, set), part);
-    expect_part("other set", cutawheno_end_reply(a->key, KEY_LEN, a->end, 7), (CutawhenoPart){CUTAWHENO_OTHER_SET, 0, 0});
-    expect_numbers("answered", a->end, (uint32_t[]){PLAN, user, CUTAWHENO_ANSWERED + set, CUTAWHENO_COUNTS, 0});
+    expect_part("reply again", cutawheno_end_reply(a->key, KEY_LEN, a->end, set, ROUND), part);
+    expect_part("other set", cutawheno_end_reply(a->key, KEY_LEN, a->end, 7, ROUND), (CutawhenoPart){CUTAWHENO_OTHER_SET, 0, 0});
+    expect_numbers("answered", a->end, (uint32_t[]){PLAN, user, CUTAWHENO_ANSWERED + set, CUTAWHENO_COUNTS, ROUND});
     return a->key[part.start];
 }
 
@@ -172,18 +172,55 @@ static void run_round(void)
     expect_same("finished", &s, &(Service){{CUTAWHENO_IDLE, PLAN, PLACES, ROUND, 0}, {0}, {0}});
 }
 
+/* Of a round that is not the end's: refused, whatever set was answered, and the end stays. */
+static void expect_other_round(const uint16_t *key, uint32_t end[CUTAWHENO_END], uint32_t round)
+{
+    uint32_t before[CUTAWHENO_END];
+
+    memcpy(before, end, sizeof before);
+    expect_part("other round", cutawheno_end_reply(key, KEY_LEN, end, SET, round), (CutawhenoPart){CUTAWHENO_OTHER_ROUND, 0, 0});
+    expect_part("other round, other set", cutawheno_end_reply(key, KEY_LEN, end, 7, round), (CutawhenoPart){CUTAWHENO_OTHER_ROUND, 0, 0});
+    expect_part("other round, too few", cutawheno_end_reply(key, KEY_LEN, end, 1, round), (CutawhenoPart){CUTAWHENO_SET_UNUSABLE, 0, 0});
+    expect_part("other round, others' set", cutawheno_end_reply(key, KEY_LEN, end, 6, round), (CutawhenoPart){CUTAWHENO_NOT_IN_SET, 0, 0});
+    expect_numbers("end asked for another round", end, before);
+}
+
+/* Airfield 1 with ends for rounds from the first number to the last. Notices for other rounds, which differ from the own one in one of its
+ * 32 bits, come before the own notice and after it, and are not answered; the own one is. */
+static void run_other_rounds(void)
+{
+    static const uint32_t rounds[] = {0, 1, ROUND, 65536, 0x87654321, UINT32_MAX};
+    const uint16_t *key = expected_keys[0];
+
+    for (size_t i = 0; i < sizeof rounds / sizeof *rounds; i++) {
+        uint32_t end[CUTAWHENO_END];
+        uint16_t message[PLACES];
+        expect("end_start", cutawheno_end_start(end, PLAN, 1, CUTAWHENO_COUNTS, rounds[i]), CUTAWHENO_TAKEN);
+        expect("its round", end[CUTAWHENO_END_AT_ROUND], rounds[i]);
+        expect_part("fresh", cutawheno_end_reply(key, KEY_LEN, end, SET, ~rounds[i]), (CutawhenoPart){CUTAWHENO_OUT_OF_TURN, 0, 0});
+        expect("first_message", cutawheno_end_first_message(key, KEY_LEN, figures[0], PLACES, message, PLACES, end), CUTAWHENO_TAKEN);
+        for (int times = 0; times < 2; times++) {
+            for (uint32_t bit = 1; bit != 0; bit *= 2)
+                expect_other_round(key, end, rounds[i] ^ bit);
+            expect_part("own round", cutawheno_end_reply(key, KEY_LEN, end, SET, rounds[i]),
+                        (CutawhenoPart){CUTAWHENO_TAKEN, expected_starts[0], BLOCKS});
+            expect_numbers("own round", end, (uint32_t[]){PLAN, 1, CUTAWHENO_ANSWERED + SET, CUTAWHENO_COUNTS, rounds[i]});
+        }
+    }
+}
+
 /* Of a set, as asked and as a reply names it: a sent end of the user answers it with the same number and start. */
 static void expect_start(const char *what, const uint32_t plan[4], uint32_t user, uint32_t set, uint32_t number, uint32_t start)
 {
     static const uint16_t key[CUTAWHENO_LONGEST_KEY];
     const size_t key_len = cutawheno_key_len(plan[0], plan[1], plan[2], plan[3]);
-    uint32_t end[CUTAWHENO_END] = {plan[0], plan[1], plan[2], plan[3], user, CUTAWHENO_SENT, CUTAWHENO_COUNTS, 0};
+    uint32_t end[CUTAWHENO_END] = {plan[0], plan[1], plan[2], plan[3], user, CUTAWHENO_SENT, CUTAWHENO_COUNTS, ROUND};
     CutawhenoStart found = cutawheno_reply_start(plan[0], plan[1], plan[2], plan[3], user, set);
     CutawhenoPart part = {number, start, number == CUTAWHENO_TAKEN ? plan[3] : 0};
 
     expect(what, found.number, number);
     expect(what, found.start, start);
-    expect_part(what, cutawheno_end_reply(key, key_len, end, set), part);
+    expect_part(what, cutawheno_end_reply(key, key_len, end, set, ROUND), part);
 }
 
 /* Where the shares start: document 01's keys are a mask and a share for each of three sets; of large plans, airfield 1's first set, behind
@@ -256,8 +293,8 @@ static void run_key_refusals(void)
     expect_row("key buffer", made, untouched, KEY_LEN);
 }
 
-/* An end of user 1 of a use and at a stage, with a last number that no call reads. */
-#define END_OF(use, stage) {PLAN, 1, stage, use, 9}
+/* An end of user 1 of a use and at a stage. */
+#define END_OF(use, stage) {PLAN, 1, stage, use, ROUND}
 #define END_AT(stage) END_OF(CUTAWHENO_COUNTS, stage)
 
 /* What an end refuses leaves buffer and array as they came, whatever stands there. */
@@ -265,14 +302,14 @@ static void run_end_refusals(void)
 {
     const uint16_t *key = expected_keys[0], bad[KEY_LEN] = {CUTAWHENO_Q}, untouched[PLACES] = {7};
     const uint32_t was_fresh[CUTAWHENO_END] = END_AT(CUTAWHENO_FRESH), was_sent[CUTAWHENO_END] = END_AT(CUTAWHENO_SENT);
-    const uint32_t was_last[CUTAWHENO_END] = END_AT(UINT32_MAX), was_bad[CUTAWHENO_END] = {3, 3, 1, 1, 1, CUTAWHENO_SENT, 0, 0};
+    const uint32_t was_last[CUTAWHENO_END] = END_AT(UINT32_MAX), was_bad[CUTAWHENO_END] = {3, 3, 1, 1, 1, CUTAWHENO_SENT, 0, ROUND};
     uint32_t fresh[CUTAWHENO_END] = END_AT(CUTAWHENO_FRESH), sent[CUTAWHENO_END] = END_AT(CUTAWHENO_SENT);
-    uint32_t last[CUTAWHENO_END] = END_AT(UINT32_MAX), no_plan[CUTAWHENO_END] = {3, 3, 1, 1, 1, CUTAWHENO_SENT, 0, 0};
+    uint32_t last[CUTAWHENO_END] = END_AT(UINT32_MAX), no_plan[CUTAWHENO_END] = {3, 3, 1, 1, 1, CUTAWHENO_SENT, 0, ROUND};
     uint16_t message[PLACES] = {7};
 
-    expect("start, plan", cutawheno_end_start(last, 3, 2, 1, 17, 1, CUTAWHENO_SIGNED), CUTAWHENO_BAD_PLAN);
-    expect("start, user 0", cutawheno_end_start(last, PLAN, 0, CUTAWHENO_SIGNED), CUTAWHENO_BAD_USER);
-    expect("start, user 4", cutawheno_end_start(last, PLAN, 4, CUTAWHENO_COUNTS), CUTAWHENO_BAD_USER);
+    expect("start, plan", cutawheno_end_start(last, 3, 2, 1, 17, 1, CUTAWHENO_SIGNED, 9), CUTAWHENO_BAD_PLAN);
+    expect("start, user 0", cutawheno_end_start(last, PLAN, 0, CUTAWHENO_SIGNED, 9), CUTAWHENO_BAD_USER);
+    expect("start, user 4", cutawheno_end_start(last, PLAN, 4, CUTAWHENO_COUNTS, 9), CUTAWHENO_BAD_USER);
     expect("sent twice", cutawheno_end_first_message(key, KEY_LEN, figures[0], PLACES, message, PLACES, sent), CUTAWHENO_OUT_OF_TURN);
     expect("any stage", cutawheno_end_first_message(key, KEY_LEN, figures[0], PLACES, message, PLACES, last), CUTAWHENO_OUT_OF_TURN);
     expect("any plan", cutawheno_end_first_message(key, KEY_LEN, figures[0], PLACES, message, PLACES, no_plan), CUTAWHENO_BAD_PLAN);
@@ -284,23 +321,24 @@ static void run_end_refusals(void)
     expect("bad figures", cutawheno_end_first_message(key, KEY_LEN, bad, PLACES, message, PLACES, fresh), CUTAWHENO_BAD_ELEMENT);
     expect_row("message buffer", message, untouched, PLACES);
 
-    expect_part("fresh", cutawheno_end_reply(key, KEY_LEN, fresh, SET), (CutawhenoPart){CUTAWHENO_OUT_OF_TURN, 0, 0});
-    expect_part("reply, no key", cutawheno_end_reply(NULL, 0, sent, SET), (CutawhenoPart){CUTAWHENO_BAD_LENGTH, 0, 0});
-    expect_part("reply, bad key", cutawheno_end_reply(bad, KEY_LEN, sent, SET), (CutawhenoPart){CUTAWHENO_BAD_ELEMENT, 0, 0});
-    expect_part("too few", cutawheno_end_reply(key, KEY_LEN, sent, 1), (CutawhenoPart){CUTAWHENO_SET_UNUSABLE, 0, 0});
-    expect_part("last set", cutawheno_end_reply(key, KEY_LEN, sent, UINT32_MAX), (CutawhenoPart){CUTAWHENO_SET_UNUSABLE, 0, 0});
-    expect_part("set of others", cutawheno_end_reply(key, KEY_LEN, sent, 6), (CutawhenoPart){CUTAWHENO_NOT_IN_SET, 0, 0});
-    expect_part("any stage", cutawheno_end_reply(key, KEY_LEN, last, SET), (CutawhenoPart){CUTAWHENO_OTHER_SET, 0, 0});
-    expect_part("any plan", cutawheno_end_reply(key, KEY_LEN, no_plan, SET), (CutawhenoPart){CUTAWHENO_BAD_PLAN, 0, 0});
+    expect_part("fresh", cutawheno_end_reply(key, KEY_LEN, fresh, SET, ROUND), (CutawhenoPart){CUTAWHENO_OUT_OF_TURN, 0, 0});
+    expect_part("reply, no key", cutawheno_end_reply(NULL, 0, sent, SET, ROUND), (CutawhenoPart){CUTAWHENO_BAD_LENGTH, 0, 0});
+    expect_part("reply, bad key", cutawheno_end_reply(bad, KEY_LEN, sent, SET, ROUND), (CutawhenoPart){CUTAWHENO_BAD_ELEMENT, 0, 0});
+    expect_part("too few", cutawheno_end_reply(key, KEY_LEN, sent, 1, ROUND), (CutawhenoPart){CUTAWHENO_SET_UNUSABLE, 0, 0});
+    expect_part("last set", cutawheno_end_reply(key, KEY_LEN, sent, UINT32_MAX, ROUND), (CutawhenoPart){CUTAWHENO_SET_UNUSABLE, 0, 0});
+    expect_part("set of others", cutawheno_end_reply(key, KEY_LEN, sent, 6, ROUND), (CutawhenoPart){CUTAWHENO_NOT_IN_SET, 0, 0});
+    expect_part("any stage", cutawheno_end_reply(key, KEY_LEN, last, SET, ROUND), (CutawhenoPart){CUTAWHENO_OTHER_SET, 0, 0});
+    expect_part("any plan", cutawheno_end_reply(key, KEY_LEN, no_plan, SET, ROUND), (CutawhenoPart){CUTAWHENO_BAD_PLAN, 0, 0});
     expect_numbers("fresh end", fresh, was_fresh);
     expect_numbers("sent end", sent, was_sent);
     expect_numbers("end at any stage", last, was_last);
     expect_numbers("end under any plan", no_plan, was_bad);
 
     expect("first_message", cutawheno_end_first_message(key, KEY_LEN, figures[0], PLACES, message, PLACES, fresh), CUTAWHENO_TAKEN);
-    expect_numbers("use and last number stay", fresh, was_sent);
-    expect_part("reply", cutawheno_end_reply(key, KEY_LEN, fresh, SET), (CutawhenoPart){CUTAWHENO_TAKEN, expected_starts[0], BLOCKS});
-    expect_numbers("use and last number stay", fresh, (uint32_t[])END_AT(CUTAWHENO_ANSWERED + SET));
+    expect_numbers("use and round stay", fresh, was_sent);
+    expect_part("reply", cutawheno_end_reply(key, KEY_LEN, fresh, SET, ROUND),
+                (CutawhenoPart){CUTAWHENO_TAKEN, expected_starts[0], BLOCKS});
+    expect_numbers("use and round stay", fresh, (uint32_t[])END_AT(CUTAWHENO_ANSWERED + SET));
 }
 
 /* What a fresh end of user 1 answers to a figure, and what is then in the buffer: the element sent, or 7 after a refusal, which leaves
@@ -385,7 +423,7 @@ static void run_signed_round(void)
         uint32_t end[CUTAWHENO_END];
         CutawhenoResidue lent = cutawheno_residue(changes[user - 1], PLAN);
         expect("residue", lent.number, CUTAWHENO_TAKEN);
-        expect("end_start", cutawheno_end_start(end, PLAN, user, CUTAWHENO_SIGNED), CUTAWHENO_TAKEN);
+        expect("end_start", cutawheno_end_start(end, PLAN, user, CUTAWHENO_SIGNED, ROUND), CUTAWHENO_TAKEN);
         expect("its use", end[CUTAWHENO_END_AT_USE], CUTAWHENO_SIGNED);
         expect("first_message", cutawheno_end_first_message(expected_keys[user - 1], KEY_LEN, &lent.element, PLACES, message, PLACES, end),
                CUTAWHENO_TAKEN);
@@ -417,13 +455,13 @@ static Service service_of_four(uint32_t replies, uint32_t false_set)
         uint16_t *key = keys[user - 1], figure = (uint16_t)(10 * user), message[PLACES];
         uint32_t *end = ends[user - 1];
         expect("make_key", cutawheno_make_key(list_of_four, FOUR_LIST_LEN, key, FOUR_KEY_LEN, PLAN_OF_FOUR, user), CUTAWHENO_TAKEN);
-        expect("end_start", cutawheno_end_start(end, PLAN_OF_FOUR, user, CUTAWHENO_COUNTS), CUTAWHENO_TAKEN);
+        expect("end_start", cutawheno_end_start(end, PLAN_OF_FOUR, user, CUTAWHENO_COUNTS, ROUND), CUTAWHENO_TAKEN);
         expect("first_message", cutawheno_end_first_message(key, FOUR_KEY_LEN, &figure, PLACES, message, PLACES, end), CUTAWHENO_TAKEN);
         expect("first", cutawheno_service_first_element(s.head, s.first, user, 0, message[0]), CUTAWHENO_TAKEN);
     }
     expect("set of four", cutawheno_service_close(LEND(s)).set, EVERYONE);
     for (uint32_t user = 1; user <= replies; user++) {
-        CutawhenoPart part = cutawheno_end_reply(keys[user - 1], FOUR_KEY_LEN, ends[user - 1], EVERYONE);
+        CutawhenoPart part = cutawheno_end_reply(keys[user - 1], FOUR_KEY_LEN, ends[user - 1], EVERYONE, ROUND);
         uint32_t share = (keys[user - 1][part.start] + (false_set >> (user - 1) & 1)) % CUTAWHENO_Q;
         expect("reply", cutawheno_service_reply_element(s.head, s.reply, user, 0, share), CUTAWHENO_TAKEN);
     }
@@ -543,6 +581,7 @@ int main(void)
     expect("version", CUTAWHENO_VERSION, 900);
     run_list();
     run_round();
+    run_other_rounds();
     run_starts();
     run_start_refusals();
     run_key_refusals();

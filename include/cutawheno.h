@@ -1,6 +1,6 @@
 /* Key maker, airfield end and pooling service of document 01, and of document 02 the random list from raw bytes, the bound of figures,
- * signed figures, finding a set's shares and setting one false reply aside, for C: the functions that crates/capi exports (rt staticlib
- * capi gives libcapi.a).
+ * signed figures, finding a set's shares, setting one false reply aside and the round of a key, for C: the functions that crates/capi
+ * exports (rt staticlib capi gives libcapi.a).
  *
  * A plan is four numbers: users (K), threshold (U), collusion (T) and blocks (M). A user is an airfield's number, 1 to K; a set of
  * users is a number whose bit k - 1 stands for user k. An element is a number below CUTAWHENO_Q. A row of figures, and a first
@@ -11,10 +11,14 @@
  * survivors of a round are all of one use, a total read by that use (cutawheno_read_total) is the whole-number sum of their figures. The
  * service is told no use, and a total says none: whoever reads it must know.
  *
+ * The round of an end, chosen at its start and any number, is the round that its key belongs to: a set that is announced for another round
+ * is not answered. All ends whose keys come from one random list are started with one round, and a list serves no second round.
+ *
  * An end is an array of CUTAWHENO_END numbers that the caller keeps and lends to each call: cutawheno_end_start makes it, whatever
  * stood there, and the other calls move its stage themselves. The array may be read and stored at any time: store it after each call
- * that is taken, before anything of the call's answer is sent. Whoever goes on from an older copy gives up what the stage is for: an
- * end that answers a single set. Any numbers are an end, so that BAD_PLAN and BAD_USER are tested at each call.
+ * that is taken, before anything of the call's answer is sent. Whoever goes on from an older copy, or writes another round into it, gives
+ * up what stage and round are for: an end that answers a single set. Any numbers are an end, so that BAD_PLAN and BAD_USER are tested at
+ * each call.
  *
  * A service is three arrays that the caller keeps and lends to each call, all zero for a new service: the head, whose eight numbers
  * are named below, the first elements and the replies. An element that is held stands there as itself plus 1, and 0 where none is
@@ -67,7 +71,7 @@ enum {
     CUTAWHENO_REPLIES = 128
 };
 
-/* What stands where in an end. The last number is kept for later: start writes 0 there, and no call reads it. */
+/* What stands where in an end. */
 enum {
     CUTAWHENO_END_AT_USERS = 0,
     CUTAWHENO_END_AT_THRESHOLD = 1,
@@ -75,7 +79,8 @@ enum {
     CUTAWHENO_END_AT_BLOCKS = 3,
     CUTAWHENO_END_AT_USER = 4,
     CUTAWHENO_END_AT_STAGE = 5,
-    CUTAWHENO_END_AT_USE = 6 /* as it was given at the start; 0 in an array of a version that had counts alone */
+    CUTAWHENO_END_AT_USE = 6,  /* as it was given at the start; 0 in an array of a version that had counts alone */
+    CUTAWHENO_END_AT_ROUND = 7 /* as it was given at the start; 0 in an array of a version that had no rounds */
 };
 
 /* The use of an end, and of a total; a number above 1 is read as signed. */
@@ -132,7 +137,8 @@ enum {
     CUTAWHENO_OUT_OF_TURN = 18,   /* first message already given, or a reply asked of a fresh end */
     CUTAWHENO_OTHER_SET = 19,     /* a set other than the one answered */
     CUTAWHENO_BYTES_RUN_OUT = 31, /* the bytes run out before the list is full */
-    CUTAWHENO_FIGURE_BEYOND = 32  /* a count above 65520 / users, or a signed figure further from zero than 32760 / users, rounded down */
+    CUTAWHENO_FIGURE_BEYOND = 32, /* a count above 65520 / users, or a signed figure further from zero than 32760 / users, rounded down */
+    CUTAWHENO_OTHER_ROUND = 33    /* a set announced for a round other than the end's */
 };
 
 /* What finding a set's shares answers: the refusal or 0; where in the user's key they start, 0 after a refusal. */
@@ -195,7 +201,7 @@ uint32_t cutawheno_signed_bound(uint32_t users, uint32_t threshold, uint32_t col
 
 /* Tells where in the user's key the shares for a set start: they are the `blocks` elements from there on, behind the masks and the shares
  * for the smaller usable sets that hold the user. No key is looked at, and no share handed out. cutawheno_end_reply names the same place;
- * send shares only as it names them, since it is the end that refuses a second set.
+ * send shares only as it names them, since it is the end that refuses a second set and another round.
  * Refusals, the earliest: BAD_PLAN, BAD_USER, SET_UNUSABLE, NOT_IN_SET. */
 CUTAWHENO_ANSWER
 CutawhenoStart cutawheno_reply_start(uint32_t users, uint32_t threshold, uint32_t collusion, uint32_t blocks, uint32_t user, uint32_t set);
@@ -214,11 +220,12 @@ CUTAWHENO_ANSWER
 uint32_t cutawheno_make_key(const uint16_t *list, size_t list_len, uint16_t *key, size_t key_len,
                             uint32_t users, uint32_t threshold, uint32_t collusion, uint32_t blocks, uint32_t user);
 
-/* Starts a fresh end of a user under a plan, for counts or, where is_signed is not 0, for signed figures.
+/* Starts a fresh end of a user under a plan, for counts or, where is_signed is not 0, for signed figures, and for a round, any number.
  * Refusals, the earliest: BAD_PLAN, BAD_USER. */
 CUTAWHENO_ANSWER
 uint32_t cutawheno_end_start(uint32_t end[CUTAWHENO_END],
-                             uint32_t users, uint32_t threshold, uint32_t collusion, uint32_t blocks, uint32_t user, uint32_t is_signed);
+                             uint32_t users, uint32_t threshold, uint32_t collusion, uint32_t blocks, uint32_t user, uint32_t is_signed,
+                             uint32_t round);
 
 /* The element as which a signed figure is lent to the end of any user: itself from 0 on, and below 0 itself plus CUTAWHENO_Q.
  * Refusals, the earliest: BAD_PLAN, FIGURE_BEYOND. */
@@ -233,11 +240,12 @@ CUTAWHENO_ANSWER
 uint32_t cutawheno_end_first_message(const uint16_t *key, size_t key_len, const uint16_t *figures, size_t figures_len,
                                      uint16_t *message, size_t message_len, uint32_t end[CUTAWHENO_END]);
 
-/* Tells where in the key the shares for the announced set lie. The end must have sent, and has then answered the set; the same set
- * asked again gets the same part.
- * Refusals, the earliest: BAD_PLAN, BAD_USER, OUT_OF_TURN, BAD_LENGTH, BAD_ELEMENT (in the key), SET_UNUSABLE, NOT_IN_SET, OTHER_SET. */
+/* Tells where in the key the shares for the set lie that is announced for the round. The end must have sent, and has then answered the
+ * set; the same set asked again for the end's round gets the same part.
+ * Refusals, the earliest: BAD_PLAN, BAD_USER, OUT_OF_TURN, BAD_LENGTH, BAD_ELEMENT (in the key), SET_UNUSABLE, NOT_IN_SET, OTHER_ROUND,
+ * OTHER_SET. */
 CUTAWHENO_ANSWER
-CutawhenoPart cutawheno_end_reply(const uint16_t *key, size_t key_len, uint32_t end[CUTAWHENO_END], uint32_t set);
+CutawhenoPart cutawheno_end_reply(const uint16_t *key, size_t key_len, uint32_t end[CUTAWHENO_END], uint32_t set, uint32_t round);
 
 /* Gives a new service its plan; it is idle then. Refusals, the earliest: PLAN_ORDER, BAD_PLAN. */
 CUTAWHENO_ANSWER

@@ -2,7 +2,7 @@
 //! compiler, so that each is called as ours are.
 use crate::cutawheno;
 use crate::fast::{self, Client, Plan, Service, Stage, Use, MOST_PLACES};
-use crate::rounds::{named, Random, Round};
+use crate::rounds::{named, Random, Round, ROUND};
 use crate::timing::{duel, duel_over};
 use std::hint::black_box;
 
@@ -57,10 +57,10 @@ pub fn measure_first(p: Plan, usage: Use) -> [f64; 2] {
     let (key, figures) = (&round.keys[2], &round.figures[2]);
     let mut message = vec![0; p.places()];
     let mut rust_message = message.clone();
-    let fresh = cutawheno::End::start(ours(p), 3, our_use(usage)).unwrap().numbers();
+    let fresh = cutawheno::End::start(ours(p), 3, our_use(usage), ROUND).unwrap().numbers();
     cutawheno::End::resume(fresh).first_message(key, figures, &mut message).unwrap();
     assert!(message == round.messages[2], "first message under {}", named(p));
-    let rust_fresh = Client { plan: p, user: 3, usage, stage: Stage::Fresh };
+    let rust_fresh = Client { plan: p, user: 3, usage, round: ROUND, stage: Stage::Fresh };
     let rust = black_box(Client::first_message as fn(&mut Client, &[u16], &[u16], &mut [u16]) -> u32);
     duel(
         || cutawheno::End::resume(fresh).first_message(key, figures, &mut message).unwrap(),
@@ -72,14 +72,14 @@ pub fn measure_first(p: Plan, usage: Use) -> [f64; 2] {
 pub fn measure_reply(p: Plan) -> [f64; 2] {
     let round = Round::new(p, &mut Random(5));
     let key = &round.keys[2];
-    let mut end = cutawheno::End::start(ours(p), 3, cutawheno::Use::Counts).unwrap();
+    let mut end = cutawheno::End::start(ours(p), 3, cutawheno::Use::Counts, ROUND).unwrap();
     end.first_message(key, &round.figures[2], &mut vec![0; p.places()]).unwrap();
-    assert!(end.reply(key, round.everyone).unwrap() == round.replies[2], "reply under {}", named(p));
-    let mut rust_end = Client { plan: p, user: 3, usage: Use::Counts, stage: Stage::Sent };
-    let rust = black_box(Client::reply as for<'a> fn(&mut Client, &'a [u16], u32) -> Result<&'a [u16], u32>);
+    assert!(end.reply(key, round.everyone, ROUND).unwrap() == round.replies[2], "reply under {}", named(p));
+    let mut rust_end = Client { plan: p, user: 3, usage: Use::Counts, round: ROUND, stage: Stage::Sent };
+    let rust = black_box(Client::reply as for<'a> fn(&mut Client, &'a [u16], u32, u32) -> Result<&'a [u16], u32>);
     duel(
-        || assert_eq!(end.reply(key, round.everyone).unwrap().len(), p.blocks as usize),
-        || assert_eq!(rust(&mut rust_end, key, round.everyone).unwrap().len(), p.blocks as usize),
+        || assert_eq!(end.reply(key, round.everyone, ROUND).unwrap().len(), p.blocks as usize),
+        || assert_eq!(rust(&mut rust_end, key, round.everyone, ROUND).unwrap().len(), p.blocks as usize),
     )
 }
 
@@ -97,8 +97,8 @@ pub fn measure_lookup(p: Plan, user: u32, set: u32) -> [f64; 2] {
 fn opened(p: Plan) -> (cutawheno::Service, Service) {
     let (mut service, mut rust) = (cutawheno::Service::new(), Service::new());
     service.plan(ours(p)).unwrap();
-    service.open(1).unwrap();
-    assert_eq!((rust.plan(p), rust.open(1)), (0, 0));
+    service.open(ROUND).unwrap();
+    assert_eq!((rust.plan(p), rust.open(ROUND)), (0, 0));
     (service, rust)
 }
 

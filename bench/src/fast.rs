@@ -1,4 +1,4 @@
-//! Document 01, and items 1 to 6 of document 02, in plain Rust, written for speed: the algorithms, tests and order of refusals of the
+//! Document 01, and items 1 to 7 of document 02, in plain Rust, written for speed: the algorithms, tests and order of refusals of the
 //! proved crates. Every call answers 0, or the number of its refusal, and then changes nothing; finish the user set
 //! aside, 0 for none, or that number as its error.
 #![allow(dead_code)] // each program uses its part
@@ -322,6 +322,7 @@ pub struct Client {
     pub plan: Plan,
     pub user: u32,
     pub usage: Use,
+    pub round: u32,
     pub stage: Stage,
 }
 
@@ -361,21 +362,22 @@ impl Client {
         0
     }
 
-    fn reply_refusal(&self, key: &[u16], set: u32) -> u32 {
+    fn reply_refusal(&self, key: &[u16], set: u32, round: u32) -> u32 {
         match self.plan.start_refusal(self.user) {
             0 if matches!(self.stage, Stage::Fresh) => 18,
             0 if key.len() != self.plan.key_len() => 2,
             0 if !all_elements(key) => 3,
             0 if !self.plan.is_usable(set) => 5,
             0 if !holds(set, self.user) => 6,
+            0 if round != self.round => 33,
             0 if matches!(self.stage, Stage::Answered(other) if other != set) => 19,
             number => number,
         }
     }
 
-    /// The part of the key with the shares for the set, or the refusal's number.
-    pub fn reply<'a>(&mut self, key: &'a [u16], set: u32) -> Result<&'a [u16], u32> {
-        let number = self.reply_refusal(key, set);
+    /// The part of the key with the shares for the set that is announced for the round, or the refusal's number.
+    pub fn reply<'a>(&mut self, key: &'a [u16], set: u32, round: u32) -> Result<&'a [u16], u32> {
+        let number = self.reply_refusal(key, set, round);
         if number != 0 {
             return Err(number);
         }

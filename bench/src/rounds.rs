@@ -1,6 +1,9 @@
 //! What is measured on: a plan's random list, keys, messages and replies, and streams of records.
 use crate::fast::{make_key, Client, Plan, Stage, Use, Q};
 
+/// Of all ends, and of the services that are called.
+pub const ROUND: u32 = 1;
+
 /// Numbers that look random, the same in every run.
 pub struct Random(pub u64);
 
@@ -63,10 +66,10 @@ impl Round {
             let mut key = vec![0; plan.key_len()];
             let mut message = vec![0; plan.places()];
             let figures = random.figures(plan, usage);
-            let mut end = Client { plan, user, usage, stage: Stage::Fresh };
+            let mut end = Client { plan, user, usage, round: ROUND, stage: Stage::Fresh };
             assert_eq!(make_key(plan, user, &round.list, &mut key), 0);
             assert_eq!(end.first_message(&key, &figures, &mut message), 0);
-            round.replies.push(end.reply(&key, everyone).unwrap().to_vec());
+            round.replies.push(end.reply(&key, everyone, ROUND).unwrap().to_vec());
             round.keys.push(key);
             round.figures.push(figures);
             round.messages.push(message);

@@ -6,11 +6,12 @@
 //! - `make_key`: the key maker, refusals 1, 4, 2, 3
 //! - `reply_start`: where in its key an airfield's shares for a set start, which
 //!   document 02's item 4 looks up, refusals 1, 4, 5, 6
-//! - `End`, `Stage`: an airfield end, its plan, number, use and stage
+//! - `End`, `Stage`: an airfield end, its plan, number, use, round and stage
 //! - `End::start`: a fresh end, refusals 1, 4
 //! - `End::first_message`: refusals 18, 2, 3, and 32, which document 02 adds as
 //!   items 2 and 3
-//! - `End::reply`: refusals 18, 2, 3, 5, 6, 19
+//! - `End::reply`: refusals 18, 2, 3, 5, 6, 19, and before 19 the 33 that
+//!   document 02 adds as item 7
 
 use crate::field::{is_element, Element};
 use crate::reading::value_of;
@@ -68,14 +69,16 @@ pub struct End {
     plan: Plan,
     airfield: u8,
     usage: Use,
+    round: u32,
     stage: Stage,
 }
 
 impl End {
-    pub fn start(plan: [u8; 4], airfield: u8, usage: Use) -> Result<End, Refusal> {
+    /// The key belongs to one round, any number of four bytes.
+    pub fn start(plan: [u8; 4], airfield: u8, usage: Use, round: u32) -> Result<End, Refusal> {
         let plan = Plan::new(plan)?;
         refuse_if(!plan.has_airfield(airfield), Refusal::AirfieldNumber)?;
-        Ok(End { plan, airfield, usage, stage: Stage::Fresh })
+        Ok(End { plan, airfield, usage, round, stage: Stage::Fresh })
     }
 
     /// Writes figures plus S into a lent buffer of L elements. The key is lent
@@ -101,13 +104,20 @@ impl End {
         Ok(())
     }
 
-    /// Hands back the part of the lent key that answers the set.
-    pub fn reply<'a>(&mut self, key: &'a [Element], set: Set) -> Result<&'a [Element], Refusal> {
+    /// Hands back the part of the lent key that answers the set, announced for
+    /// a round.
+    pub fn reply<'a>(
+        &mut self,
+        key: &'a [Element],
+        set: Set,
+        round: u32,
+    ) -> Result<&'a [Element], Refusal> {
         refuse_if(self.stage == Stage::Fresh, Refusal::SentOrFresh)?;
         refuse_if(!self.key_fits(key), Refusal::Length)?;
         refuse_if(!all_elements(key), Refusal::NotElement)?;
         refuse_if(!self.plan.usable(set), Refusal::SetNotUsable)?;
         refuse_if(!holds(set, self.airfield), Refusal::NotInSet)?;
+        refuse_if(round != self.round, Refusal::OtherRound)?;
         let answered_other = matches!(self.stage, Stage::Answered(other) if other != set);
         refuse_if(answered_other, Refusal::OtherSet)?;
         self.stage = Stage::Answered(set);

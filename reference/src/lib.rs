@@ -1,4 +1,4 @@
-//! Second implementation of document 01, and of items 1 to 6 of document 02,
+//! Second implementation of document 01, and of items 1 to 7 of document 02,
 //! written from their text alone, to be run beside the first one. It goes for
 //! the obvious way everywhere: plain vectors, ordered maps, inverses by Fermat,
 //! Gaussian elimination.
@@ -9,8 +9,9 @@
 //! - `scheme`: the plan with its bounds on figures (document 02, items 2 and 3),
 //!   usable sets, and "Keys and messages" as formulas
 //! - `client`: key maker and airfield end, with their refusals in order,
-//!   random lists from raw bytes (document 02, item 1), and where a reply lies
-//!   in a key (document 02, item 4)
+//!   random lists from raw bytes (document 02, item 1), where a reply lies in a
+//!   key (document 02, item 4), and keys that belong to one round (document 02,
+//!   item 7)
 //! - `reading`: totals and signed figures as whole numbers (document 02, item 3)
 //! - `service`: the pooling service, with its refusals in order, repeats of
 //!   elements taken quietly (document 02, item 5), and one garbled reply set

@@ -26,6 +26,7 @@ pub enum Refusal {
     OtherSet = 19,
     BytesRunOut = 31,
     FigureBeyond = 32,
+    OtherRound = 33,
 }
 
 impl Refusal {

@@ -15,6 +15,8 @@ const OTHER_FIGURES: [Element; 3] = [10, 25, 30];
 const KEYS: [[Element; 4]; 3] =
     [[100, 154, 220, 340], [200, 103, 22017, 230], [300, 112, 133, 174]];
 const FIRST_MESSAGES: [Element; 3] = [110, 220, 330];
+/// The round of the service, to which the keys belong.
+const ROUND: u32 = 1;
 const SET_5: Set = 5;
 const SET_7: Set = 7;
 
@@ -26,7 +28,7 @@ fn key(list: &[Element], airfield: u8) -> [Element; 4] {
 
 /// An end that has sent, and what it sent.
 fn sent(key: &[Element], airfield: u8, figure: Element) -> (End, Element) {
-    let mut end = End::start(PLAN, airfield, Use::Counts).unwrap();
+    let mut end = End::start(PLAN, airfield, Use::Counts, ROUND).unwrap();
     let mut message = [0];
     end.first_message(key, &[figure], &mut message).unwrap();
     (end, message[0])
@@ -37,7 +39,7 @@ fn sent(key: &[Element], airfield: u8, figure: Element) -> (End, Element) {
 fn replied(senders: &[u8], replies: &[(u8, Element)]) -> Service {
     let mut service = Service::default();
     service.plan(PLAN).unwrap();
-    service.open(1).unwrap();
+    service.open(ROUND).unwrap();
     for &airfield in senders {
         service.first_element(airfield, 0, FIRST_MESSAGES[usize::from(airfield - 1)]).unwrap();
     }
@@ -50,7 +52,7 @@ fn replied(senders: &[u8], replies: &[(u8, Element)]) -> Service {
 
 /// A finish that gives this total, nobody set aside.
 fn total(total: Element) -> Result<Finished, Refusal> {
-    Ok(Finished { round: 1, aside: None, totals: vec![total] })
+    Ok(Finished { round: ROUND, aside: None, totals: vec![total] })
 }
 
 #[test]
@@ -70,11 +72,11 @@ fn keys_and_first_messages() {
 #[test]
 fn replies_are_parts_of_the_lent_key() {
     let (mut end, _) = sent(&KEYS[2], 3, FIGURES[2]);
-    let part = end.reply(&KEYS[2], SET_5).unwrap();
+    let part = end.reply(&KEYS[2], SET_5, ROUND).unwrap();
     assert!(std::ptr::eq(part, &KEYS[2][1..2]));
     let (mut end, _) = sent(&KEYS[0], 1, FIGURES[0]);
-    assert_eq!(end.reply(&KEYS[0], SET_5), Ok(&[220][..]));
-    assert_eq!(end.reply(&KEYS[0], SET_5), Ok(&[220][..]));
+    assert_eq!(end.reply(&KEYS[0], SET_5, ROUND), Ok(&[220][..]));
+    assert_eq!(end.reply(&KEYS[0], SET_5, ROUND), Ok(&[220][..]));
 }
 
 #[test]
@@ -113,7 +115,8 @@ fn shown(list: &[Element], figures: &[Element; 3]) -> (Vec<Element>, Vec<Element
         .map(|k: u8| sent(&keys[usize::from(k - 1)], k, figures[usize::from(k - 1)]))
         .collect();
     let messages = ends.iter().map(|(_, message)| *message).collect();
-    let replies = [0, 2].map(|index| ends[index].0.reply(&keys[index], SET_5).unwrap()).concat();
+    let replies =
+        [0, 2].map(|index| ends[index].0.reply(&keys[index], SET_5, ROUND).unwrap()).concat();
     (messages, replies, keys[0].to_vec())
 }
 
@@ -128,7 +131,7 @@ fn elements_at_the_bound() {
     key[0] = 65511;
     assert_eq!(sent(&key, 1, 10).1, 0);
     key[0] = 1;
-    let mut end = End::start(PLAN, 1, Use::Counts).unwrap();
+    let mut end = End::start(PLAN, 1, Use::Counts, ROUND).unwrap();
     let mut message = [9];
     for (figure, refusal) in [(65521, Refusal::NotElement), (65520, Refusal::FigureBeyond)] {
         let refused = end.first_message(&key, &[figure], &mut message);
@@ -178,20 +181,20 @@ fn round_numbers_at_the_bounds() {
 #[test]
 fn sets_refused() {
     let (mut end, _) = sent(&KEYS[1], 2, FIGURES[1]);
-    assert_eq!(end.reply(&KEYS[1], 1), Err(Refusal::SetNotUsable));
-    assert_eq!(end.reply(&KEYS[1], 8 + 2), Err(Refusal::SetNotUsable));
-    assert_eq!(end.reply(&KEYS[1], SET_5), Err(Refusal::NotInSet));
+    assert_eq!(end.reply(&KEYS[1], 1, ROUND), Err(Refusal::SetNotUsable));
+    assert_eq!(end.reply(&KEYS[1], 8 + 2, ROUND), Err(Refusal::SetNotUsable));
+    assert_eq!(end.reply(&KEYS[1], SET_5, ROUND), Err(Refusal::NotInSet));
     assert_eq!(end.stage(), Stage::Sent);
     let (mut end, _) = sent(&KEYS[0], 1, FIGURES[0]);
-    end.reply(&KEYS[0], SET_5).unwrap();
-    assert_eq!(end.reply(&KEYS[0], SET_7), Err(Refusal::OtherSet));
+    end.reply(&KEYS[0], SET_5, ROUND).unwrap();
+    assert_eq!(end.reply(&KEYS[0], SET_7, ROUND), Err(Refusal::OtherSet));
     assert_eq!(end.stage(), Stage::Answered(SET_5));
 }
 
 #[test]
 fn turns_refused() {
-    let mut end = End::start(PLAN, 1, Use::Counts).unwrap();
-    assert_eq!(end.reply(&KEYS[0], SET_5), Err(Refusal::SentOrFresh));
+    let mut end = End::start(PLAN, 1, Use::Counts, ROUND).unwrap();
+    assert_eq!(end.reply(&KEYS[0], SET_5, ROUND), Err(Refusal::SentOrFresh));
     let (mut end, _) = sent(&KEYS[0], 1, 10);
     assert_eq!(end.first_message(&KEYS[0], &[10], &mut [0]), Err(Refusal::SentOrFresh));
 }
@@ -212,8 +215,8 @@ fn key_maker_refuses_in_order() {
     assert_eq!(refused(PLAN, 1, &bad_list, 4), 2);
     assert_eq!(refused(PLAN, 1, &bad_element, 5), 2);
     assert_eq!(refused(PLAN, 1, &bad_element, 4), 3);
-    assert_eq!(End::start([3, 3, 1, 1], 0, Use::Counts), Err(Refusal::PlanRange));
-    assert_eq!(End::start(PLAN, 4, Use::Counts), Err(Refusal::AirfieldNumber));
+    assert_eq!(End::start([3, 3, 1, 1], 0, Use::Counts, ROUND), Err(Refusal::PlanRange));
+    assert_eq!(End::start(PLAN, 4, Use::Counts, ROUND), Err(Refusal::AirfieldNumber));
 }
 
 #[test]

@@ -1,7 +1,8 @@
 //! The generated material is repeatable and reaches what it is meant to reach.
 
 use reference::material::{
-    all_plans, calls, damaged, drawn, found, garbled, plan_by_seed, read, repeated, rounds, whole,
+    all_plans, announced, calls, damaged, drawn, found, garbled, plan_by_seed, read, repeated,
+    rounds, whole,
 };
 use reference::scheme::members;
 use reference::stream::{run, to_bytes, Record, Records};
@@ -146,9 +147,10 @@ fn answers(text: &str, at: fn(&str) -> usize) -> BTreeSet<String> {
 
 fn number_at(letter: &str) -> usize {
     match letter {
-        "p" => 5,
-        "k" | "s" | "w" | "e" | "a" | "v" | "x" => 3,
-        "d" | "f" | "r" | "o" => 2,
+        "p" | "s" => 5,
+        "r" => 4,
+        "k" | "w" | "e" | "a" | "v" | "x" => 3,
+        "d" | "f" | "o" => 2,
         _ => 1,
     }
 }
@@ -158,7 +160,7 @@ fn calls_reach_every_answer() {
     let text: String = calls::cases(0, CASES).collect();
     let expected = [
         "p 0", "p 1", "k 0", "k 1", "k 4", "k 2", "k 3", "s 0", "s 1", "s 4", "f 0", "f 18", "f 2",
-        "f 3", "f 32", "r 0", "r 18", "r 2", "r 3", "r 5", "r 6", "r 19",
+        "f 3", "f 32", "r 0", "r 18", "r 2", "r 3", "r 5", "r 6", "r 33", "r 19",
     ];
     assert_eq!(answers(&text, number_at), set(&expected));
 }
@@ -192,7 +194,7 @@ fn first_messages_meet_the_bound() {
         let numbers: Vec<u16> = line.split(' ').skip(1).map(|word| word.parse().unwrap()).collect();
         match (&line[..1], &numbers[..]) {
             ("p", [k, ..]) => airfields = *k,
-            ("s", [_, signed, 0]) => {
+            ("s", [_, signed, _, _, 0]) => {
                 usage = usize::from(*signed);
                 bound = [65520, 32760][usage] / airfields;
                 least = [u16::MAX, 65521 - bound][usage];
@@ -223,6 +225,69 @@ fn first_messages_meet_the_bound() {
         ["0 nowhere, and reaches it below zero", "3 nowhere, and reaches it below zero"];
     assert_eq!(met[0], set(&either));
     assert_eq!(met[1], set(&[&either[..], &below_zero].concat()));
+}
+
+#[test]
+fn announced_sets_reach_every_answer() {
+    let text: String = announced::cases(0, CASES).collect();
+    let expected =
+        ["p 0", "k 0", "s 0", "f 0", "r 0", "r 18", "r 2", "r 3", "r 5", "r 6", "r 33", "r 19"];
+    assert_eq!(answers(&text, number_at), set(&expected));
+}
+
+/// Where the round of a request differs from the end's.
+fn differs(own: [u16; 2], asked: [u16; 2]) -> &'static str {
+    match (own[0] == asked[0], own[1] == asked[1]) {
+        (true, true) => "its round",
+        (false, true) => "another low half",
+        (true, false) => "another high half",
+        (false, false) => "other halves",
+    }
+}
+
+/// Each number is answered for each kind of another round, but 0 and 19, which
+/// only the end's own round meets, and 33, which it does not; and 33 whether
+/// the end has sent alone, has answered the set, or another one.
+#[test]
+fn announced_sets_meet_every_round() {
+    let mut own = [0; 2];
+    let mut owns = BTreeSet::new();
+    let mut met = BTreeSet::new();
+    for line in announced::cases(0, CASES).collect::<String>().lines() {
+        let numbers: Vec<u16> = line.split(' ').skip(1).map(|word| word.parse().unwrap()).collect();
+        match (&line[..1], &numbers[..]) {
+            ("s", &[_, _, low, high, _]) => {
+                own = [low, high];
+                owns.insert(own);
+            }
+            ("r", &[set, low, high, number, stage, ..]) => {
+                let stage = match stage {
+                    0 => "fresh",
+                    1 => "sent",
+                    _ if stage - 2 == set => "answered",
+                    _ => "answered another",
+                };
+                met.insert(format!("{number} {}, {stage}", differs(own, [low, high])));
+            }
+            _ => {}
+        }
+    }
+    let other = ["another low half", "another high half", "other halves"];
+    let mut expected = set(&["0 its round, answered", "19 its round, answered another"]);
+    for stage in ["sent", "answered", "answered another"] {
+        expected.extend(other.map(|round| format!("33 {round}, {stage}")));
+    }
+    for round in [&other[..], &["its round"]].concat() {
+        for answer in ["18 fresh", "5 sent", "6 sent", "5 answered another", "6 answered another"] {
+            let (number, stage) = answer.split_once(' ').unwrap();
+            expected.insert(format!("{number} {round}, {stage}"));
+        }
+    }
+    for round in other {
+        expected.extend(["2", "3"].map(|number| format!("{number} {round}, sent")));
+    }
+    assert_eq!(met, expected);
+    assert!([[0, 0], [u16::MAX, u16::MAX], [1, 0]].iter().all(|round| owns.contains(round)));
 }
 
 #[test]
@@ -321,9 +386,9 @@ fn lines_are_not_too_long() {
 fn whole_rounds_reach_every_answer_they_can() {
     let text: String = whole::cases(0, CASES).collect();
     let expected = [
-        "p 0", "k 0", "s 0", "f 0", "r 0", "r 5", "r 6", "r 19", "o 0", "o 17", "e 0", "e 3",
-        "e 4", "e 8", "e 12", "e 13", "c 0", "c 15", "a 0", "a 4", "a 8", "a 12", "a 13", "a 14",
-        "t 0", "t 12", "t 15", "t 16", "v 0",
+        "p 0", "k 0", "s 0", "f 0", "r 0", "r 5", "r 6", "r 33", "r 19", "o 0", "o 17", "e 0",
+        "e 3", "e 4", "e 8", "e 12", "e 13", "c 0", "c 15", "a 0", "a 4", "a 8", "a 12", "a 13",
+        "a 14", "t 0", "t 12", "t 15", "t 16", "v 0",
     ];
     assert_eq!(answers(&text, number_at), set(&expected));
     for read in ["v 0 65520 0 0 65520", "v 1 32760 0 0 32760", "v 1 32761 0 1 32760"] {

@@ -41,12 +41,12 @@ fn round_of(plan: Plan, table: Vec<Row>, survivors: Set, random: &mut Random) ->
         make_key(plan.numbers(), airfield, &list, &mut key).unwrap();
         let mut message = vec![0; plan.row_length()];
         let row = &table[usize::from(airfield - 1)];
-        let mut end = End::start(plan.numbers(), airfield, row.usage).unwrap();
+        let mut end = End::start(plan.numbers(), airfield, row.usage, 1).unwrap();
         end.first_message(&key, &row.lent(), &mut message).unwrap();
         for (place, &element) in (0..).zip(&message) {
             service.first_element(airfield, place, element).unwrap();
         }
-        replies.push((airfield, end.reply(&key, survivors).unwrap().to_vec()));
+        replies.push((airfield, end.reply(&key, survivors, 1).unwrap().to_vec()));
     }
     assert_eq!(service.close(), Ok((1, survivors)));
     Round { table, survivors, replies, service }

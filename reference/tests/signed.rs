@@ -121,7 +121,7 @@ fn three_comes_first_wherever_it_stands() {
 #[test]
 fn one_use_is_not_the_other() {
     let (mut signed, key) = fresh();
-    let mut counts = End::start(PLAN, 1, Use::Counts).unwrap();
+    let mut counts = End::start(PLAN, 1, Use::Counts, 0).unwrap();
     let mut message = BEFORE;
     assert_eq!(counts.first_message(&key, &[65520, 0], &mut message).unwrap_err().number(), 32);
     assert_eq!(signed.first_message(&key, &[21840, 0], &mut message).unwrap_err().number(), 32);

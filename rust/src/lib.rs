@@ -16,12 +16,14 @@
 //! plan.make_key(1, &list, &mut key)?;
 //! assert_eq!(key, [100, 154, 220, 340]);
 //! assert_eq!(plan.reply_start(1, 5)?, 2);
-//! let mut end = End::start(plan, 1, Use::Counts)?;
+//! let mut end = End::start(plan, 1, Use::Counts, 7)?;
 //! let mut message = [0];
 //! end.first_message(&key, &[10], &mut message)?;
 //! assert_eq!(message, [110]);
-//! assert_eq!(end.reply(&key, 5)?, [220]);
-//! assert_eq!(end.reply(&key, 7), Err(Refusal::OtherSet));
+//! // set 5, announced for round 7; a late notice for round 6 is not answered
+//! assert_eq!(end.reply(&key, 5, 6), Err(Refusal::OtherRound));
+//! assert_eq!(end.reply(&key, 5, 7)?, [220]);
+//! assert_eq!(end.reply(&key, 7, 7), Err(Refusal::OtherSet));
 //!
 //! // a change of -14 goes in, and comes out, as its residue
 //! assert_eq!((plan.residue(-14)?, read_total(Use::Signed, 65507)?), (65507, -14));
@@ -94,6 +96,8 @@ pub enum Refusal {
     BytesRunOut = 31,
     /// A count is above 65520 / K, or a signed figure further from zero than 32760 / K, rounded down.
     FigureBeyond = 32,
+    /// The set is announced for another round than the end's.
+    OtherRound = 33,
 }
 
 impl Refusal {
@@ -123,6 +127,7 @@ impl Refusal {
             Refusal::OtherSet => "another set was answered",
             Refusal::BytesRunOut => "the bytes run out before the list is full",
             Refusal::FigureBeyond => "a count is above 65520 / K, or a signed figure further from zero than 32760 / K, rounded down",
+            Refusal::OtherRound => "the set is announced for another round than the end's",
         }
     }
 }
@@ -229,14 +234,14 @@ extern "C" {
         users: u32, threshold: u32, collusion: u32, blocks: u32, user: u32,
     ) -> u32;
     fn cutawheno_end_start(
-        end: &mut [u32; END], users: u32, threshold: u32, collusion: u32, blocks: u32, user: u32, is_signed: u32,
+        end: &mut [u32; END], users: u32, threshold: u32, collusion: u32, blocks: u32, user: u32, is_signed: u32, round: u32,
     ) -> u32;
     fn cutawheno_residue(value: i32, users: u32, threshold: u32, collusion: u32, blocks: u32) -> Residue;
     fn cutawheno_end_first_message(
         key: *const u16, key_len: usize, figures: *const u16, figures_len: usize, message: *mut u16, message_len: usize,
         end: &mut [u32; END],
     ) -> u32;
-    fn cutawheno_end_reply(key: *const u16, key_len: usize, end: &mut [u32; END], set: u32) -> Part;
+    fn cutawheno_end_reply(key: *const u16, key_len: usize, end: &mut [u32; END], set: u32, round: u32) -> Part;
     fn cutawheno_service_plan(
         head: &mut [u32; HEAD], first: &mut [u16; FIRSTS], reply: &mut [u16; REPLIES],
         users: u32, threshold: u32, collusion: u32, blocks: u32,
@@ -279,6 +284,7 @@ fn refusal(number: u32) -> Refusal {
         19 => Refusal::OtherSet,
         31 => Refusal::BytesRunOut,
         32 => Refusal::FigureBeyond,
+        33 => Refusal::OtherRound,
         _ => unreachable!("the calls have no other refusal"),
     }
 }
@@ -323,7 +329,8 @@ impl Plan {
     }
 
     /// Where in the user's key the shares for a set start: they are the M elements from there on. No key is looked at, and no share handed
-    /// out: what is sent is what [`End::reply`] gives, from the same place, since it is the end that refuses a second set.
+    /// out: what is sent is what [`End::reply`] gives, from the same place, since it is the end that refuses a second set and another
+    /// round.
     pub fn reply_start(self, user: u32, set: u32) -> Result<usize, Refusal> {
         // SAFETY: numbers alone.
         let found = unsafe { cutawheno_reply_start(self.users, self.threshold, self.collusion, self.blocks, user, set) };
@@ -376,12 +383,13 @@ impl Plan {
 }
 
 impl End {
-    /// A fresh end, for figures of this use.
-    pub fn start(plan: Plan, user: u32, usage: Use) -> Result<End, Refusal> {
+    /// A fresh end, for figures of this use and for a round, any number: its key belongs to that round. All ends whose keys come from one
+    /// random list are started with one round.
+    pub fn start(plan: Plan, user: u32, usage: Use, round: u32) -> Result<End, Refusal> {
         let mut numbers = [0; END];
         let Plan { users, threshold, collusion, blocks } = plan;
         // SAFETY: a reference to an array leads to its length, and is borrowed alone.
-        outcome(unsafe { cutawheno_end_start(&mut numbers, users, threshold, collusion, blocks, user, usage as u32) })?;
+        outcome(unsafe { cutawheno_end_start(&mut numbers, users, threshold, collusion, blocks, user, usage as u32, round) })?;
         Ok(End { numbers })
     }
 
@@ -412,10 +420,10 @@ impl End {
         })
     }
 
-    /// The shares for the announced set: the part of the key where they lie.
-    pub fn reply<'a>(&mut self, key: &'a [u16], set: u32) -> Result<&'a [u16], Refusal> {
+    /// The shares for the set that is announced for a round, which must be the end's: the part of the key where they lie.
+    pub fn reply<'a>(&mut self, key: &'a [u16], set: u32, round: u32) -> Result<&'a [u16], Refusal> {
         // SAFETY: pointer and length are those of a slice, and the array is borrowed alone.
-        let part = unsafe { cutawheno_end_reply(key.as_ptr(), key.len(), &mut self.numbers, set) };
+        let part = unsafe { cutawheno_end_reply(key.as_ptr(), key.len(), &mut self.numbers, set, round) };
         outcome(part.number)?;
         Ok(&key[part.start as usize..][..part.count as usize])
     }

@@ -3,6 +3,8 @@
 use cutawheno::{read_total, End, Finished, Plan, Refusal, Service, Use, LONGEST_KEY, LONGEST_LIST, MOST_PLACES};
 
 const Q: u32 = 65521;
+/// A round of which all four bytes differ.
+const ROUND: u32 = 0x87654321;
 
 /// Numbers from a seed (a linear congruential generator, its high half).
 struct Random(u64);
@@ -80,11 +82,11 @@ fn key_of(plan: Plan, user: u32, list: &[u16]) -> Vec<u16> {
 fn closed(plan: Plan, list: &[u16], survivors: u32, rows: &[Vec<u16>], usage: fn(u32) -> Use) -> (Service, Vec<(u32, Vec<u16>)>) {
     let mut service = Service::new();
     service.plan(plan).unwrap();
-    service.open(1).unwrap();
+    service.open(ROUND).unwrap();
     let mut ends = Vec::new();
     for (user, figures) in (1..=plan.users).filter(|&user| holds(survivors, user)).zip(rows) {
         let (key, mut message) = (key_of(plan, user, list), vec![0; plan.row_len()]);
-        let mut end = End::start(plan, user, usage(user)).unwrap();
+        let mut end = End::start(plan, user, usage(user), ROUND).unwrap();
         end.first_message(&key, figures, &mut message).unwrap();
         for (place, &element) in (0..).zip(&message) {
             service.first_element(user, place, element.into()).unwrap();
@@ -93,7 +95,7 @@ fn closed(plan: Plan, list: &[u16], survivors: u32, rows: &[Vec<u16>], usage: fn
     }
     assert_eq!(service.close(), Ok(survivors));
     // an end that was kept and resumed answers as before
-    let reply = |end: &End, key: &[u16]| End::resume(end.numbers()).reply(key, survivors).unwrap().to_vec();
+    let reply = |end: &End, key: &[u16]| End::resume(end.numbers()).reply(key, survivors, ROUND).unwrap().to_vec();
     let replies = ends.iter().map(|(user, end, key)| (*user, reply(end, key))).collect();
     (service, replies)
 }
@@ -228,7 +230,7 @@ fn a_larger_figure_is_refused() {
     for plan in plans() {
         let (user, largest) = (1 + random.below(plan.users), largest_figure(plan));
         let key = key_of(plan, user, &random.elements(plan.list_len()));
-        let mut end = End::start(plan, user, Use::Counts).unwrap();
+        let mut end = End::start(plan, user, Use::Counts, ROUND).unwrap();
         let (fresh, mut message) = (end.numbers(), vec![7; plan.row_len()]);
         for (place, larger) in [0, plan.row_len() - 1].into_iter().flat_map(|place| [largest + 1, 65520].map(|larger| (place, larger))) {
             let mut figures = random.figures(plan, largest);
@@ -247,7 +249,7 @@ fn a_larger_figure_is_refused() {
 fn a_larger_figure_is_refused_last() {
     let plan = Plan { users: 4, threshold: 3, collusion: 1, blocks: 2 };
     let key = key_of(plan, 4, &Random(7).elements(plan.list_len()));
-    let mut end = End::start(plan, 4, Use::Counts).unwrap();
+    let mut end = End::start(plan, 4, Use::Counts, ROUND).unwrap();
     let mut message = [7; 4];
     let mut refused = |key: &[u16], figures: &[u16]| end.first_message(key, figures, &mut message).unwrap_err().number();
     let with = |at: usize, element: u16| [&key[..at], &[element], &key[at + 1..]].concat();
@@ -258,7 +260,7 @@ fn a_larger_figure_is_refused_last() {
     assert_eq!(refused(&with(key.len() - 1, 65521), &[16381, 0, 0, 0]), 3);
     assert_eq!(refused(&key[1..], &[16381, 0, 0, 0]), 2);
     assert_eq!(refused(&key, &[0, 0, 0, 0, 16381]), 2);
-    assert_eq!((end.numbers(), message), ([4, 3, 1, 2, 4, 0, 0, 0], [7; 4]));
+    assert_eq!((end.numbers(), message), ([4, 3, 1, 2, 4, 0, 0, ROUND], [7; 4]));
     // document 02's example at the last place: figure 10 with the mask 65511 sends 0
     end.first_message(&with(3, 65511), &[0, 0, 0, 10], &mut message).unwrap();
     assert_eq!(message, [key[0], key[1], key[2], 0]);
@@ -274,7 +276,7 @@ fn a_signed_figure_lies_within_the_bound() {
         let (key, smallest) = (key_of(plan, user, &random.elements(plan.list_len())), (65521 - u32::from(furthest)) as u16);
         let with = |place: usize, element: u16| [&zeros[..place], &[element], &zeros[place + 1..]].concat();
         for place in [0, plan.row_len() - 1] {
-            let mut end = End::start(plan, user, Use::Signed).unwrap();
+            let mut end = End::start(plan, user, Use::Signed, ROUND).unwrap();
             let (fresh, mut message) = (end.numbers(), vec![7; plan.row_len()]);
             for (element, refusal) in [
                 (furthest + 1, Refusal::FigureBeyond),
@@ -303,7 +305,7 @@ fn a_signed_figure_beyond_is_refused_last() {
     for (users, furthest, smallest) in [(3, 10920, 54601), (8, 4095, 61426)] {
         let plan = Plan { users, threshold: 2, collusion: 1, blocks: 3 };
         let key = key_of(plan, 3, &Random(11).elements(plan.list_len()));
-        let mut end = End::start(plan, 3, Use::Signed).unwrap();
+        let mut end = End::start(plan, 3, Use::Signed, 0).unwrap();
         let mut message = [7; 3];
         let mut refused = |key: &[u16], figures: &[u16]| end.first_message(key, figures, &mut message).unwrap_err().number();
         assert_eq!(refused(&key, &[furthest + 1, 0, smallest]), 32);
@@ -320,14 +322,14 @@ fn a_signed_figure_beyond_is_refused_last() {
     }
 }
 
-/// The seventh number is 0 for counts and anything else for signed figures, and stays as it is; the eighth says nothing.
+/// The seventh number is 0 for counts and anything else for signed figures, and stays as it is, whatever round the eighth has.
 #[test]
 fn an_end_keeps_its_use() {
     let (plan, mut message) = (Plan { users: 3, threshold: 2, collusion: 1, blocks: 1 }, [7]);
     let key = key_of(plan, 1, &[100, 200, 300, 12, 60, 40, 120]);
-    let numbers = |usage| End::start(plan, 1, usage).unwrap().numbers();
-    assert_eq!([numbers(Use::Counts), numbers(Use::Signed)], [[3, 2, 1, 1, 1, 0, 0, 0], [3, 2, 1, 1, 1, 0, 1, 0]]);
-    for eighth in [0, 1] {
+    let numbers = |usage| End::start(plan, 1, usage, 7).unwrap().numbers();
+    assert_eq!([numbers(Use::Counts), numbers(Use::Signed)], [[3, 2, 1, 1, 1, 0, 0, 7], [3, 2, 1, 1, 1, 0, 1, 7]]);
+    for eighth in [0, 1, ROUND] {
         let mut counts = End::resume([3, 2, 1, 1, 1, 0, 0, eighth]);
         assert_eq!(counts.first_message(&key, &[65520], &mut message), Err(Refusal::FigureBeyond));
         assert_eq!(counts.first_message(&key, &[10921], &mut message), Ok(()));
@@ -337,10 +339,67 @@ fn an_end_keeps_its_use() {
             assert_eq!(signed.first_message(&key, &[10921], &mut message), Err(Refusal::FigureBeyond));
             assert_eq!(signed.first_message(&key, &[65520], &mut message), Ok(()));
             assert_eq!(message, [99]);
-            assert_eq!(signed.reply(&key, 5), Ok(&[220][..]));
+            assert_eq!(signed.reply(&key, 5, eighth), Ok(&[220][..]));
             assert_eq!(signed.numbers(), [3, 2, 1, 1, 1, 2 + 5, seventh, eighth]);
         }
     }
+}
+
+/// Every round there is can be an end's, and each bit of it counts: a notice for another one is refused before the own one and after it,
+/// for the set that was answered too, and changes nothing. A first message asks for none.
+#[test]
+fn an_end_answers_for_its_round_alone() {
+    let mut random = Random(20);
+    for plan in plans() {
+        let (user, zeros) = (1 + random.below(plan.users), vec![0; plan.row_len()]);
+        let (key, mut message) = (key_of(plan, user, &random.elements(plan.list_len())), vec![7; plan.row_len()]);
+        let (everyone, usage) = ((1 << plan.users) - 1, [Use::Counts, Use::Signed][random.below(2) as usize]);
+        // of all sets, everyone has the largest number, so its shares end the key
+        let shares = &key[key.len() - plan.blocks as usize..];
+        for round in [0, 1, 7, 65535, 65536, 1 << 31, ROUND, u32::MAX] {
+            let mut end = End::start(plan, user, usage, round).unwrap();
+            assert_eq!(end.numbers()[7], round);
+            end.first_message(&key, &zeros, &mut message).unwrap();
+            for _ in 0..2 {
+                let before = end.numbers();
+                for other in (0..32).map(|bit| round ^ 1 << bit).chain([!round, round.wrapping_add(1), round.wrapping_sub(1)]) {
+                    assert_eq!(end.reply(&key, everyone, other), Err(Refusal::OtherRound));
+                    assert_eq!(end.numbers(), before);
+                }
+                assert_eq!(end.reply(&key, everyone, round), Ok(shares));
+                let Plan { users, threshold, collusion, blocks } = plan;
+                assert_eq!(end.numbers(), [users, threshold, collusion, blocks, user, 2 + everyone, usage as u32, round]);
+            }
+        }
+    }
+}
+
+/// 18, 2, 3, 5, 6, 33, 19, and from a lent array 1 and 4 before them: another round tells only where nothing earlier does.
+#[test]
+fn another_round_is_refused_in_its_place() {
+    let key = key_of(Plan { users: 3, threshold: 2, collusion: 1, blocks: 1 }, 1, &[100, 200, 300, 12, 60, 40, 120]);
+    let refused = |numbers: [u32; 8], key: &[u16], set, round| {
+        let mut end = End::resume(numbers);
+        let number = end.reply(key, set, round).unwrap_err().number();
+        assert_eq!(end.numbers(), numbers);
+        number
+    };
+    let end = |stage| [3, 2, 1, 1, 1, stage, 0, 7];
+    assert_eq!(refused([3, 3, 1, 1, 1, 0, 0, 7], &[], 1, 8), 1);
+    assert_eq!(refused([3, 2, 1, 1, 4, 0, 0, 7], &[], 1, 8), 4);
+    assert_eq!(refused(end(0), &[], 1, 8), 18);
+    assert_eq!(refused(end(0), &key, 5, 8), 18);
+    for stage in [1, 2 + 5, u32::MAX] {
+        assert_eq!(refused(end(stage), &key[1..], 1, 8), 2);
+        assert_eq!(refused(end(stage), &[100, 154, 220, 65521], 1, 8), 3);
+        assert_eq!(refused(end(stage), &key, 1, 8), 5);
+        assert_eq!(refused(end(stage), &key, 9, 8), 5);
+        assert_eq!(refused(end(stage), &key, 6, 8), 6);
+        // 7 is not the set that was answered, 5 is
+        assert_eq!([5, 7].map(|set| refused(end(stage), &key, set, 8)), [33, 33]);
+    }
+    assert_eq!(refused(end(2 + 5), &key, 7, 7), 19);
+    assert_eq!(refused(end(u32::MAX), &key, 5, 7), 19);
 }
 
 /// All sets of airfields as their members, each at its number: those with a further airfield follow those without it.
@@ -368,8 +427,8 @@ fn shares_start_where_the_key_has_them() {
                 let unheld = if usable(&set) { Refusal::NotInSet } else { Refusal::SetUnusable };
                 let start = holding.binary_search(&set).map(|smaller| masks + blocks * smaller).map_err(|_| unheld);
                 assert_eq!(plan.reply_start(user, set), start);
-                let mut sent = End::resume([plan.users, plan.threshold, plan.collusion, plan.blocks, user, 1, 0, 0]);
-                assert_eq!(sent.reply(&key, set), start.map(|start| &key[start..][..blocks]));
+                let mut sent = End::resume([plan.users, plan.threshold, plan.collusion, plan.blocks, user, 1, 0, ROUND]);
+                assert_eq!(sent.reply(&key, set, ROUND), start.map(|start| &key[start..][..blocks]));
             }
         }
     }
@@ -578,7 +637,7 @@ fn any_numbers_are_answered() {
         }
         let numbers = [0; 8].map(|_| random.any());
         let mut end = End::resume(numbers);
-        if end.reply(&list, random.any()).is_err() {
+        if end.reply(&list, random.any(), random.any()).is_err() {
             assert_eq!(end.numbers(), numbers);
         }
         let (numbers, before) = (end.numbers(), written.clone());
@@ -622,8 +681,9 @@ fn refusals_have_numbers_and_words() {
         Refusal::FigureBeyond.to_string(),
         "refused 32: a count is above 65520 / K, or a signed figure further from zero than 32760 / K, rounded down"
     );
+    assert_eq!(Refusal::OtherRound.to_string(), "refused 33: the set is announced for another round than the end's");
     assert_eq!((Refusal::BadPlan.number(), Refusal::OtherSet.number()), (1, 19));
-    let start = |users, user, usage| End::start(Plan { users, threshold: 2, collusion: 1, blocks: 1 }, user, usage);
+    let start = |users, user, usage| End::start(Plan { users, threshold: 2, collusion: 1, blocks: 1 }, user, usage, ROUND);
     for usage in [Use::Counts, Use::Signed] {
         assert_eq!(
             [start(3, 4, usage), start(3, 0, usage), start(9, 0, usage)],

@@ -10,21 +10,20 @@ use std::os::unix::fs::PermissionsExt;
 fn refused(folder: &Folder, bytes: &[u8], told: &str) {
     folder.write("file", bytes, 0o600);
     folder.airfield(&["status", "file"]).failed(&["file: ", told]);
-    let used = if bytes.starts_with(b"cutawheno list") { ["key", "file", "1", "new"] } else { ["first", "file", "10", "1"] };
-    let words = if used[0] == "key" { &used[..] } else { &used[..3] };
-    folder.airfield(words).failed(&["file: "]);
+    let is_list = bytes.starts_with(b"cutawheno list");
+    folder.airfield(if is_list { &["key", "file", "1", "7", "new"][..] } else { &["first", "file", "10"] }).failed(&["file: "]);
     assert_eq!(folder.read("file"), bytes);
     assert!(!folder.names().contains(&"new".to_string()));
 }
 
-/// An end that has answered, a list, and a signed end that has answered: every field occurs.
+/// An end that has answered, a list, and a signed end that has answered: every field occurs. All ends are for round 7.
 fn files(name: &str) -> (Folder, [Vec<u8>; 3]) {
     let folder = Folder::with_ends(name);
     folder.airfield(&["list", "3", "2", "1", "1", "other"]).done();
-    folder.airfield(&["key", "other", "1", "signed", "signed"]).done();
+    folder.airfield(&["key", "other", "1", "7", "signed", "signed"]).done();
     for end in ["end1", "signed"] {
         folder.airfield(&["first", end, "10"]).done();
-        folder.airfield(&["reply", end, "5"]).done();
+        folder.airfield(&["reply", end, "7", "5"]).done();
     }
     let files = ["end1", "list", "signed"].map(|name| folder.read(name));
     (folder, files)
@@ -75,8 +74,9 @@ fn what_is_no_end_of_this_version_is_refused() {
     let (folder, files) = files("fields");
     let text = String::from_utf8(files[0].clone()).unwrap();
     let body = &text[..text.rfind("checksum").unwrap()];
-    refused(&folder, &sealed(&body.replace("end 1", "end 2")), "it is of version 2, and this tool reads version 1");
-    refused(&folder, &sealed(&body.replace("end 1", "purse 1")), "it is no file of the kind");
+    refused(&folder, &sealed(&body.replace("end 2", "end 1")), "it is of version 1, and this tool reads version 2");
+    refused(&folder, &sealed(&body.replace("end 2", "end 3")), "it is of version 3, and this tool reads version 2");
+    refused(&folder, &sealed(&body.replace("end 2", "purse 2")), "it is no file of the kind");
     for (field, other) in [
         ("plan 3 2 1 1", "plan 3 3 1 1"),
         ("plan 3 2 1 1", "plan 3 2 1 2"),
@@ -84,7 +84,19 @@ fn what_is_no_end_of_this_version_is_refused() {
         ("plan 3 2 1 1", "plan 3 2 1"),
         ("airfield 1", "airfield 4"),
         ("airfield 1", "airfield 0"),
-        ("airfield 1\n", "airfield 1\nround 7\n"),
+        ("round 7\n", ""),
+        ("round 7\n", "round 7\nround 7\n"),
+        ("round 7\n", "round 7\nround 8\n"),
+        ("round 7", "round 4294967296"),
+        ("round 7", "round 18446744073709551623"),
+        ("round 7", "round 07"),
+        ("round 7", "round +7"),
+        ("round 7", "round -7"),
+        ("round 7", "round 7 8"),
+        ("round 7", "round  7"),
+        ("round 7", "round "),
+        ("round 7", "round"),
+        ("airfield 1\nround 7\n", "round 7\nairfield 1\n"),
         ("stage answered 5", "stage answered"),
         ("stage answered 5", "stage answered 05"),
         ("stage answered 5", "stage answered 6"),
@@ -109,7 +121,7 @@ fn what_is_no_end_of_this_version_is_refused() {
         refused(&folder, &sealed(&signed.replacen("use signed\n", other, 1)), "");
     }
     for (before, after) in
-        [("airfield 1\nuse signed\n", "use signed\nairfield 1\n"), ("use signed\nstage answered 5\n", "stage answered 5\nuse signed\n")]
+        [("round 7\nuse signed\n", "use signed\nround 7\n"), ("use signed\nstage answered 5\n", "stage answered 5\nuse signed\n")]
     {
         assert!(signed.contains(before));
         refused(&folder, &sealed(&signed.replacen(before, after, 1)), "");
@@ -117,13 +129,22 @@ fn what_is_no_end_of_this_version_is_refused() {
     let text = String::from_utf8(files[1].clone()).unwrap();
     let list = &text[..text.rfind("checksum").unwrap()];
     for (field, other) in [
-        ("list 1", "list 3"),
+        ("list 2", "list 1"),
+        ("list 2", "list 3"),
         ("plan 3 2 1 1", "plan 3 3 1 1"),
         ("plan 3 2 1 1", "plan 3 2 1 2"),
         ("ends 7", "ends 8"),
         ("ends 7", "ends 07"),
         ("ends 7", "ends none"),
         ("ends 7\n", ""),
+        ("ends 7\n", "ends 0\n"),
+        ("round 7\n", ""),
+        ("round 7\n", "round 7\nround 7\n"),
+        ("round 7", "round 4294967296"),
+        ("round 7", "round 07"),
+        ("round 7", "round +7"),
+        ("round 7", "round none"),
+        ("ends 7\nround 7\n", "round 7\nends 7\n"),
         ("elements ", "elements 1 "),
         ("elements ", "elements 65521 "),
     ] {
@@ -140,7 +161,7 @@ fn what_is_no_end_of_this_version_is_refused() {
 fn other_files_are_refused() {
     let (folder, _) = files("other");
     for bytes in
-        [&b""[..], b"\0", b"\xff\xfe\n", b"100 200 300 12 60 40 120\n", b"cutawheno end 1\n", b"cutawheno end 1\nchecksum 00000000\n"]
+        [&b""[..], b"\0", b"\xff\xfe\n", b"100 200 300 12 60 40 120\n", b"cutawheno end 2\n", b"cutawheno end 2\nchecksum 00000000\n"]
     {
         refused(&folder, bytes, "");
     }

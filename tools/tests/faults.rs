@@ -30,8 +30,8 @@ fn all_is_on_the_disk_before_anything_is_told() {
     };
     assert_eq!(steps(&folder, &["list", "3", "2", "1", "1", "list"]), [created("list"), written("list")].concat());
     // the list counts the end as made before the key stands anywhere
-    assert_eq!(steps(&folder, &["key", "list", "1", "end"]), [created("end"), replaced("list"), written("end")].concat());
-    for words in [&["first", "end", "5"][..], &["reply", "end", "5"]] {
+    assert_eq!(steps(&folder, &["key", "list", "1", "7", "end"]), [created("end"), replaced("list"), written("end")].concat());
+    for words in [&["first", "end", "5"][..], &["reply", "end", "7", "5"]] {
         assert_eq!(steps(&folder, words), [replaced("end"), on("output", &["write"])].concat());
         assert_eq!(steps(&folder, words), ["sync end", "sync order", "write output"]);
     }
@@ -81,12 +81,12 @@ fn a_kill_before_any_step_of_a_reply() {
     let start = Folder::with_ends("kill-reply");
     start.airfield(&["first", "end1", "10"]).done();
     let reply = format!("{}reply 1 0 {}\n", start.comment("end1"), start.numbers("end1", "key")[2]);
-    at_each_step(&start, &["reply", "end1", "5"], "kill", |folder, said, _| {
+    at_each_step(&start, &["reply", "end1", "7", "5"], "kill", |folder, said, _| {
         assert!(said.output.is_empty() || said.output == reply);
-        let other = folder.copy("kill-reply-other").airfield(&["reply", "end1", "7"]);
+        let other = folder.copy("kill-reply-other").airfield(&["reply", "end1", "7", "7"]);
         assert!(other.status == Some(1) || said.output.is_empty());
-        assert_eq!(folder.airfield(&["reply", "end1", "5"]).done(), reply);
-        folder.airfield(&["reply", "end1", "7"]).failed(&["refused 19"]);
+        assert_eq!(folder.airfield(&["reply", "end1", "7", "5"]).done(), reply);
+        folder.airfield(&["reply", "end1", "7", "7"]).failed(&["refused 19"]);
         assert_eq!(folder.names(), start.names());
     });
 }
@@ -108,19 +108,23 @@ fn a_kill_before_any_step_of_a_new_list() {
     });
 }
 
-/// Shows that a list never gives two ends for one airfield; where the end was lost, the list says that a new one is to be drawn.
+/// Shows that a list never gives two ends for one airfield, nor ends for two rounds; where the end was lost, the list says that a new one is
+/// to be drawn.
 #[test]
 fn a_kill_before_any_step_of_a_new_end() {
     let start = Folder::new("kill-key");
     start.airfield(&["list", "3", "2", "1", "1", "list"]).done();
-    at_each_step(&start, &["key", "list", "1", "end"], "kill", |folder, _, step| {
+    at_each_step(&start, &["key", "list", "1", "7", "end"], "kill", |folder, _, step| {
         let whole = folder.airfield(&["status", "end"]).status == Some(0);
-        let again = folder.airfield(&["key", "list", "1", "other"]);
+        let again = folder.airfield(&["key", "list", "1", "7", "other"]);
         assert!(!whole || again.status == Some(1), "step {step}: two ends");
         if again.status != Some(0) {
             again.failed(&["list: the end of airfield 1 was made from it already"]);
+            let before = (folder.read("list"), folder.names());
+            folder.airfield(&["key", "list", "2", "8", "x"]).failed(&["list: its ends are for round 7"]);
+            assert_eq!((folder.read("list"), folder.names()), before, "step {step}");
         }
-        folder.airfield(&["key", "list", "2", "end2"]).done();
+        folder.airfield(&["key", "list", "2", "7", "end2"]).done();
         assert!(!folder.names().contains(&"list.new".to_string()));
         if !whole && folder.names().contains(&"end".to_string()) {
             folder.airfield(&["destroy", "end"]).done();
@@ -154,7 +158,7 @@ fn a_failure_of_any_step() {
         assert_eq!(folder.names(), start.names());
     });
     start.airfield(&["list", "3", "2", "1", "1", "spare"]).done();
-    for words in [&["key", "spare", "1", "new"][..], &["list", "3", "2", "1", "1", "new"]] {
+    for words in [&["key", "spare", "1", "7", "new"][..], &["list", "3", "2", "1", "1", "new"]] {
         at_each_step(&start, words, "fail", |folder, said, step| {
             if said.status != Some(0) {
                 said.failed(&["No space left on device"]);
@@ -172,7 +176,7 @@ fn a_full_disk_leaves_the_end_as_it_was() {
     let (before, names) = (folder.read("end1"), folder.names());
     let limited = |command: &str| folder.shell(&format!("ulimit -f 0; {command}"));
     limited("\"$AIRFIELD\" first end1 10").failed(&["end1.new: File too large", "end1 is as it was"]);
-    limited("\"$AIRFIELD\" key spare 1 new").failed(&[
+    limited("\"$AIRFIELD\" key spare 1 7 new").failed(&[
         "spare.new: File too large",
         "spare is as it was",
         "nothing is left of the new file",
@@ -210,8 +214,8 @@ fn a_failed_print_costs_nothing() {
     }
     folder.shell("\"$AIRFIELD\" first end1 10 >&-").failed(&["standard output is closed; nothing was done"]);
     assert_eq!(folder.airfield(&["first", "end1", "10"]).done(), message);
-    folder.shell("\"$AIRFIELD\" reply end1 5 > /dev/full").failed(&["end1 has kept the message"]);
-    assert!(folder.airfield(&["reply", "end1", "5"]).done().contains("reply 1 0 "));
+    folder.shell("\"$AIRFIELD\" reply end1 7 5 > /dev/full").failed(&["end1 has kept the message"]);
+    assert!(folder.airfield(&["reply", "end1", "7", "5"]).done().contains("reply 1 0 "));
     folder.shell("\"$AIRFIELD\" destroy end3 > /dev/full").failed(&["No space left", "overwritten and removed: end3"]);
     for command in ["status end1", "first end2 5", "destroy end2"] {
         folder.shell(&format!("\"$AIRFIELD\" {command} >&-")).failed(&["standard output is closed"]);

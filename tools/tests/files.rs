@@ -12,7 +12,8 @@ use std::process::{Command, Stdio};
 fn new_files_are_private() {
     let folder = Folder::new("umask");
     for umask in ["0", "077", "0777"] {
-        let script = format!("umask {umask}; \"$AIRFIELD\" list 3 2 1 1 list && \"$AIRFIELD\" key list 1 end && \"$AIRFIELD\" first end 5");
+        let script =
+            format!("umask {umask}; \"$AIRFIELD\" list 3 2 1 1 list && \"$AIRFIELD\" key list 1 7 end && \"$AIRFIELD\" first end 5");
         assert_eq!(folder.shell(&script).done(), folder.message("end", 5));
         assert_eq!([folder.mode("list"), folder.mode("end")], [0o600; 2]);
         folder.airfield(&["destroy", "list", "end"]).done();
@@ -32,14 +33,14 @@ fn new_files_go_over_nothing() {
     let names = folder.names();
     for name in ["other", "link", "dangling", "folder", "end1"] {
         folder.airfield(&["list", "3", "2", "1", "1", name]).failed(&[name, "stands there already"]);
-        folder.airfield(&["key", "spare", "1", name]).failed(&[name, "stands there already"]);
+        folder.airfield(&["key", "spare", "1", "7", name]).failed(&[name, "stands there already"]);
     }
     for name in ["none/list", "folder/", ""] {
         folder.airfield(&["list", "3", "2", "1", "1", name]).failed(&[]);
-        folder.airfield(&["key", "spare", "1", name]).failed(&[]);
+        folder.airfield(&["key", "spare", "1", "7", name]).failed(&[]);
     }
     // a name that cannot be had costs nothing
-    folder.airfield(&["key", "spare", "1", "new"]).done();
+    folder.airfield(&["key", "spare", "1", "7", "new"]).done();
     folder.airfield(&["destroy", "new"]).done();
     assert_eq!((folder.read("other"), folder.names()), (b"other".to_vec(), names));
 }
@@ -67,7 +68,7 @@ fn a_hard_link_is_refused() {
     fs::hard_link(folder.at("end1"), folder.at("second")).unwrap();
     let before = folder.read("end1");
     for name in ["end1", "second"] {
-        for words in [&["first", name, "10"][..], &["reply", name, "5"], &["status", name], &["destroy", name]] {
+        for words in [&["first", name, "10"][..], &["reply", name, "7", "5"], &["status", name], &["destroy", name]] {
             folder.airfield(words).failed(&[name, "2 names"]);
         }
     }
@@ -83,7 +84,7 @@ fn a_file_that_others_may_read_is_refused() {
         folder.write("end1", &folder.read("end1"), mode);
         folder.airfield(&["first", "end1", "10"]).failed(&["end1", &format!("{mode:04o}"), "chmod 600"]);
         folder.write("list", &folder.read("list"), mode);
-        folder.airfield(&["key", "list", "1", "new"]).failed(&["list", &format!("{mode:04o}")]);
+        folder.airfield(&["key", "list", "1", "7", "new"]).failed(&["list", &format!("{mode:04o}")]);
     }
     // destroying it is all the more wanted
     folder.airfield(&["destroy", "end1", "list"]).done();
@@ -103,9 +104,9 @@ fn a_folder_that_everybody_may_write_is_refused() {
         let told = format!("its folder's mode is {mode:04o}");
         for words in [
             &["list", "3", "2", "1", "1", "new"][..],
-            &["key", "list", "1", "new"],
+            &["key", "list", "1", "7", "new"],
             &["first", "end1", "5"],
-            &["reply", "end1", "5"],
+            &["reply", "end1", "7", "5"],
             &["status", "end1"],
             &["first", "links/end", "5"],
         ] {
@@ -171,10 +172,10 @@ fn an_end_does_not_take_the_name_of_the_lists_new_version() {
     folder.link("list", "link");
     let before = folder.read("list");
     for (list, end) in [("list", "list.new"), ("list", "./list.new"), ("list", "here/list.new"), ("link", "list.new")] {
-        folder.airfield(&["key", list, "1", end]).failed(&[end, "the list's own new version"]);
+        folder.airfield(&["key", list, "1", "7", end]).failed(&[end, "the list's own new version"]);
         assert_eq!((folder.read("list"), folder.names()), (before.clone(), ["here", "link", "list"].map(String::from).to_vec()));
     }
-    folder.airfield(&["key", "link", "1", "link.new"]).done();
+    folder.airfield(&["key", "link", "1", "7", "link.new"]).done();
     folder.airfield(&["status", "link.new"]).done();
 }
 
@@ -234,9 +235,9 @@ fn names_too_long_for_a_new_version_are_refused() {
         folder.airfield(&["list", "3", "2", "1", "1", name]).failed(&["that name is too long"]);
     }
     folder.airfield(&["list", "3", "2", "1", "1", &fits]).done();
-    folder.airfield(&["key", &fits, "1", &long]).failed(&["that name is too long"]);
+    folder.airfield(&["key", &fits, "1", "7", &long]).failed(&["that name is too long"]);
     let end = "e".repeat(251);
-    folder.airfield(&["key", &fits, "1", &end]).done();
+    folder.airfield(&["key", &fits, "1", "7", &end]).done();
     folder.airfield(&["first", &end, "5"]).done();
     assert_eq!(folder.names(), [end, fits]);
 }
@@ -245,9 +246,9 @@ fn names_too_long_for_a_new_version_are_refused() {
 #[test]
 fn old_versions_are_overwritten() {
     let folder = Folder::with_ends("old");
-    for words in [["first", "end1", "10"], ["reply", "end1", "5"]] {
+    for words in [&["first", "end1", "10"][..], &["reply", "end1", "7", "5"]] {
         let mut old = File::open(folder.at("end1")).unwrap();
-        folder.airfield(&words).done();
+        folder.airfield(words).done();
         assert!(all_zero(&mut old));
     }
 }
@@ -323,7 +324,7 @@ fn status_tells_what_stands_beside() {
     folder.link("end1", "link");
     let told_of_link = folder.airfield(&["status", "link"]).done();
     assert!(told_of_link.contains("beside/end1.new") && !told_of_link.contains("link.new"));
-    folder.write("end1", b"cutawheno end 1", 0o600);
+    folder.write("end1", b"cutawheno end 2", 0o600);
     folder.airfield(&["status", "end1"]).failed(&["end1: it is", told]);
 }
 
@@ -348,12 +349,12 @@ fn what_is_no_file_is_refused() {
     folder.link("/dev/zero", "device");
     folder.link("loop", "loop");
     fs::create_dir(folder.at("folder")).unwrap();
-    folder.write("huge", b"cutawheno end 1\n", 0o600);
+    folder.write("huge", b"cutawheno end 2\n", 0o600);
     File::options().write(true).open(folder.at("huge")).unwrap().set_len(1 << 40).unwrap();
     for (name, told) in
         [("pipe", "a pipe"), ("device", "a device"), ("folder", "a folder"), ("huge", "longer than 65536 bytes"), ("loop", "levels")]
     {
-        for words in [&["first", name, "1"][..], &["key", name, "1", "x"], &["status", name], &["destroy", name]] {
+        for words in [&["first", name, "1"][..], &["key", name, "1", "7", "x"], &["status", name], &["destroy", name]] {
             let said = folder.command("timeout", &[&["10", AIRFIELD], words].concat()).output().unwrap();
             common::Said::from(said).failed(&[name, told]);
         }

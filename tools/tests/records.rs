@@ -99,20 +99,50 @@ fn failed_writes_and_reads_are_told() {
     }
 }
 
-/// Shows that keys of two lists in one round are told, and in two rounds are not.
+/// Shows that keys of two lists in one round are told, and in two rounds are not; also where a comment names no round, as those of earlier
+/// builds. Comments of any other shape name no list.
 #[test]
 fn a_mixed_up_round_is_warned_of() {
     let folder = Folder::with_ends("mixed");
     folder.airfield(&["list", "3", "2", "1", "1", "other"]).done();
-    folder.airfield(&["key", "other", "3", "end"]).done();
+    folder.airfield(&["key", "other", "3", "8", "end"]).done();
     let message = |end: &str| folder.airfield(&["first", end, "1"]).done();
     let [one, two, other] = ["end1", "end2", "end"].map(message);
-    let warning = |text: &str| {
-        let said = folder.with_input(RECORDS, &["encode"], text.as_bytes());
-        assert_eq!((said.status, said.output.len() > 10), (Some(0), true));
-        said.error
-    };
-    assert_eq!(warning(&format!("plan 3 2 1 1\nopen 1\n{one}{two}open 2\n{other}")), "");
-    let mixed = warning(&format!("plan 3 2 1 1\nopen 1\n{one}{other}"));
+    assert_eq!(warning(&folder, &format!("plan 3 2 1 1\nopen 7\n{one}{two}open 8\n{other}")), "");
+    let other = other.replace(" round 8", "");
+    let mixed = warning(&folder, &format!("plan 3 2 1 1\nopen 7\n{one}{other}"));
     assert!(mixed.contains("warning: line 5: airfield 3 has a key of list") && mixed.contains("line 3 names list"), "{mixed}");
+    assert!(mixed.ends_with(": keys of two lists give no true total\n") && mixed.lines().count() == 1, "{mixed}");
+    for more in ["again", "round", "again 8", "round 8 again"] {
+        let comment = format!("# list the airfield 3 {more}\n");
+        assert_eq!(warning(&folder, &format!("plan 3 2 1 1\nopen 7\n{comment}{one}{comment}")), "");
+    }
+}
+
+/// What `records encode` says of records that it takes.
+fn warning(folder: &Folder, text: &str) -> String {
+    let said = folder.with_input(RECORDS, &["encode"], text.as_bytes());
+    assert_eq!((said.status, said.output.len() > 10), (Some(0), true));
+    said.error
+}
+
+/// Shows that a message under a key of another round than the one opened last is told, also behind its finish: its end will answer no set of
+/// this round. Where none was opened there is nothing to compare.
+#[test]
+fn a_message_for_another_round_is_warned_of() {
+    let folder = Folder::with_ends("rounds");
+    let message = folder.airfield(&["first", "end1", "1"]).done();
+    let told = |line: u32, at: u32, opened: &str| {
+        format!(
+            "records: warning: line {line}: airfield 1 has a key for round 7, but line {at} opens round {opened}: \
+             its end answers no set that is announced for this round\n"
+        )
+    };
+    assert_eq!(warning(&folder, &format!("plan 3 2 1 1\nopen 7\n{message}{message}")), "");
+    assert_eq!(warning(&folder, &format!("plan 3 2 1 1\n{message}open 7\n")), "");
+    for opened in ["8", "0", "70", "4294967295"] {
+        assert_eq!(warning(&folder, &format!("plan 3 2 1 1\nopen {opened}\n{message}")), told(3, 2, opened));
+    }
+    assert_eq!(warning(&folder, &format!("plan 3 2 1 1\nopen 7\n{message}open 8\n{message}open 7\n{message}")), told(6, 5, "8"));
+    assert_eq!(warning(&folder, &format!("plan 3 2 1 1\nopen 8\nclose\nfinish\n{message}")), told(5, 2, "8"));
 }

@@ -18,22 +18,22 @@ fn a_round_gives_the_survivors_total() {
     let folder = Folder::new("round");
     folder.airfield(&["list", "4", "3", "1", "2", "list"]).done();
     let figures = [["12", "0", "7", "310"], ["3", "5", "0", "205"], ["0", "0", "1", "80"], ["9", "1", "2", "16380"]];
-    let mut told = "plan 4 3 1 2\nopen 1\n".to_string();
+    let mut told = "plan 4 3 1 2\nopen 7\n".to_string();
     for (airfield, row) in (1..).zip(figures) {
         let end = format!("end{airfield}");
-        folder.airfield(&["key", "list", &airfield.to_string(), &end]).done();
+        folder.airfield(&["key", "list", &airfield.to_string(), "7", &end]).done();
         let message = folder.airfield(&[&["first", &end], &row[..]].concat()).done();
         told += if airfield == 2 { "" } else { &message };
     }
     told += "close\n";
     for end in ["end1", "end3", "end4"] {
-        told += &folder.airfield(&["reply", end, "13"]).done();
+        told += &folder.airfield(&["reply", end, "7", "13"]).done();
     }
     told += "finish\n";
     let bytes = folder.with_input(RECORDS, &["encode"], told.as_bytes());
     assert_eq!((bytes.status, bytes.error.as_str()), (Some(0), ""));
     let stream = reference::text::encode(&told).unwrap();
-    assert_eq!(run(&stream), "plan 4 3 1 2\nopen 1\nsurvivors 1 13\ntotal 1 21 1 10 16770\n");
+    assert_eq!(run(&stream), "plan 4 3 1 2\nopen 7\nsurvivors 7 13\ntotal 7 21 1 10 16770\n");
 }
 
 /// Shows that lists are drawn anew, and that keys are those of the second implementation.
@@ -46,7 +46,7 @@ fn lists_and_keys_are_those_of_the_plan() {
     assert_ne!(folder.read("list1"), folder.read("list2"));
     let list: Vec<u16> = folder.numbers("list1", "elements").iter().map(|&element| element.try_into().unwrap()).collect();
     assert!(list.len() == 4080 && list.iter().all(|&element| element <= 65520));
-    folder.airfield(&["key", "list1", "8", "end"]).done();
+    folder.airfield(&["key", "list1", "8", "7", "end"]).done();
     let mut key = [0; 2048];
     make_key([8, 2, 1, 16], 8, &list, &mut key).unwrap();
     assert_eq!(folder.numbers("end", "key"), key.map(u32::from));
@@ -103,12 +103,12 @@ fn a_list_makes_one_end_for_each_airfield() {
     let folder = Folder::new("ends");
     folder.airfield(&["list", "3", "2", "1", "1", "list"]).done();
     assert!(folder.airfield(&["status", "list"]).done().ends_with("ends made: no airfields\n"));
-    folder.airfield(&["key", "list", "2", "end"]).done();
+    folder.airfield(&["key", "list", "2", "7", "end"]).done();
     for name in ["end", "other"] {
-        folder.airfield(&["key", "list", "2", name]).failed(&["list: the end of airfield 2 was made from it already"]);
+        folder.airfield(&["key", "list", "2", "7", name]).failed(&["list: the end of airfield 2 was made from it already"]);
     }
-    folder.airfield(&["key", "list", "3", "other"]).done();
-    assert!(folder.airfield(&["status", "list"]).done().ends_with("ends made: airfields 2 3\n"));
+    folder.airfield(&["key", "list", "3", "7", "other"]).done();
+    assert!(folder.airfield(&["status", "list"]).done().ends_with("ends made: airfields 2 3, for round 7\n"));
     assert_eq!(folder.names(), ["end", "list", "other"]);
 }
 
@@ -132,7 +132,7 @@ fn figures_from_standard_input() {
 #[test]
 fn the_same_asked_again_gives_the_same_bytes_and_another_is_refused() {
     let folder = Folder::with_ends("again");
-    folder.airfield(&["reply", "end1", "5"]).failed(&["refused 18", "end1 has given no first message yet"]);
+    folder.airfield(&["reply", "end1", "7", "5"]).failed(&["refused 18", "end1 has given no first message yet"]);
     let message = folder.message("end1", 10);
     for _ in 0..3 {
         assert_eq!(folder.airfield(&["first", "end1", "10"]).done(), message);
@@ -142,15 +142,17 @@ fn the_same_asked_again_gives_the_same_bytes_and_another_is_refused() {
         other(figures).failed(&["refused 18: end1 has given its first message with other figures, and a key never sends twice"]);
     }
     other(&["21841"]).failed(&["refused 18: end1 has given its first message, which `airfield again` prints, and a key never sends twice"]);
-    folder.airfield(&["reply", "end1", "1"]).failed(&["refused 5", "set 1 is airfields 1; wanted are at least 2 of 1 to 3"]);
-    folder.airfield(&["reply", "end1", "6"]).failed(&["refused 6", "airfield 1 is not in set 6, which is airfields 2 3"]);
-    folder.airfield(&["reply", "end1", "99999999999"]).failed(&["refused 5: set 99999999999 is above 7, which is all of airfields 1 to 3"]);
-    let reply = folder.airfield(&["reply", "end1", "5"]).done();
+    folder.airfield(&["reply", "end1", "7", "1"]).failed(&["refused 5", "set 1 is airfields 1; wanted are at least 2 of 1 to 3"]);
+    folder.airfield(&["reply", "end1", "7", "6"]).failed(&["refused 6", "airfield 1 is not in set 6, which is airfields 2 3"]);
+    folder
+        .airfield(&["reply", "end1", "7", "99999999999"])
+        .failed(&["refused 5: set 99999999999 is above 7, which is all of airfields 1 to 3"]);
+    let reply = folder.airfield(&["reply", "end1", "7", "5"]).done();
     assert_eq!(reply, format!("{}reply 1 0 {}\n", folder.comment("end1"), folder.numbers("end1", "key")[2]));
-    assert_eq!(folder.airfield(&["reply", "end1", "5"]).done(), reply);
-    folder.airfield(&["reply", "end1", "7"]).failed(&["refused 19", "end1 has answered set 5"]);
+    assert_eq!(folder.airfield(&["reply", "end1", "7", "5"]).done(), reply);
+    folder.airfield(&["reply", "end1", "7", "7"]).failed(&["refused 19", "end1 has answered set 5"]);
     assert_eq!(folder.airfield(&["first", "end1", "10"]).done(), message);
-    assert_eq!(folder.airfield(&["reply", "end1", "5"]).done(), reply);
+    assert_eq!(folder.airfield(&["reply", "end1", "7", "5"]).done(), reply);
 }
 
 /// Shows that the first figure beyond the bound is named, by its position and as it was given, and that the bound itself is taken: here
@@ -159,7 +161,7 @@ fn the_same_asked_again_gives_the_same_bytes_and_another_is_refused() {
 fn a_figure_beyond_the_bound_is_refused() {
     let folder = Folder::new("bound");
     folder.airfield(&["list", "4", "3", "1", "2", "list"]).done();
-    folder.airfield(&["key", "list", "2", "end"]).done();
+    folder.airfield(&["key", "list", "2", "7", "end"]).done();
     let fresh = folder.read("end");
     let refused = |row: &str, told: &str| {
         let words: Vec<&str> = ["first", "end"].into_iter().chain(row.split(' ')).collect();
@@ -194,7 +196,7 @@ fn an_end_that_has_sent_a_larger_figure_is_kept() {
     folder.write("end1", &sealed(&format!("{body}message {element}\n")), 0o600);
     folder.airfield(&["first", "end1", "65520"]).failed(&["refused 18: end1 has given its first message, which `airfield again` prints"]);
     assert_eq!(folder.airfield(&["again", "end1"]).done(), message);
-    assert!(folder.airfield(&["reply", "end1", "5"]).done().contains("reply 1 0 "));
+    assert!(folder.airfield(&["reply", "end1", "7", "5"]).done().contains("reply 1 0 "));
 }
 
 /// Shows that the kept first message needs no figures to be had again, and that nothing else comes by that way.
@@ -209,7 +211,7 @@ fn the_kept_message_is_printed_again() {
     let sent = folder.read("end1");
     assert_eq!(folder.airfield(&["again", "end1"]).done(), message);
     assert_eq!(folder.read("end1"), sent);
-    folder.airfield(&["reply", "end1", "5"]).done();
+    folder.airfield(&["reply", "end1", "7", "5"]).done();
     assert_eq!(folder.airfield(&["again", "end1"]).done(), message);
     folder.shell("\"$AIRFIELD\" again end1 > /dev/full").failed(&["No space left", "end1 has kept the message"]);
     folder.airfield(&["again", "list"]).failed(&["the kind end is wanted"]);
@@ -220,18 +222,18 @@ fn the_kept_message_is_printed_again() {
 #[test]
 fn what_is_sent_again_changes_no_line() {
     let folder = Folder::with_ends("repeats");
-    let mut told = "plan 3 2 1 1\nopen 1\n".to_string();
+    let mut told = "plan 3 2 1 1\nopen 7\n".to_string();
     for (end, figure) in [("end1", "10"), ("end3", "30")] {
         told += &folder.airfield(&["first", end, figure]).done();
         told += &folder.airfield(&["again", end]).done();
     }
     told += "close\n";
     for end in ["end1", "end1", "end3", "end3"] {
-        told += &folder.airfield(&["reply", end, "5"]).done();
+        told += &folder.airfield(&["reply", end, "7", "5"]).done();
     }
     told += "finish\n";
     let stream = reference::text::encode(&told).unwrap();
-    assert_eq!(run(&stream), "plan 3 2 1 1\nopen 1\nsurvivors 1 5\ntotal 1 40\n");
+    assert_eq!(run(&stream), "plan 3 2 1 1\nopen 7\nsurvivors 7 5\ntotal 7 40\n");
 }
 
 /// Shows that a refusal changes nothing, and that its message says what was wanted and what was found.
@@ -242,9 +244,9 @@ fn refusals_say_what_was_wanted() {
     let refused = |words: &[&str], told: &[&str]| folder.airfield(words).failed(told);
     refused(&["list", "3", "3", "1", "1", "x"], &["refused 1: plan 3 3 1 1", "K from 3 to 8"]);
     refused(&["list", "99999999999", "3", "1", "1", "x"], &["refused 1: plan 99999999999 3 1 1"]);
-    refused(&["key", "list", "99999999999", "x"], &["refused 4: no airfield 99999999999"]);
-    refused(&["key", "list", "4", "x"], &["refused 4: no airfield 4", "1 to 3"]);
-    refused(&["key", "end1", "1", "x"], &["end1: it is of the kind end, and the kind list is wanted"]);
+    refused(&["key", "list", "99999999999", "7", "x"], &["refused 4: no airfield 99999999999"]);
+    refused(&["key", "list", "4", "7", "x"], &["refused 4: no airfield 4", "1 to 3"]);
+    refused(&["key", "end1", "1", "7", "x"], &["end1: it is of the kind end, and the kind list is wanted"]);
     refused(&["first", "list", "1"], &["list: it is of the kind list, and the kind end is wanted"]);
     refused(&["first", "end1", "1", "2"], &["refused 2: figures wanted 1, given 2"]);
     refused(&["first", "end1", "65521"], &["refused 3: figure 1 is 65521, above 65520"]);
@@ -259,16 +261,17 @@ fn status_tells_the_stage_and_nothing_secret() {
     let folder = Folder::with_ends("status");
     let list = String::from_utf8(folder.read("list")).unwrap().lines().nth(1).unwrap().to_string();
     let plan = "plan 3 2 1 1\nairfields 3, of which 2 must answer and 1 may collude; blocks 1\nfigures in a row 1: counts from 0 to 21840";
-    let told = format!("random list of 7 elements\n{list}\n{plan}, or signed figures from -10920 to 10920\nends made: airfields 1 2 3\n");
+    let figures = "or signed figures from -10920 to 10920";
+    let told = format!("random list of 7 elements\n{list}\n{plan}, {figures}\nends made: airfields 1 2 3, for round 7\n");
     assert_eq!(folder.airfield(&["status", "list"]).done(), told);
     let expect = |stage: &str| {
-        let text = format!("end of airfield 2\n{list}\n{plan}\nstage {stage}\n");
+        let text = format!("end of airfield 2, for round 7\n{list}\n{plan}\nstage {stage}\n");
         assert_eq!(folder.airfield(&["status", "end2"]).done(), text);
     };
     expect("fresh: no first message has been sent");
     folder.airfield(&["first", "end2", "5"]).done();
     expect("sent: the first message has been given, and no set is answered");
-    folder.airfield(&["reply", "end2", "6"]).done();
+    folder.airfield(&["reply", "end2", "7", "6"]).done();
     expect("answered: set 6, airfields 2 3");
 }
 
@@ -290,10 +293,12 @@ fn help_and_version_are_printed_and_other_words_are_not_understood() {
     }
     folder.airfield(&["first", "end", "1", "+5"]).ended(2, &["figure 2", "+5 is found"]);
     folder.airfield(&["list", "3", "2", "1", "-1", "list"]).ended(2, &["M: a whole number from 0 on is wanted, and -1 is found"]);
-    folder.airfield(&["key", "list", "1", "end", "other"]).ended(2, &["counts or signed is wanted behind END, and other is found"]);
-    folder.airfield(&["key", "list", "1", "end", "signed", "x"]).ended(2, &["key takes LIST AIRFIELD END [counts|signed], and 5 words"]);
+    folder.airfield(&["key", "list", "1", "7", "end", "other"]).ended(2, &["counts or signed is wanted behind END, and other is found"]);
+    folder
+        .airfield(&["key", "list", "1", "7", "end", "signed", "x"])
+        .ended(2, &["key takes LIST AIRFIELD ROUND END [counts|signed], and 6 words"]);
     folder.airfield(&["list", "3", "2", "1", "x", "list"]).ended(2, &["M: a whole number", "x is found"]);
-    folder.airfield(&["reply", "end", ""]).ended(2, &["SET", "\"\" is found"]);
+    folder.airfield(&["reply", "end", "7", ""]).ended(2, &["SET", "\"\" is found"]);
 }
 
 /// Words that are no text, and a standard error that fails or is closed, give no panic.
@@ -306,7 +311,8 @@ fn strange_words_and_a_failing_standard_error() {
     folder.airfield(&[word("status"), strange]).failed(&["No such file"]);
     folder.airfield(&[word("first"), word("end1"), strange]).ended(2, &["figure 1"]);
     folder.airfield(&[word("list"), word("3"), word("2"), word("1"), word("1"), strange]).done();
-    folder.airfield(&[word("key"), strange, word("1"), OsStr::from_bytes(b"\xfd")]).done();
+    folder.airfield(&[word("key"), strange, word("1"), word("7"), OsStr::from_bytes(b"\xfd")]).done();
+    folder.airfield(&[word("key"), strange, word("2"), strange, word("end")]).ended(2, &["ROUND: a whole number"]);
     assert!(folder.airfield(&[word("first"), OsStr::from_bytes(b"\xfd"), word("3")]).done().contains("first 1 0 "));
     folder.airfield(&["\u{feff}list"]).ended(2, &["no command is called \"\\xef\\xbb\\xbflist\";"]);
     folder.airfield(&["status", "a b\u{202e}"]).failed(&["\"a b\\xe2\\x80\\xae\": No such file"]);

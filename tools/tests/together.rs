@@ -81,7 +81,7 @@ fn a_refused_file_is_not_waited_for() {
     let folder = Folder::with_ends("unwaited");
     let one = stopped(&folder, &["first", "end1", "10"], "create end1.new");
     folder.write("end1", &folder.read("end1"), 0o644);
-    for words in [&["first", "end1", "10"][..], &["reply", "end1", "5"], &["status", "end1"], &["key", "end1", "1", "x"]] {
+    for words in [&["first", "end1", "10"][..], &["reply", "end1", "7", "5"], &["status", "end1"], &["key", "end1", "1", "7", "x"]] {
         let said = folder.command("timeout", &[&["10", AIRFIELD], words].concat()).output().unwrap();
         Said::from(said).failed(&["end1: its mode is 0644"]);
     }
@@ -110,8 +110,8 @@ fn what_comes_in_the_way_meanwhile_is_refused() {
 fn two_replies_at_once_answer_one_set() {
     let folder = Folder::with_ends("replies");
     folder.airfield(&["first", "end1", "10"]).done();
-    let one = stopped(&folder, &["reply", "end1", "5"], "rename end1");
-    let other = waiting(&folder, &["reply", "end1", "7"]);
+    let one = stopped(&folder, &["reply", "end1", "7", "5"], "rename end1");
+    let other = waiting(&folder, &["reply", "end1", "7", "7"]);
     send(&one, "-CONT");
     assert!(end_of(one).done().contains("reply 1 0 "));
     end_of(other).failed(&["refused 19"]);
@@ -122,12 +122,38 @@ fn two_replies_at_once_answer_one_set() {
 fn two_keys_at_once_make_one_end() {
     let folder = Folder::new("offices");
     folder.airfield(&["list", "3", "2", "1", "1", "list"]).done();
-    let one = stopped(&folder, &["key", "list", "1", "end"], "rename list");
-    let other = waiting(&folder, &["key", "list", "1", "other"]);
+    let one = stopped(&folder, &["key", "list", "1", "7", "end"], "rename list");
+    let other = waiting(&folder, &["key", "list", "1", "7", "other"]);
     send(&one, "-CONT");
     assert_eq!(end_of(one).done(), "");
     end_of(other).failed(&["the end of airfield 1 was made from it already"]);
     assert_eq!(folder.names(), ["end", "list"]);
+}
+
+/// Shows that two runs of the key office do not give the ends of one list two rounds.
+#[test]
+fn two_rounds_at_once_make_one() {
+    let folder = Folder::new("two-rounds");
+    folder.airfield(&["list", "3", "2", "1", "1", "list"]).done();
+    let one = stopped(&folder, &["key", "list", "1", "7", "end"], "rename list");
+    let other = waiting(&folder, &["key", "list", "2", "8", "other"]);
+    send(&one, "-CONT");
+    assert_eq!(end_of(one).done(), "");
+    end_of(other).failed(&["list: its ends are for round 7"]);
+    assert_eq!((folder.names(), folder.numbers("list", "round")), (vec!["end".to_string(), "list".to_string()], vec![7]));
+}
+
+/// Shows that a notice for another round that comes while the own one is answered waits and is refused.
+#[test]
+fn notices_of_two_rounds_at_once_answer_one() {
+    let folder = Folder::with_ends("two-notices");
+    folder.airfield(&["first", "end1", "10"]).done();
+    let one = stopped(&folder, &["reply", "end1", "7", "5"], "rename end1");
+    let other = waiting(&folder, &["reply", "end1", "6", "5"]);
+    send(&one, "-CONT");
+    assert!(end_of(one).done().contains("reply 1 0 "));
+    end_of(other).failed(&["refused 33"]);
+    assert_eq!(folder.numbers("end1", "stage answered"), [5]);
 }
 
 /// Shows that success is told only of a file that has its name, alone: whatever else happens to it meanwhile is told, and whatever took
@@ -154,12 +180,12 @@ fn a_name_that_is_lost_meanwhile_is_told() {
         assert!(fs::read(folder.at("list")).map_or(true, |bytes| bytes == b"other"));
         assert!(fs::read(folder.at("list.second")).map_or(true, |bytes| bytes.len() > 100 && bytes.iter().all(|&byte| byte == 0)));
         folder.airfield(&["list", "3", "2", "1", "1", "spare"]).done();
-        let key = stopped(&folder, &["key", "spare", "1", "end"], "write end");
+        let key = stopped(&folder, &["key", "spare", "1", "7", "end"], "write end");
         happen(&folder, "end");
         send(&key, "-CONT");
         end_of(key).failed(&["end: ", told, "spare counts the end as made, so draw a new list"]);
         assert!(fs::read(folder.at("end")).map_or(true, |bytes| bytes == b"other"));
-        folder.airfield(&["key", "spare", "2", "end2"]).done();
+        folder.airfield(&["key", "spare", "2", "7", "end2"]).done();
         let first = stopped(&folder, &["first", "end2", "5"], "sync lost");
         happen(&folder, "end2");
         send(&first, "-CONT");

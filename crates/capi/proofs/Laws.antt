@@ -45,6 +45,7 @@ stage-moved e l g =
       plan = code-plan (other 0 (λ z. omega arith) i) (other 1 (λ z. omega arith) i) (other 2 (λ z. omega arith) i) (other 3 (λ z. omega arith) i);
       user = other 4 (λ z. omega arith) i;
       usage = code-use (other 6 (λ z. omega arith) i);
+      round = other 7 (λ z. omega arith) i;
       stage = stage i;
     }
 

@@ -33,31 +33,31 @@ Same-length = (p : Plan) (k : ℕ) → plan-good p ≡ true → is-user p k ≡ 
 
 -- an end that stands in an array: start from any content, and the stage moved by the calls
 pub record End-stands (e : List ℕ) : Type 0 where
-  pub start-stands : (p : code.Plan) (k n : ℕ) → let b = begun p k (code-use n) in b .number ≡ 0 → b .client ≡ some (end-at (start-left p k n e))
+  pub start-stands : (p : code.Plan) (k n r : ℕ) → let b = begun p k (code-use n) r in b .number ≡ 0 → b .client ≡ some (end-at (start-left p k n r e))
   pub first-stands : (ks fs : List ℕ) (n : ℕ) → let a = first-answer sixteen (end-at e) ks fs n in end-at (kept a e) ≡ a .client
-  pub reply-stands : (ks : List ℕ) (v : ℕ) → let a = reply-answer sixteen (end-at e) ks v in end-at (kept a e) ≡ a .client
+  pub reply-stands : (ks : List ℕ) (v r : ℕ) → let a = reply-answer sixteen (end-at e) ks v r in end-at (kept a e) ≡ a .client
 
 unfoldable pub Ends-stand : Type 0
 Ends-stand = (e : List ℕ) → length e ≡ end-length → End-stands e
 
-pub record Part-given (c : Client) (ks : List ℕ) (v : ℕ) : Type 0 where
-  pub number : part-answer c ks v .number ≡ reply-answer sixteen c ks v .number
-  pub shares : let p = part-answer c ks v in take (p .count) (drop (p .start) ks) ≡ part-of sixteen c ks v
+pub record Part-given (c : Client) (ks : List ℕ) (v r : ℕ) : Type 0 where
+  pub number : part-answer c ks v r .number ≡ reply-answer sixteen c ks v r .number
+  pub shares : let p = part-answer c ks v r in take (p .count) (drop (p .start) ks) ≡ part-of sixteen c ks v r
 
 unfoldable pub Part-is-reply : Type 0
-Part-is-reply = (c : Client) (ks : List ℕ) (v : ℕ) → Part-given c ks v
+Part-is-reply = (c : Client) (ks : List ℕ) (v r : ℕ) → Part-given c ks v r
 
--- without the key, and whatever the stage was
+-- without the key, and whatever stage and round were
 unfoldable pub Start-of-part : Type 0
 Start-of-part =
-    (c : Client) (ks : List ℕ) (v : ℕ) → part-answer c ks v .number ≡ 0 →
-    start-found (plan-of (c .plan)) (c .user) v ≡ record { number = 0; start = part-answer c ks v .start }
+    (c : Client) (ks : List ℕ) (v r : ℕ) → part-answer c ks v r .number ≡ 0 →
+    start-found (plan-of (c .plan)) (c .user) v ≡ record { number = 0; start = part-answer c ks v r .start }
 
 unfoldable pub Same-part : Type 0
 Same-part =
-    (e ks : List ℕ) (v : ℕ) → length e ≡ end-length → part-answer (end-at e) ks v .number ≡ 0 →
-    let asked = kept (reply-answer sixteen (end-at e) ks v) e in
-    (part-answer (end-at asked) ks v ≡ part-answer (end-at e) ks v) × (kept (reply-answer sixteen (end-at asked) ks v) asked ≡ asked)
+    (e ks : List ℕ) (v r : ℕ) → length e ≡ end-length → part-answer (end-at e) ks v r .number ≡ 0 →
+    let asked = kept (reply-answer sixteen (end-at e) ks v r) e in
+    (part-answer (end-at asked) ks v r ≡ part-answer (end-at e) ks v r) × (kept (reply-answer sixteen (end-at asked) ks v r) asked ≡ asked)
 
 unfoldable pub New-stands : Type 0
 New-stands = (zeros ≡ arrays-of new-service) × (state zeros ≡ new-service)

@@ -3,10 +3,9 @@
 //   cutawheno_end_first_message         figures plus masks
 //   cutawheno_end_reply, CutawhenoPart  where in the key the shares for a set lie
 //   END, end_at                         the length of `end`, and what its numbers stand for
-// `end` has users, threshold, collusion, blocks, user, stage (0 fresh, 1 sent, 2 + v has answered the set v) and use (0 counts, anything
-// else signed); behind them a number that no call reads, 0 from the start. The calls move the stage themselves. Any numbers are an end,
-// so 1 and 4 are tested at each call, ahead of the others. A refused call hands back its number and leaves the array and every buffer
-// as they came.
+// `end` has users, threshold, collusion, blocks, user, stage (0 fresh, 1 sent, 2 + v has answered the set v), use (0 counts, anything
+// else signed) and the round that its key belongs to. The calls move the stage themselves. Any numbers are an end, so 1 and 4 are tested
+// at each call, ahead of the others. A refused call hands back its number and leaves the array and every buffer as they came.
 // Lists come first: they are pointer and length in registers, as C passes them.
 ghost use mathlib.Core.Path.{_≡_};
 ghost use Prim.Native.Nat.{_+_, _≤_};
@@ -44,6 +43,7 @@ fn end_at(end: &[u32; END]) -> Client
         plan,
         user: end[4],
         usage,
+        round: end[7],
         stage,
     }
 }
@@ -58,9 +58,10 @@ pub extern "C" fn cutawheno_end_start(
     blocks: u32,
     user: u32,
     is_signed: u32,
+    round: u32,
 ) -> u32
-    ensures number { λ r. ⌜ r ≡ begun (code-plan users threshold collusion blocks) user (code-use «is_signed») .number ⌝ }
-    ensures left { λ r. ⌜ now (end .exit) ≡ start-left (code-plan users threshold collusion blocks) user «is_signed» (now (end .entry)) ⌝ }
+    ensures number { λ r. ⌜ r ≡ begun (code-plan users threshold collusion blocks) user (code-use «is_signed») round .number ⌝ }
+    ensures left { λ r. ⌜ now (end .exit) ≡ start-left (code-plan users threshold collusion blocks) user «is_signed» round (now (end .entry)) ⌝ }
 {
     let plan = Plan {
         users,
@@ -72,7 +73,16 @@ pub extern "C" fn cutawheno_end_start(
     if refusal != 0 {
         return refusal;
     }
-    *end = [users, threshold, collusion, blocks, user, 0, is_signed, 0];
+    *end = [
+        users,
+        threshold,
+        collusion,
+        blocks,
+        user,
+        0,
+        is_signed,
+        round,
+    ];
     0
 }
 
@@ -102,15 +112,20 @@ pub extern "C" fn cutawheno_end_first_message(
     0
 }
 
-// "Reply: 18, 2, 3, 5, 6, 19." The part of the key is given by its place, which lies inside the key.
+// "Reply: 18, 2, 3, 5, 6, 19", and 33 between the last two. The part of the key is given by its place, which lies inside the key.
 #[no_mangle]
-pub extern "C" fn cutawheno_end_reply(key: &[u16], end: &mut [u32; END], set: u32) -> CutawhenoPart
-    ensures part { λ r. ⌜ r ≡ part-answer (end-at (now (end .entry))) (now (key .entry)) set ⌝ }
+pub extern "C" fn cutawheno_end_reply(
+    key: &[u16],
+    end: &mut [u32; END],
+    set: u32,
+    round: u32,
+) -> CutawhenoPart
+    ensures part { λ r. ⌜ r ≡ part-answer (end-at (now (end .entry))) (now (key .entry)) set round ⌝ }
     ensures inside { λ r. ⌜ r .start + r .count ≤ length (now (key .entry)) ⌝ }
-    ensures left { λ r. ⌜ now (end .exit) ≡ kept (reply-answer sixteen (end-at (now (end .entry))) (now (key .entry)) set) (now (end .entry)) ⌝ }
+    ensures left { λ r. ⌜ now (end .exit) ≡ kept (reply-answer sixteen (end-at (now (end .entry))) (now (key .entry)) set round) (now (end .entry)) ⌝ }
 {
     let client = end_at(end);
-    let number = client.reply_refusal(key, set);
+    let number = client.reply_refusal(key, set, round);
     if number != 0 {
         return CutawhenoPart {
             number,

@@ -25,11 +25,11 @@ use Rattle.reading.specs.Reading as Reading
 use Rattle.service.specs.View as View
 use Rattle.service.specs.Calls as Calls
 use Rattle.finish.specs.Finish as Finish
-use Rattle.cases.specs.Cases.{drawn, key-from, key-of, message, sent-by, changed, asked, looked-up, tried, planned, opened, firsts, replies, pooled, first-numbers, reply-numbers, closed-5, finished-5, finish-tells, finish-tells-5, finish-tells-7, four, finish-tells-four, Cases}
+use Rattle.cases.specs.Cases.{drawn, key-from, key-of, message, sent-by, changed, asked-for, answered-in, in-turn, looked-up, tried, planned, opened, firsts, replies, pooled, first-numbers, reply-numbers, closed-5, finished-5, finish-tells, finish-tells-5, finish-tells-7, four, finish-tells-four, Cases}
 
 pub cases : Cases
-unfolding drawn key-from key-of message sent-by changed asked looked-up tried planned opened firsts replies pooled first-numbers reply-numbers closed-5
-    finished-5 finish-tells finish-tells-5 finish-tells-7 four finish-tells-four
+unfolding drawn key-from key-of message sent-by changed asked-for answered-in in-turn looked-up tried planned opened firsts replies pooled
+    first-numbers reply-numbers closed-5 finished-5 finish-tells finish-tells-5 finish-tells-7 four finish-tells-four
     sub inverse inverse-from modular-laws padded unknown-at shown
     Lengths.largest-figure Scheme.reach Scheme.figure-bound Scheme.within Scheme.is-near Scheme.near Scheme.figures-good
     Signed.residue Signed.meant Reading.reading Reading.residue-refusal Reading.residue-by
@@ -115,6 +115,16 @@ cases = record {
   set-5-of-2 = refl;
   set-5 = refl;
   then-set-7 = refl;
+  started = refl;
+  own-rounds = refl;
+  high-bits = refl;
+  low-bits = refl;
+  of-round-0 = refl;
+  of-last-round = refl;
+  reply-order = refl;
+  early-notices = refl;
+  late-notices = refl;
+  fresh-notices = refl;
   lookups-1 = refl;
   lookups-2 = refl;
   lookups-3 = refl;

@@ -1,11 +1,15 @@
 -- The starred examples of document 01 ("Example round") as document 02 changes them, and some of raw bytes, of the bounds on figures, of
--- signed figures, of lookups, of repeats and of replies set aside, about the definitions that the contracts name: one table, a row for each example.
+-- signed figures, of lookups, of repeats, of replies set aside and of the round of a key, about the definitions that the contracts name: one
+-- table, a row for each example.
 --   plan, random, partner-list, bad-list, figures   K, U, T, M = 3, 2, 1, 1; the random list, its partner, one that is refused; tables of figures
 --   changes                                         whole numbers at both ends of what is read back, and about zero
 --   drawn, six-numbers                              number and list that raw bytes leave of a lent list; most of the example list as bytes
---   key-of, end-of, message                         a user's key; its airfield end; its first message
+--   key-of, end-in, end-of, message                 a user's key; its airfield end, in a round and in round 7; its first message
 --   sent-by, changed                                number and stage that a fresh end of a plan hands back; a first message of a signed figure
---   handed, asked, part                             number and end handed back; what a reply to a set hands back, and its part alone
+--   handed, asked-for, asked, part                  number and end handed back; what a reply to a set hands back, asked for a round and for
+--                                                   round 7, and its part alone
+--   answered-in, in-turn                            what airfield 1 hands back for set 5 in its round; what requests, set and round, are
+--                                                   answered one behind the other: number, part and the stage that is left
 --   looked-up                                       number and start that a lookup of a set hands back
 --   tried                                           the numbers that the service and an airfield end have for a plan
 --   planned, opened, pooled, finish-tells           a service with the plan; in a round; with the replies; what its finish tells
@@ -17,6 +21,7 @@
 use mathlib.Core.Path.{_≡_}
 use mathlib.Core.Bool.{true}
 use mathlib.Core.List.{List, [], _∷_, _++_, map}
+use mathlib.Core.Option.{some}
 use Prim.Native.Nat.{ℕ, _≤_}
 use lib.Dec.{lit<}
 use lib.IntN.{ℤ, pos, negsuc}
@@ -40,7 +45,7 @@ use Rattle.client.specs.declared.Stage.{Stage}
 use Rattle.client.specs.declared.Stage.the-variants.{Fresh, Sent, Answered}
 use Rattle.client.specs.declared.Client.{Client}
 use Rattle.client.specs.declared.Moved.{Moved}
-use Rattle.client.specs.Client.{first-answer, message-left, reply-answer, part-of}
+use Rattle.client.specs.Client.{begun, first-answer, message-left, answer-refusal, reply-answer, part-of}
 use Rattle.reading.specs.declared.Reading.the-variants.{Refused, Value}
 use Rattle.reading.specs.declared.Residue.the-variants as given
 use Rattle.reading.specs.Reading.{reading, residue-answer}
@@ -87,8 +92,12 @@ key-from xs k = key-left sixteen (plan-of plan) k xs (replicate 4 0)
 unfoldable pub key-of : (k : ℕ) → List ℕ
 key-of = key-from random
 
+abbrev pub end-in : (round k : ℕ) → Stage → Client
+end-in r k g = record { plan = plan; user = k; usage = Counts; round = r; stage = g }
+
+-- in round 7, as every end here of which no round is told
 abbrev pub end-of : (k : ℕ) → Stage → Client
-end-of k g = record { plan = plan; user = k; usage = Counts; stage = g }
+end-of = end-in 7
 
 -- what a fresh end leaves in a buffer that held 7
 unfoldable pub message : (k : ℕ) → (key figures : List ℕ) → List ℕ
@@ -97,23 +106,36 @@ message k ks fs = message-left sixteen (end-of k Fresh) ks fs (7 ∷ [])
 -- as user 1, into a buffer of the right length
 unfoldable pub sent-by : Plan → Use → (key figures : List ℕ) → ℕ × Stage
 sent-by p u ks fs =
-    let answer = first-answer sixteen (record { plan = p; user = 1; usage = u; stage = Fresh }) ks fs (length fs) in
+    let answer = first-answer sixteen (record { plan = p; user = 1; usage = u; round = 7; stage = Fresh }) ks fs (length fs) in
     (answer .number, answer .client .stage)
 
 -- what a fresh end for signed figures leaves in a buffer that held 7
 unfoldable pub changed : (k : ℕ) → (figures : List ℕ) → List ℕ
-changed k fs = message-left sixteen (record { plan = plan; user = k; usage = Signed; stage = Fresh }) (key-of k) fs (7 ∷ [])
+changed k fs = message-left sixteen (record { plan = plan; user = k; usage = Signed; round = 7; stage = Fresh }) (key-of k) fs (7 ∷ [])
 
 abbrev pub handed : (number : ℕ) → Client → Moved
 handed n c = record { number = n; client = c }
 
 -- what a reply to the set hands back: number and end, and the part
-unfoldable pub asked : (set : ℕ) → Client → Moved × List ℕ
-asked v c = (reply-answer sixteen c (key-of (c .user)) v, part-of sixteen c (key-of (c .user)) v)
+unfoldable pub asked-for : (set round : ℕ) → Client → Moved × List ℕ
+asked-for v r c = (reply-answer sixteen c (key-of (c .user)) v r, part-of sixteen c (key-of (c .user)) v r)
+
+abbrev pub asked : (set : ℕ) → Client → Moved × List ℕ
+asked v = asked-for v 7
 
 -- the part, of an end that has sent
 abbrev pub part : (set k : ℕ) → List ℕ
 part v k = asked v (end-of k Sent) .1
+
+-- airfield 1, fresh in a round, sends its figure 10 and is asked for set 5 of that round
+unfoldable pub answered-in : (round : ℕ) → Moved × List ℕ
+answered-in r = asked-for 5 r (first-answer sixteen (end-in r 1 Fresh) (key-of 1) (10 ∷ []) 1 .client)
+
+unfoldable pub in-turn : (requests : List (ℕ × ℕ)) → Client → List (ℕ × List ℕ × Stage)
+in-turn [] c = []
+in-turn ((v, r) ∷ l) c =
+    let answer = asked-for v r c in
+    (answer .0 .number, answer .1, answer .0 .client .stage) ∷ in-turn l (answer .0 .client)
 
 unfoldable pub looked-up : Plan → (k set : ℕ) → ℕ × ℕ
 looked-up p k v = (found (plan-of p) k v .number, found (plan-of p) k v .start)
@@ -259,6 +281,32 @@ pub record Cases : Type 0 where
   pub set-5-of-2 : asked 5 (end-of 2 Sent) ≡ (handed 6 (end-of 2 Sent), [])
   pub set-5 : asked 5 (end-of 1 Sent) ≡ (handed 0 (end-of 1 (Answered 5)), 220 ∷ [])
   pub then-set-7 : asked 7 (end-of 1 (Answered 5)) ≡ (handed 19 (end-of 1 (Answered 5)), [])
+  -- the round of a key may be 0 and the last 32-bit number; a request for another is 33, also where only the high or only the low
+  -- sixteen bits differ, or one bit
+  pub started : map (begun plan 1 Counts) (0 ∷ 4294967295 ∷ [])
+      ≡ map (λ r. record { number = 0; client = some (end-in r 1 Fresh) }) (0 ∷ 4294967295 ∷ [])
+  pub own-rounds : map answered-in (0 ∷ 7 ∷ 4294967295 ∷ [])
+      ≡ map (λ r. (handed 0 (end-in r 1 (Answered 5)), 220 ∷ [])) (0 ∷ 7 ∷ 4294967295 ∷ [])
+  pub high-bits : asked-for 5 7 (end-in 196615 1 Sent) ≡ (handed 33 (end-in 196615 1 Sent), [])
+  pub low-bits : asked-for 5 196608 (end-in 196615 1 Sent) ≡ (handed 33 (end-in 196615 1 Sent), [])
+  pub of-round-0 : map (λ r. asked-for 5 r (end-in 0 1 Sent)) (1 ∷ 65536 ∷ 2147483648 ∷ 4294967295 ∷ [])
+      ≡ replicate 4 (handed 33 (end-in 0 1 Sent), [])
+  pub of-last-round : map (λ r. asked-for 5 r (end-in 4294967295 1 Sent)) (0 ∷ 65535 ∷ 2147483647 ∷ 4294967294 ∷ [])
+      ≡ replicate 4 (handed 33 (end-in 4294967295 1 Sent), [])
+  -- requests of airfield 2 that break every later rule too, all but the last for round 8: of a fresh end; of one that has answered 3, with
+  -- too short a key, with 65521 in its key, for set 1, for set 5, for set 7
+  pub reply-order :
+      answer-refusal sixteen (end-of 2 Fresh) (65521 ∷ []) 1 8
+      ∷ answer-refusal sixteen (end-of 2 (Answered 3)) (65521 ∷ []) 1 8
+      ∷ answer-refusal sixteen (end-of 2 (Answered 3)) (200 ∷ 103 ∷ 22017 ∷ 65521 ∷ []) 1 8
+      ∷ map (λ (c : ℕ × ℕ). answer-refusal sixteen (end-of 2 (Answered 3)) (key-of 2) (c .0) (c .1)) ((1, 8) ∷ (5, 8) ∷ (7, 8) ∷ (7, 7) ∷ [])
+      ≡ 18 ∷ 2 ∷ 3 ∷ 5 ∷ 6 ∷ 33 ∷ 19 ∷ []
+  -- notices for round 6: to an end that has sent, which then answers its own; to one that has answered that very set; to a fresh one
+  pub early-notices : in-turn ((7, 6) ∷ (5, 7) ∷ (7, 7) ∷ []) (end-of 1 Sent)
+      ≡ (33, [], Sent) ∷ (0, 220 ∷ [], Answered 5) ∷ (19, [], Answered 5) ∷ []
+  pub late-notices : in-turn ((5, 6) ∷ (5, 7) ∷ (7, 6) ∷ (5, 7) ∷ []) (end-of 1 (Answered 5))
+      ≡ (33, [], Answered 5) ∷ (0, 220 ∷ [], Answered 5) ∷ (33, [], Answered 5) ∷ (0, 220 ∷ [], Answered 5) ∷ []
+  pub fresh-notices : in-turn ((5, 6) ∷ (5, 7) ∷ []) (end-of 1 Fresh) ≡ replicate 2 (18, [], Fresh)
   -- lookups: every set of three airfields, and two with a fourth; the first part and the last of a key of 2048; 1 comes before 4, 4 before 5, 5 before 6
   pub lookups-1 : map (looked-up plan 1) (span 10 0)
       ≡ (5, 0) ∷ (5, 0) ∷ (5, 0) ∷ (0, 1) ∷ (5, 0) ∷ (0, 2) ∷ (6, 0) ∷ (0, 3) ∷ (5, 0) ∷ (5, 0) ∷ []

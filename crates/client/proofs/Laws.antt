@@ -2,7 +2,8 @@
 --   stage-answered                                  a number from 2 on stands for the stage of an answered set
 --   message-fits, message-clean, message-written    where a first message is taken: the buffer is no longer than figures and key, both are elements,
 --                                                   and the message fills it
---   Answers, reply-answers, reply-taken, answers-held    what holds where a reply is taken, and that it is taken
+--   reply-own, reply-open                           where a reply is taken, its round is the key's, and no other set was answered
+--   Answers, reply-answers, reply-taken, answers-held    what else holds there, and that it is taken
 -- Assumes nothing.
 use mathlib.Core.Path.{_≡_, refl, ap}
 use mathlib.Core.Bool.{true, false, _&&_}
@@ -51,7 +52,7 @@ module _ (A : Arithmetic) (p : scheme.Plan) (k : ℕ) (u : scheme.Use) (g : sche
   unfolding first-message
   message-written = ap (λ (n : ℕ). each (A .add) n fs ks) (message-lengths .2)
 
--- what the tests other than 18 and 19 say of a reply that is taken
+-- what the tests other than 18, 33 and 19 say of a reply that is taken
 pub record Answers (A : Arithmetic) (p : scheme.Plan) (k : ℕ) (ks : List ℕ) (v : ℕ) : Type 0 where
   pub begun : start-refusal p k ≡ 0
   pub long : length ks ≡ key-length p k
@@ -59,10 +60,24 @@ pub record Answers (A : Arithmetic) (p : scheme.Plan) (k : ℕ) (ks : List ℕ) 
   pub whole : usable p v ≡ true
   pub member : in-set v k ≡ true
 
-module _ {A : Arithmetic} {p : scheme.Plan} {k : ℕ} {ks : List ℕ} {v : ℕ} where
-  pub reply-answers : (g : scheme.Stage) → reply-refusal A p k g ks v ≡ 0 → Answers A p k ks v
+-- tests 33 and 19: the request carries the key's round, and no other set was answered
+module _ (A : Arithmetic) (p : scheme.Plan) (k : ℕ) (g : scheme.Stage) (own : ℕ) (ks : List ℕ) (v r : ℕ) (e : reply-refusal A p k g own ks v r ≡ 0) where
+  last-tests : (unless (eqb r own) 33 ≡ 0) × (unless (open-to v g) 19 ≡ 0)
   unfolding reply-refusal
-  reply-answers g e =
+  last-tests =
+      let c = then-zero _ _ (then-zero _ _ (then-zero _ _ (then-zero _ _ e .1) .1) .1) in
+      then-zero _ _ (then-zero _ _ (then-zero _ _ (c .1) .1) .1)
+
+  pub reply-own : r ≡ own
+  reply-own = eqb-true _ _ (unless-zero _ _ (last-tests .0))
+
+  pub reply-open : open-to v g ≡ true
+  reply-open = unless-zero _ _ (last-tests .1)
+
+module _ {A : Arithmetic} {p : scheme.Plan} {k : ℕ} {ks : List ℕ} {v : ℕ} where
+  pub reply-answers : (g : scheme.Stage) (own r : ℕ) → reply-refusal A p k g own ks v r ≡ 0 → Answers A p k ks v
+  unfolding reply-refusal
+  reply-answers g own r e =
       let s = then-zero _ _ e in
       let l = then-zero _ _ (then-zero _ _ (s .1) .1) in
       let c = then-zero _ _ (l .1) in
@@ -75,9 +90,10 @@ module _ {A : Arithmetic} {p : scheme.Plan} {k : ℕ} {ks : List ℕ} {v : ℕ} 
         member = unless-zero _ _ (then-zero _ _ (u .1) .0);
       }
 
-  pub reply-taken : Answers A p k ks v → (g : scheme.Stage) → is-fresh g ≡ false → open-to v g ≡ true → reply-refusal A p k g ks v ≡ 0
+  pub reply-taken : Answers A p k ks v → (g : scheme.Stage) (own r : ℕ) → is-fresh g ≡ false → r ≡ own → open-to v g ≡ true
+      → reply-refusal A p k g own ks v r ≡ 0
   unfolding reply-refusal unless _then_
-  reply-taken a g f o = simp (a .begun, f, eq-eqb _ _ (a .long), a .clean, a .whole, a .member, o)
+  reply-taken a g own r f e o = simp (a .begun, f, eq-eqb _ _ (a .long), a .clean, a .whole, a .member, eq-eqb _ _ e, o)
 
   pub answers-held : Answers A p k ks v → usable-with p k v ≡ true
   unfolding usable-with

@@ -2,6 +2,7 @@
 --   stage-of                 document 01's stage of the enum
 --   stage-of-number, stage-number    the stage that a number stands for, where an end is kept as numbers; and the number of a stage
 --   Begun, begun-by          document 01's number and value of each case of Start: 0 and the end, or the refusal's number and none
+--   fresh-end                an end that nothing has come to yet
 --   begun-with, begun        what Client::start answers: 0 and a fresh end, or 1 or 4 alone
 --   first-refusal, answer-refusal    0, or why a first message or a reply is refused
 --   at-stage, moved          a client at another stage; number and client handed back: the next stage, or the client as it was
@@ -51,20 +52,23 @@ unfoldable pub begun-by : Start → Begun
 begun-by (Refused n) = record { number = n; client = none }
 begun-by (Started c) = record { number = 0; client = some c }
 
-abbrev pub begun-with : (refusal : ℕ) → Plan → (user : ℕ) → Use → Begun
-begun-with n p k u = record { number = n; client = after n (some (record { plan = p; user = k; usage = u; stage = Fresh })) none }
+abbrev pub fresh-end : Plan → (user : ℕ) → Use → (round : ℕ) → Client
+fresh-end p k u r = record { plan = p; user = k; usage = u; round = r; stage = Fresh }
 
-abbrev pub begun : Plan → (user : ℕ) → Use → Begun
-begun p k u = begun-with (start-refusal (plan-of p) k) p k u
+abbrev pub begun-with : (refusal : ℕ) → Client → Begun
+begun-with n c = record { number = n; client = after n (some c) none }
+
+abbrev pub begun : Plan → (user : ℕ) → Use → (round : ℕ) → Begun
+begun p k u r = begun-with (start-refusal (plan-of p) k) (fresh-end p k u r)
 
 abbrev pub first-refusal : Arithmetic → Client → (key figures : List ℕ) → (out : ℕ) → ℕ
 first-refusal A c ks fs out = message-refusal A (plan-of (c .plan)) (c .user) (use-of (c .usage)) (stage-of (c .stage)) ks fs out
 
-abbrev pub answer-refusal : Arithmetic → Client → (key : List ℕ) → (set : ℕ) → ℕ
-answer-refusal A c ks v = reply-refusal A (plan-of (c .plan)) (c .user) (stage-of (c .stage)) ks v
+abbrev pub answer-refusal : Arithmetic → Client → (key : List ℕ) → (set round : ℕ) → ℕ
+answer-refusal A c ks v r = reply-refusal A (plan-of (c .plan)) (c .user) (stage-of (c .stage)) (c .round) ks v r
 
 abbrev pub at-stage : Client → Stage → Client
-at-stage c g = record { plan = c .plan; user = c .user; usage = c .usage; stage = g }
+at-stage c g = record { plan = c .plan; user = c .user; usage = c .usage; round = c .round; stage = g }
 
 abbrev pub moved : (refusal : ℕ) → Client → (next : Stage) → Moved
 moved n c g = record { number = n; client = after n (at-stage c g) c }
@@ -78,13 +82,13 @@ message-left A c ks fs o = after (first-refusal A c ks fs (length o)) (first-mes
 abbrev pub answer-of : Replied → Moved
 answer-of r = record { number = r .number; client = r .client }
 
-abbrev pub reply-answer : Arithmetic → Client → (key : List ℕ) → (set : ℕ) → Moved
-reply-answer A c ks v = moved (answer-refusal A c ks v) c (Answered v)
+abbrev pub reply-answer : Arithmetic → Client → (key : List ℕ) → (set round : ℕ) → Moved
+reply-answer A c ks v r = moved (answer-refusal A c ks v r) c (Answered v)
 
 -- of the end before the call: "the part that goes with a refused reply is empty"
-unfoldable pub part-of : Arithmetic → Client → (key : List ℕ) → (set : ℕ) → List ℕ
-part-of A c ks v = after (answer-refusal A c ks v) (reply (plan-of (c .plan)) ks (c .user) v) []
+unfoldable pub part-of : Arithmetic → Client → (key : List ℕ) → (set round : ℕ) → List ℕ
+part-of A c ks v r = after (answer-refusal A c ks v r) (reply (plan-of (c .plan)) ks (c .user) v) []
 
 -- an empty part lies at the start of the key
-unfoldable pub part-start : Arithmetic → Client → (key : List ℕ) → (set : ℕ) → ℕ
-part-start A c ks v = after (answer-refusal A c ks v) (reply-start (plan-of (c .plan)) (c .user) v) 0
+unfoldable pub part-start : Arithmetic → Client → (key : List ℕ) → (set round : ℕ) → ℕ
+part-start A c ks v r = after (answer-refusal A c ks v r) (reply-start (plan-of (c .plan)) (c .user) v) 0

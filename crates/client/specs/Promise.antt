@@ -16,10 +16,10 @@ use Rattle.client.specs.Client.{first-answer, message-left, reply-answer
 -- a taken reply gives the set's shares; the client that it hands back, asked again, is handed back as it is, with the same part at the same place
 unfoldable pub Same-part : Arithmetic → Type 0
 Same-part A =
-    (c : Client) (ks : List ℕ) (v : ℕ) → reply-answer A c ks v .number ≡ 0 →
-    let answered = reply-answer A c ks v .client in
-    (part-of A c ks v ≡ reply (plan-of (c .plan)) ks (c .user) v) × (reply-answer A answered ks v ≡ record { number = 0; client = answered })
-    × (part-of A answered ks v ≡ part-of A c ks v) × (part-start A answered ks v ≡ part-start A c ks v)
+    (c : Client) (ks : List ℕ) (v r : ℕ) → reply-answer A c ks v r .number ≡ 0 →
+    let answered = reply-answer A c ks v r .client in
+    (part-of A c ks v r ≡ reply (plan-of (c .plan)) ks (c .user) v) × (reply-answer A answered ks v r ≡ record { number = 0; client = answered })
+    × (part-of A answered ks v r ≡ part-of A c ks v r) × (part-start A answered ks v r ≡ part-start A c ks v r)
 
 unfoldable pub First-unchanged : Arithmetic → Type 0
 First-unchanged A =
@@ -28,7 +28,7 @@ First-unchanged A =
 
 unfoldable pub Reply-unchanged : Arithmetic → Type 0
 Reply-unchanged A =
-    (c : Client) (ks : List ℕ) (v : ℕ) → reply-answer A c ks v .number ≢ 0 → (reply-answer A c ks v .client ≡ c) × (part-of A c ks v ≡ [])
+    (c : Client) (ks : List ℕ) (v r : ℕ) → reply-answer A c ks v r .number ≢ 0 → (reply-answer A c ks v r .client ≡ c) × (part-of A c ks v r ≡ [])
 
 unfoldable pub Refused-unchanged : Arithmetic → Type 0
 Refused-unchanged A = First-unchanged A × Reply-unchanged A

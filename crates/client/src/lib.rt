@@ -1,5 +1,5 @@
-// The airfield end of document 01: it is fresh, or has sent, or has answered one named set, and holds its plan, its number and what it
-// reports, counts or signed figures.
+// The airfield end of document 01: it is fresh, or has sent, or has answered one named set, and holds its plan, its number, what it
+// reports, counts or signed figures, and the round that its key belongs to.
 //   Stage, Client      the end
 //   Start              what start answers: Refused by 1 or 4, or Started with a fresh end
 //   Moved              what a first message hands back: 0 or the refusal's number, and the end
@@ -31,6 +31,7 @@ pub struct Client {
     pub plan: Plan,
     pub user: u32,
     pub usage: Use,
+    pub round: u32,
     pub stage: Stage,
 }
 
@@ -124,9 +125,9 @@ impl Client {
 
     pub const MOST_PLACES: usize = plan::MOST_PLACES;
 
-    // A fresh end for a plan, a number and a use: 1, 4.
-    pub fn start(plan: Plan, user: u32, usage: Use) -> Start
-        ensures { λ r. ⌜ begun-by r ≡ begun plan user usage ⌝ }
+    // A fresh end for a plan, a number, a use and a round, which may be any: 1, 4.
+    pub fn start(plan: Plan, user: u32, usage: Use, round: u32) -> Start
+        ensures { λ r. ⌜ begun-by r ≡ begun plan user usage round ⌝ }
     {
         let number = plan::start_refusal(plan, user);
         if number != 0 {
@@ -136,6 +137,7 @@ impl Client {
             plan,
             user,
             usage,
+            round,
             stage: Stage::Fresh,
         };
         Start::Started(client)
@@ -195,21 +197,24 @@ impl Client {
         let plan = self.plan;
         let user = self.user;
         let usage = self.usage;
+        let round = self.round;
         let client = Client {
             plan,
             user,
             usage,
+            round,
             stage: Stage::Sent,
         };
         Moved { number: 0, client }
     }
 
-    // 18, 2, 3, 5, 6, 19, of a reply; 1 and 4 only of an end that start has not made. It hands out no share.
-    pub fn reply_refusal(self, key: &[u16], set: u32) -> u32
-        ensures { λ r. ⌜ r ≡ answer-refusal sixteen self (now (key .entry)) set ⌝ }
+    // 18, 2, 3, 5, 6, 33, 19, of a reply; 1 and 4 only of an end that start has not made. It hands out no share.
+    pub fn reply_refusal(self, key: &[u16], set: u32, round: u32) -> u32
+        ensures { λ r. ⌜ r ≡ answer-refusal sixteen self (now (key .entry)) set round ⌝ }
     {
         let plan = self.plan;
         let user = self.user;
+        let own = self.round;
         let stage = self.stage;
         let number = plan::start_refusal(plan, user);
         if number != 0 {
@@ -230,6 +235,9 @@ impl Client {
         if !plan::holds(set, user) {
             return 6;
         }
+        if round != own {
+            return 33;
+        }
         if !open_to(set, stage) {
             return 19;
         }
@@ -237,10 +245,10 @@ impl Client {
     }
 
     // The shares for a set where they lie in the key; with a refusal goes nothing.
-    fn part(self, refused: u32, key: &[u16], set: u32) -> &[u16]
-        requires { ⌜ refused ≡ answer-refusal sixteen self (now key) set ⌝ }
-        ensures shares { λ r. ⌜ now r ≡ part-of sixteen self (now (key .entry)) set ⌝ }
-        ensures place { λ r. ⌜ r .ptr ≡ (key .entry .ptr .0, key .entry .ptr .1 + part-start sixteen self (now (key .entry)) set * 2) ⌝ }
+    fn part(self, refused: u32, key: &[u16], set: u32, round: u32) -> &[u16]
+        requires { ⌜ refused ≡ answer-refusal sixteen self (now key) set round ⌝ }
+        ensures shares { λ r. ⌜ now r ≡ part-of sixteen self (now (key .entry)) set round ⌝ }
+        ensures place { λ r. ⌜ r .ptr ≡ (key .entry .ptr .0, key .entry .ptr .1 + part-start sixteen self (now (key .entry)) set round * 2) ⌝ }
     {
         if refused != 0 {
             return &key[0..0];
@@ -260,24 +268,26 @@ impl Client {
             let plan = self.plan;
             let user = self.user;
             let usage = self.usage;
+            let round = self.round;
             return Client {
                 plan,
                 user,
                 usage,
+                round,
                 stage: Stage::Answered(set),
             };
         }
         self
     }
 
-    // "Reply to set V: the M shares for V, handed back as the very part of the lent key where they lie."
-    pub fn reply<'a>(mut self, key: &'a [u16], set: u32) -> Replied<'a>
-        ensures answer { λ r. ⌜ answer-of r ≡ reply-answer sixteen self (now (key .entry)) set ⌝ }
-        ensures shares { λ r. ⌜ now (r .part) ≡ part-of sixteen self (now (key .entry)) set ⌝ }
-        ensures place { λ r. ⌜ r .part .ptr ≡ (key .entry .ptr .0, key .entry .ptr .1 + part-start sixteen self (now (key .entry)) set * 2) ⌝ }
+    // "Reply to set V: the M shares for V, handed back as the very part of the lent key where they lie." The request names the round.
+    pub fn reply<'a>(mut self, key: &'a [u16], set: u32, round: u32) -> Replied<'a>
+        ensures answer { λ r. ⌜ answer-of r ≡ reply-answer sixteen self (now (key .entry)) set round ⌝ }
+        ensures shares { λ r. ⌜ now (r .part) ≡ part-of sixteen self (now (key .entry)) set round ⌝ }
+        ensures place { λ r. ⌜ r .part .ptr ≡ (key .entry .ptr .0, key .entry .ptr .1 + part-start sixteen self (now (key .entry)) set round * 2) ⌝ }
     {
-        let number = self.reply_refusal(key, set);
-        let part = self.part(number, key, set);
+        let number = self.reply_refusal(key, set, round);
+        let part = self.part(number, key, set, round);
         self = self.after_reply(number, set);
         Replied {
             number,

@@ -1,7 +1,7 @@
 -- Refusals: ours are document 03's.
 --   refuse, refuse-last, refuse-user            one test of a chain, the last, and that of an airfield's number
 --   is-user-same, fresh-same, open-same         the tests of an airfield's number and of a stage
---   start-refusal-same .. part-refusal-same     the numbers of start, key maker, first message and reply
+--   start-refusal-same .. part-refusal-same     the numbers of start, key maker, first message, and reply asked for the round of the key
 -- Assumes nothing.
 use mathlib.Core.Path.{_≡_, refl, sym, ap, ap₂, _∙_}
 use mathlib.Core.Bool.{Bool, true, false, _&&_, _||_, not, cond}
@@ -101,11 +101,16 @@ refuse-fresh zero h = refl
 refuse-fresh (suc zero) h = h (omega arith)
 refuse-fresh (suc (suc w)) h = rw (eqb·suc-zero (suc w)) (h (omega arith))
 
-pub part-refusal-same : (p : D.Plan) (k g : ℕ) (ks : List ℕ) (v : ℕ)
-    → E.part-refusal p k g ks v ≡ reply-refusal sixteen (our-plan p) k (stage-of-number g) ks v
+-- a reply asked for the round of the key is not refused for its round
+asked-own : (r : ℕ) {x y : ℕ} → x ≡ y → x ≡ (unless (eqb r r) 33 then y)
+unfolding unless _then_
+asked-own r d = rw (eq-eqb r r refl) d
+
+pub part-refusal-same : (p : D.Plan) (k g : ℕ) (ks : List ℕ) (v round : ℕ)
+    → E.part-refusal p k g ks v ≡ reply-refusal sixteen (our-plan p) k (stage-of-number g) round ks v round
 unfolding E.part-refusal reply-refusal
-part-refusal-same p k g ks v =
+part-refusal-same p k g ks v round =
     refuse-start (start-refusal-same p k)
     (refuse-fresh g (λ later.
     refuse _ (ap (eqb (length ks)) (key-long-same p k))
-    (refuse _ (elements-same ks) (refuse _ (usable-same p v) (refuse _ (in-set-same v k) (refuse-last _ (open-same g v later)))))))
+    (refuse _ (elements-same ks) (refuse _ (usable-same p v) (refuse _ (in-set-same v k) (asked-own round (refuse-last _ (open-same g v later))))))))

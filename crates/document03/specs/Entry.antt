@@ -1,4 +1,5 @@
 -- Document 03's specs/Entry.antt, word for word but for message-refusal, where document 02's item 2 puts 32 after 3.
+-- It knows no round: what it says of replies is said of those asked for the round of the key, which are never refused by 33.
 -- What the key maker, the first message and the reply answer and leave behind. Assumes nothing: these are definitions.
 use mathlib.Core.Path.{_≡_}
 use mathlib.Core.Bool.{Bool, true, false, _&&_, _||_, not, cond}

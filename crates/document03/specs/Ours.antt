@@ -1,6 +1,6 @@
 -- Our words for document 03's.
 --   our-plan, plan-of-numbers      our plan of a plan of document 03, and of K, U, T and M
---   Client-of                      our end, which reports counts, where its plan, number and stage are document 03's numbers
+--   Client-of                      our end, which reports counts, of a round, where plan, number and stage are document 03's numbers
 --   our-phase                      our phase of a number: 0 no plan, 2 gathering, 3 replying, all others idle
 --   our-held, our-state            the elements held as a function; our state of the service
 --   our-record                     our records
@@ -32,10 +32,11 @@ plan-of-numbers k u t m = record { users = k; threshold = u; collusion = t; bloc
 abbrev pub our-plan : D.Plan → Plan
 our-plan p = plan-of-numbers (p .k) (p .u) (p .t) (p .m)
 
-pub record Client-of (k u t m a g : ℕ) (c : Client) : Type 0 where
+pub record Client-of (k u t m a own g : ℕ) (c : Client) : Type 0 where
   pub plan : c .plan ≡ record { users = k; threshold = u; collusion = t; blocks = m }
   pub user : c .user ≡ a
   pub usage : c .usage ≡ Counts
+  pub round : c .round ≡ own
   pub stage : stage-of (c .stage) ≡ stage-of-number g
 
 -- ---- the service

@@ -1,7 +1,8 @@
 // Document 03 beside our own definitions: its text in specs/, its statements from ours in proofs/, and its three functions with its
-// contracts, word for word but for 32, over our own calls. No crate depends on this one.
+// contracts, word for word but for 32, over our own calls. Document 03 knows no round: here its ends have one, which may be any, and its
+// replies are asked for the round of the key. No crate depends on this one.
 //   Part, Sent                              what its contracts name
-//   make_key, first_message, reply_part     its functions: an end's plan, number and stage are arguments
+//   make_key, first_message, reply_part     its functions: an end's plan, number and stage are arguments, and here its round
 //   client_of                               the end that these arguments tell
 ghost use Rattle.document03.specs.Ours.{Client-of};
 ghost use Rattle.document03.specs.Entry.{Key-says, First-says, Reply-says};
@@ -48,9 +49,10 @@ fn client_of(
     colluders: u32,
     blocks: u32,
     airfield: u32,
+    round: u32,
     stage: u32,
 ) -> Client
-    ensures { λ r. ⌜ Client-of airfields least colluders blocks airfield stage r ⌝ }
+    ensures { λ r. ⌜ Client-of airfields least colluders blocks airfield round stage r ⌝ }
 {
     let plan = Plan {
         users: airfields,
@@ -62,16 +64,19 @@ fn client_of(
         plan,
         user: airfield,
         usage: Use::Counts,
+        round,
         stage: client::stage_of_number(stage),
     }
 }
 
+// Of an end of any round.
 pub fn first_message(
     airfields: u32,
     least: u32,
     colluders: u32,
     blocks: u32,
     airfield: u32,
+    round: u32,
     stage: u32,
     key: &[u16],
     figures: &[u16],
@@ -80,7 +85,7 @@ pub fn first_message(
     ensures { λ r. ⌜ First-says airfields least colluders blocks airfield stage (now (key .entry)) (now (figures .entry)) r
         (now (output .entry)) (now (output .exit)) ⌝ }
 {
-    let client = client_of(airfields, least, colluders, blocks, airfield, stage);
+    let client = client_of(airfields, least, colluders, blocks, airfield, round, stage);
     let answer = client.first_message(key, figures, output);
     let number = answer.number;
     if number != 0 {
@@ -89,22 +94,24 @@ pub fn first_message(
     Sent { number, stage: 1 }
 }
 
+// Of an end of any round, asked for the round of the key: `round` is both. 33, of a request for another, is not document 03's.
 pub fn reply_part(
     airfields: u32,
     least: u32,
     colluders: u32,
     blocks: u32,
     airfield: u32,
+    round: u32,
     stage: u32,
     key: &[u16],
     set: u32,
 ) -> Part
     ensures { λ r. ⌜ Reply-says airfields least colluders blocks airfield stage (now (key .entry)) set r ⌝ }
 {
-    let client = client_of(airfields, least, colluders, blocks, airfield, stage);
+    let client = client_of(airfields, least, colluders, blocks, airfield, round, stage);
     let plan = client.plan;
     let user = client.user;
-    let number = client.reply_refusal(key, set);
+    let number = client.reply_refusal(key, set, round);
     if number != 0 {
         return Part {
             number,

@@ -12,6 +12,7 @@ use Rattle.scheme.specs.Service as Service
 use Rattle.scheme.specs.Modular.{modular-laws}
 use Rattle.scheme.specs.Solve.{unknown-at}
 use Rattle.client.specs.Client as Client
+use Rattle.client.specs.History.{out-at}
 use Rattle.service.specs.View as View
 use Rattle.service.specs.Calls as Calls
 use Rattle.service.specs.Promise.{told}
@@ -19,7 +20,8 @@ use Rattle.finish.specs.Finish as Finish
 use Rattle.capi.specs.Ends as Ends
 use Rattle.capi.specs.Lent as Lent
 use Rattle.exported.specs.Runs.{number-of, leaves, handed, answers}
-use Rattle.exported.specs.Shown.{end-calls, calls}
+use Rattle.exported.specs.Ends.{end-number, end-leaves}
+use Rattle.exported.specs.Shown.{end-call, given, history, calls-of, calls}
 use Rattle.exported.specs.Example.{example-given, example-calls, Example-right}
 
 pub example-right : Example-right
@@ -42,5 +44,5 @@ unfolding inverse inverse-from modular-laws padded unknown-at
     Finish.choice Finish.finish-refusal Finish.finish-answer Finish.finish-step Finish.finished
     Ends.code-stage Ends.end-at Ends.start-left Ends.kept Ends.part-by
     Lent.phase-at Lent.phase-number Lent.head-at Lent.numbers Lent.plan-left Lent.open-left Lent.close-left Lent.finish-left Lent.finish-totals
-    number-of leaves handed answers end-calls calls example-given example-calls
+    number-of leaves handed answers out-at end-number end-leaves end-call given history calls-of calls example-given example-calls
 example-right = record { user-1 = refl; user-2 = refl; user-3 = refl; answered = refl }

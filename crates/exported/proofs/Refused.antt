@@ -47,10 +47,9 @@ refused-unchanged =
     record {
       list-kept = λ p s o h. after-refused h _ o;
       key-kept = λ p k xs o h. after-refused h _ o;
-      start-kept = λ p k n e h. after-refused h _ e;
-      first-kept = λ e ks fs o h.
-          (kept-refused (end-at e) Sent e h, after-refused h _ o);
-      reply-kept = λ e ks v h. (kept-refused (end-at e) (Answered v) e h, after-refused h _ 0, after-refused h _ 0);
+      start-kept = λ p k n r e h. after-refused h _ e;
+      first-kept = λ e ks fs o h. (kept-refused (end-at e) Sent e h, after-refused h _ o);
+      reply-kept = λ e ks v r h. (kept-refused (end-at e) (Answered v) e h, after-refused h _ 0, after-refused h _ 0);
       arrays-kept = arrays-same;
       value-nought = λ n t h. no-value _ h;
       element-nought = λ p z h. no-element _ h;

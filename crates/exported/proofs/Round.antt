@@ -30,8 +30,8 @@ use Rattle.scheme.proofs.Pooling.Held.{complete-held}
 use Rattle.scheme.proofs.Pooling.Without.{without-in}
 use Rattle.solve.specs.Solve.{laws16}
 use Rattle.plan.specs.Plan.{plan-of, code-use}
-use Rattle.client.specs.Shown as client
-use Rattle.client.specs.Shown.{Handed}
+use Rattle.client.specs.History as client
+use Rattle.client.specs.History.{Handed, plainly, message-in, part-in}
 use Rattle.service.specs.declared.Service.{Service}
 use Rattle.service.specs.View.{phase-of, view, Formed}
 use Rattle.service.specs.Calls.{opened, open-step}
@@ -105,8 +105,8 @@ module _ (a : Arrays) (w : Formed sixteen (state a)) (r : ℕ) (e : number-of (o
   survived = keeps Survived (λ r. Unit {0}) (λ r s t b h u. steps-survived sixteen r s t b h) (every cs (leaves (open-call r) a)) (λ h. absurd (holds h))
 
 -- ---- the arrays behind a round whose replies of some users are what the calls gave
-module _ (before cs : List Call) (r heard : ℕ) (is-signed : (k : ℕ) → ℕ) (xs : List ℕ) (x : Table) (lent : (k : ℕ) → Lent) (o : List ℕ)
-    (h : Pooled before cs r heard is-signed xs x lent o) where
+module _ (before cs : List Call) (r own heard : ℕ) (is-signed : (k : ℕ) → ℕ) (xs : List ℕ) (x : Table) (lent : (k : ℕ) → Lent)
+    (buffer : (k : ℕ) → List ℕ) (o : List ℕ) (h : Pooled before cs r own heard is-signed xs x lent buffer o) where
   abbrev a : Arrays
   a = arrays-behind before r cs
 
@@ -124,25 +124,28 @@ module _ (before cs : List Call) (r heard : ℕ) (is-signed : (k : ℕ) → ℕ)
   unfolding Survived view
   survivor k m = ap (λ (u : ℕ). in-set u k) (sym (survived (run before zeros) begun r (h .opens) cs (finishing .replying))) ∙ m
 
-  same : (k : ℕ) → calls (plan-in a) (is-signed k) xs (x k) (state a .head .survivors) k (lent k)
-      ≡ client.calls sixteen (plan-in a) (code-use (is-signed k)) xs (x k) (state a .head .survivors) k (lent k .key-buffer) (lent k .buffer)
+  abbrev plain : (k : ℕ) → List client.Call
+  plain k = plainly (state a .head .survivors) own (buffer k)
+
+  same : (k : ℕ) → calls (plan-in a) (is-signed k) own xs (x k) k (lent k) (plain k)
+      ≡ client.calls sixteen (plan-in a) (code-use (is-signed k)) own xs (x k) k (lent k .key-buffer) (plain k)
   unfolding Same-given
-  same k = same-given (plan-in a) (is-signed k) xs (x k) (state a .head .survivors) k (lent k)
+  same k = same-given (plan-in a) (is-signed k) own xs (x k) k (lent k) (plain k)
 
   -- of users whose replies are whole
   sent-held : ((k : ℕ) → 1 ≤ k → in-set heard k ≡ true → in-set (replied-in a) k ≡ true)
-      → round.Sent-in sixteen (state a) heard (λ k. code-use (is-signed k)) xs x (λ k. lent k .key-buffer) (λ k. lent k .buffer)
+      → round.Sent-in sixteen (state a) heard own (λ k. code-use (is-signed k)) xs x (λ k. lent k .key-buffer) buffer
   unfolding gathered replied view
   sent-held whole =
       record {
         first = λ k i lo hi m l.
             first-carried (run before zeros) begun r (h .opens) cs k _ (h .sent .first k lo hi m) .right i
             (complete-held (plan-of (plan-in a)) (view (state a) .firsts) (places (plan-of (plan-in a))) k lo hi (survivor k m) i l)
-            ∙ ap (λ (g : Handed). getD (g .message) i 0) (same k);
+            ∙ ap (λ (g : Handed). getD (message-in g) i 0) (same k);
         answer = λ k b lo hi m l.
             reply-carried (run before zeros) begun r (h .opens) cs k _ (h .sent .answer k lo hi m) .right b
             (complete-held (plan-of (plan-in a)) (view (state a) .replies) (plan-in a .blocks) k lo hi (whole k lo m) b l)
-            ∙ ap (λ (g : Handed). getD (g .part) b 0) (same k);
+            ∙ ap (λ (g : Handed). getD (part-in g) b 0) (same k);
       }
 
 -- ---- the statements
@@ -157,25 +160,25 @@ finished-right a o k l t = (
 
 pub round-residues : Round-residues
 unfolding Round-residues round.Round-residues filled
-round-residues before cs r is-signed xs x lent o h rows =
+round-residues before cs r own is-signed xs x lent buffer o h rows =
     let a = arrays-behind before r cs in
-    let held = sent-held before cs r (replied-in a) is-signed xs x lent o h (λ k lo m. m) in
-    let w = formed before cs r (replied-in a) is-signed xs x lent o h in
-    let f = finishing before cs r (replied-in a) is-signed xs x lent o h in
-    finished-right a o _ _ (round-proved.round-residues-sixteen (state a) (λ k. code-use (is-signed k)) xs x (λ k. lent k .key-buffer)
-    (λ k. lent k .buffer) w (f .untested) (h .list) rows (h .room) held)
+    let held = sent-held before cs r own (replied-in a) is-signed xs x lent buffer o h (λ k lo m. m) in
+    let w = formed before cs r own (replied-in a) is-signed xs x lent buffer o h in
+    let f = finishing before cs r own (replied-in a) is-signed xs x lent buffer o h in
+    finished-right a o _ _ (round-proved.round-residues-sixteen (state a) own (λ k. code-use (is-signed k)) xs x (λ k. lent k .key-buffer)
+    buffer w (f .untested) (h .list) rows (h .room) held)
 
 pub aside-residues : Aside-residues
 unfolding Aside-residues round.Aside-residues filled
-aside-residues before cs r z is-signed xs x lent o b rows =
+aside-residues before cs r own z is-signed xs x lent buffer o b rows =
     let a = arrays-behind before r cs in
     let others = without (replied-in a) z in
     let h = b .pooled in
-    let held = sent-held before cs r others is-signed xs x lent o h (λ k lo m. without-in (replied-in a) z k (b .low) (b .inside) lo m .1) in
-    let w = formed before cs r others is-signed xs x lent o h in
-    let f = finishing before cs r others is-signed xs x lent o h in
-    finished-right a o _ _ (round-proved.aside-residues-sixteen (state a) z (λ k. code-use (is-signed k)) xs x (λ k. lent k .key-buffer)
-    (λ k. lent k .buffer) w (f .untested) (h .list) rows (h .room) (record {
+    let held = sent-held before cs r own others is-signed xs x lent buffer o h (λ k lo m. without-in (replied-in a) z k (b .low) (b .inside) lo m .1) in
+    let w = formed before cs r own others is-signed xs x lent buffer o h in
+    let f = finishing before cs r own others is-signed xs x lent buffer o h in
+    finished-right a o _ _ (round-proved.aside-residues-sixteen (state a) z own (λ k. code-use (is-signed k)) xs x (λ k. lent k .key-buffer)
+    buffer w (f .untested) (h .list) rows (h .room) (record {
       low = b .low;
       high = b .high;
       inside = b .inside;
@@ -185,20 +188,20 @@ aside-residues before cs r z is-signed xs x lent o b rows =
 
 pub round-right : Round-right
 unfolding Round-right Round-residues filled
-round-right before cs r xs x lent o h rows =
+round-right before cs r own xs x lent buffer o h rows =
     let a = arrays-behind before r cs in
     let p = plan-of (plan-in a) in
     let v = state a .head .survivors in
-    let done = round-residues before cs r (λ k. 0) xs x lent o h rows in
+    let done = round-residues before cs r own (λ k. 0) xs x lent buffer o h rows in
     (done .0, done .1 ∙ ap (padded most-places) (totals-whole sixteen p x v rows sixteen-whole), total-fits sixteen p x v rows)
 
 pub aside-right : Aside-right
 unfolding Aside-right Aside-residues filled
-aside-right before cs r z xs x lent o h rows =
+aside-right before cs r own z xs x lent buffer o h rows =
     let a = arrays-behind before r cs in
     let p = plan-of (plan-in a) in
     let v = state a .head .survivors in
-    let done = aside-residues before cs r z (λ k. 0) xs x lent o h rows in
+    let done = aside-residues before cs r own z (λ k. 0) xs x lent buffer o h rows in
     (done .0, done .1 ∙ ap (padded most-places) (totals-whole sixteen p x v rows sixteen-whole), total-fits sixteen p x v rows)
 
 totals-read : (p : Plan) (c : Changes) (v m : ℕ) (l : List ℕ) → changes-good sixteen p (in-set v) c
@@ -213,18 +216,18 @@ totals-read p c v m l good e =
 
 pub signed-total : Signed-total
 unfolding Signed-total Round-residues
-signed-total before cs r n m xs c lent o h good =
+signed-total before cs r own n m xs c lent buffer o h good =
     let a = arrays-behind before r cs in
     let p = plan-of (plan-in a) in
     let v = state a .head .survivors in
-    let done = round-residues before cs r (λ k. suc (n k)) xs (residues sixteen c) lent o h (changes-admissible sixteen p (in-set v) c good) in
+    let done = round-residues before cs r own (λ k. suc (n k)) xs (residues sixteen c) lent buffer o h (changes-admissible sixteen p (in-set v) c good) in
     (done .0, totals-read p c v m _ good (done .1))
 
 pub aside-signed : Aside-signed
 unfolding Aside-signed Aside-residues
-aside-signed before cs r z n m xs c lent o h good =
+aside-signed before cs r own z n m xs c lent buffer o h good =
     let a = arrays-behind before r cs in
     let p = plan-of (plan-in a) in
     let v = state a .head .survivors in
-    let done = aside-residues before cs r z (λ k. suc (n k)) xs (residues sixteen c) lent o h (changes-admissible sixteen p (in-set v) c good) in
+    let done = aside-residues before cs r own z (λ k. suc (n k)) xs (residues sixteen c) lent buffer o h (changes-admissible sixteen p (in-set v) c good) in
     (done .0, totals-read p c v m _ good (done .1))

@@ -24,11 +24,11 @@ pub record Refused-unchanged : Type 0 where
   pub list-kept : (p : Plan) (s o : List ℕ) → list-refusal sixteen (plan-of p) s (length o) ≢ 0 → list-left sixteen (plan-of p) s o ≡ o
   pub key-kept : (p : Plan) (k : ℕ) (xs o : List ℕ) → key-refusal sixteen (plan-of p) k xs (length o) ≢ 0 →
       key-left sixteen (plan-of p) k xs o ≡ o
-  pub start-kept : (p : Plan) (k n : ℕ) (e : List ℕ) → begun p k (code-use n) .number ≢ 0 → start-left p k n e ≡ e
+  pub start-kept : (p : Plan) (k n r : ℕ) (e : List ℕ) → begun p k (code-use n) r .number ≢ 0 → start-left p k n r e ≡ e
   pub first-kept : (e ks fs o : List ℕ) → let a = first-answer sixteen (end-at e) ks fs (length o) in a .number ≢ 0 →
       (kept a e ≡ e) × (message-left sixteen (end-at e) ks fs o ≡ o)
-  pub reply-kept : (e ks : List ℕ) (v : ℕ) → let p = part-answer (end-at e) ks v in p .number ≢ 0 →
-      (kept (reply-answer sixteen (end-at e) ks v) e ≡ e) × (p .start ≡ 0) × (p .count ≡ 0)
+  pub reply-kept : (e ks : List ℕ) (v r : ℕ) → let p = part-answer (end-at e) ks v r in p .number ≢ 0 →
+      (kept (reply-answer sixteen (end-at e) ks v r) e ≡ e) × (p .start ≡ 0) × (p .count ≡ 0)
   pub arrays-kept : (c : Call) (a : Arrays) → number-of c a ≢ 0 → leaves c a ≡ a
   pub value-nought : (n t : ℕ) → total-read n t .number ≢ 0 → total-read n t .value ≡ pos 0
   pub element-nought : (p : Plan) (z : ℤ) → residue-given (plan-of p) z .number ≢ 0 → residue-given (plan-of p) z .element ≡ 0

@@ -45,7 +45,7 @@ use Rattle.reading.specs.Reading.{reading}
 use Rattle.round.specs.Round.{Sent-in, Room, Round-residues, Round-right, Signed-total, Aside-residues, Aside-right, Aside-signed}
 
 -- ---- the calls follow the rules
-module _ (A : Arithmetic) (L : Laws A most-users most-threshold) (s : Service) (uses : (k : ℕ) → Use) (xs : List ℕ) (x : Table)
+module _ (A : Arithmetic) (L : Laws A most-users most-threshold) (s : Service) (own : ℕ) (uses : (k : ℕ) → Use) (xs : List ℕ) (x : Table)
     (ko o : (k : ℕ) → List ℕ) (w : Formed A s) (e : refusal A finish-record (view s) ≡ 0) (ok : list-good A (plan-of (s .head .plan)) xs ≡ true)
     (rows : admissible A (plan-of (s .head .plan)) (in-set (s .head .survivors)) (λ k. use-of (uses k)) x) (room : Room (plan-of (s .head .plan)) ko o) where
   abbrev p : Plan
@@ -57,27 +57,28 @@ module _ (A : Arithmetic) (L : Laws A most-users most-threshold) (s : Service) (
   f : Finishing (view s)
   f = finishing A (view s) e
 
-  ready : (k : ℕ) → 1 ≤ k → k ≤ p .users → in-set v k ≡ true → Inputs-right A p (uses k) xs k (x k) (ko k) (o k)
+  ready : (k : ℕ) → 1 ≤ k → k ≤ p .users → in-set v k ≡ true → Inputs-right A p (uses k) xs k (x k) (ko k)
   unfolding rows-good view
   ready k lo hi m =
-      record { good-plan = w .well .good (f .planned); good-list = ok; user = (lo, hi); figures = rows k lo hi m; room = room k lo hi }
+      record { good-plan = w .well .good (f .planned); good-list = ok; user = (lo, hi); figures = rows k lo hi m; room = room k lo hi .0 }
 
   survives : (k : ℕ) → 1 ≤ k → k ≤ p .users → in-set (replied (view s)) k ≡ true → in-set v k ≡ true
   unfolding view
   survives = replied-survives A (view s) (w .well) (f .planned)
 
   -- of users whose replies are complete
-  sent-follows : (r : ℕ) → ((k : ℕ) → 1 ≤ k → in-set r k ≡ true → in-set (replied (view s)) k ≡ true) → Sent-in A s r uses xs x ko o
+  sent-follows : (r : ℕ) → ((k : ℕ) → 1 ≤ k → in-set r k ≡ true → in-set (replied (view s)) k ≡ true) → Sent-in A s r own uses xs x ko o
       → Follows A (plan-of p) xs x v r (values (view s .firsts)) (values (view s .replies))
   unfolding view
   sent-follows r part held =
       record {
         first = λ k i lo hi m h.
-            held .first k i lo hi m h ∙ ap (λ (l : List ℕ). getD l i 0) (message-is-sent A L p (uses k) xs v k (x k) (ko k) (o k) (ready k lo hi m));
+            let sent = message-is-sent A L p (uses k) own v xs k (x k) (ko k) (ready k lo hi m) (o k) (room k lo hi .1) in
+            held .first k i lo hi m h ∙ ap (λ (l : List ℕ). getD l i 0) sent;
         survives = λ k lo hi m. survives k lo hi (part k lo m);
         answer = λ k b lo hi m h.
             let n = survives k lo hi (part k lo m) in
-            let sent = part-is-sent A L p (uses k) xs v k (x k) (ko k) (o k) (ready k lo hi n) (w .well .survive (f .replying)) n in
+            let sent = part-is-sent A L p (uses k) own v xs k (x k) (ko k) (ready k lo hi n) (o k) (room k lo hi .1) (w .well .survive (f .replying)) n in
             held .answer k b lo hi m h ∙ ap (λ (l : List ℕ). getD l b 0) sent;
       }
 
@@ -88,39 +89,39 @@ module _ (A : Arithmetic) (L : Laws A most-users most-threshold) where
 
   pub round-residues : Round-residues A L
   unfolding Round-residues finish.Finish-residues
-  round-residues s uses xs x ko o w e ok rows room held =
+  round-residues s own uses xs x ko o w e ok rows room held =
       let done = finish-proved.finish-residues A L s xs x w e ok
-      (sent-follows A L s uses xs x ko o w e ok rows room (replied (view s)) (λ k lo m. m) held) in
+      (sent-follows A L s own uses xs x ko o w e ok rows room (replied (view s)) (λ k lo m. m) held) in
       (done .0, done .1, totals-taken (plan-of (s .head .plan)) x (s .head .survivors) _ (done .2))
 
   pub aside-residues : Aside-residues A L
   unfolding Aside-residues finish.Aside-residues
-  aside-residues s z uses xs x ko o w e ok rows room h =
+  aside-residues s z own uses xs x ko o w e ok rows room h =
       let r = replied (view s) in
       let done = finish-proved.aside-residues A L s xs x z w e ok (h .many) (record {
         low = h .low;
         high = h .high;
         inside = h .inside;
-        survives = survives A L s uses xs x ko o w e ok rows room z (h .low) (h .high) (h .inside);
-        others = sent-follows A L s uses xs x ko o w e ok rows room (without r z) (λ k lo m. without-in r z k (h .low) (h .inside) lo m .1) (h .others);
+        survives = survives A L s own uses xs x ko o w e ok rows room z (h .low) (h .high) (h .inside);
+        others = sent-follows A L s own uses xs x ko o w e ok rows room (without r z) (λ k lo m. without-in r z k (h .low) (h .inside) lo m .1) (h .others);
       }) in
       (done .0, done .1, totals-taken (plan-of (s .head .plan)) x (s .head .survivors) _ (done .2))
 
 module _ (A : Arithmetic) (L : Laws A most-users most-threshold) (adds : Adds-whole A) where
   pub round-right : Round-right A L
   unfolding Round-right Round-residues
-  round-right s xs x ko o w e ok rows room held =
+  round-right s own xs x ko o w e ok rows room held =
       let p = plan-of (s .head .plan) in
       let v = s .head .survivors in
-      let done = round-residues A L s (λ k. Counts) xs x ko o w e ok rows room held in
+      let done = round-residues A L s own (λ k. Counts) xs x ko o w e ok rows room held in
       (done .0, done .1, done .2 ∙ totals-whole A p x v rows adds, total-fits A p x v rows)
 
   pub aside-right : Aside-right A L
   unfolding Aside-right Aside-residues
-  aside-right s z xs x ko o w e ok rows room h =
+  aside-right s z own xs x ko o w e ok rows room h =
       let p = plan-of (s .head .plan) in
       let v = s .head .survivors in
-      let done = aside-residues A L s z (λ k. Counts) xs x ko o w e ok rows room h in
+      let done = aside-residues A L s z own (λ k. Counts) xs x ko o w e ok rows room h in
       (done .0, done .1, done .2 ∙ totals-whole A p x v rows adds, total-fits A p x v rows)
 
   module _ (p : scheme.Plan) (c : Changes) (v : ℕ) (good : changes-good A p (in-set v) c) where
@@ -140,18 +141,18 @@ module _ (A : Arithmetic) (L : Laws A most-users most-threshold) (adds : Adds-wh
 
   pub signed-total : Signed-total A L
   unfolding Signed-total Round-residues
-  signed-total s xs c ko o w e ok good room held =
+  signed-total s own xs c ko o w e ok good room held =
       let p = plan-of (s .head .plan) in
       let v = s .head .survivors in
-      let done = round-residues A L s (λ k. Signed) xs (residues A c) ko o w e ok (changes-admissible A p (in-set v) c good) room held in
+      let done = round-residues A L s own (λ k. Signed) xs (residues A c) ko o w e ok (changes-admissible A p (in-set v) c good) room held in
       (done .0, done .1, totals-are-read p c v good _ (done .2))
 
   pub aside-signed : Aside-signed A L
   unfolding Aside-signed Aside-residues
-  aside-signed s z xs c ko o w e ok good room h =
+  aside-signed s z own xs c ko o w e ok good room h =
       let p = plan-of (s .head .plan) in
       let v = s .head .survivors in
-      let done = aside-residues A L s z (λ k. Signed) xs (residues A c) ko o w e ok (changes-admissible A p (in-set v) c good) room h in
+      let done = aside-residues A L s z own (λ k. Signed) xs (residues A c) ko o w e ok (changes-admissible A p (in-set v) c good) room h in
       (done .0, done .1, totals-are-read p c v good _ (done .2))
 
 -- ---- modulo 65521

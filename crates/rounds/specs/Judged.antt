@@ -35,6 +35,7 @@ use Rattle.rounds.specs.declared.calls.Verdict.{Verdict}
 use Rattle.rounds.specs.declared.calls.Verdict.the-variants as verdict
 use Rattle.rounds.specs.declared.calls.Case.{Case}
 use Rattle.rounds.specs.declared.calls.Checked.{Checked}
+use Rattle.rounds.specs.Lists.{round-of}
 
 unfoldable pub judged : (got wanted : ℕ) (stage elements : Bool) → Verdict
 judged got wanted stage elements =
@@ -82,7 +83,7 @@ begun-as c b wanted =
     }
 
 abbrev pub started : Case → (line : List ℕ) → Checked
-started c l = begun-as c (begun (c .plan) (getD l 0 0) (code-use (getD l 1 0))) (getD l 2 0)
+started c l = begun-as c (begun (c .plan) (getD l 0 0) (code-use (getD l 1 0)) (round-of l 2)) (getD l 4 0)
 
 abbrev pub found-shown : Found → (wanted expected : ℕ) → Verdict
 found-shown f wanted expected = judged-pair (f .number) wanted (f .start) expected verdict.Start

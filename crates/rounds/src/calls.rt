@@ -98,6 +98,7 @@ fn new_case(plan: Plan, service: Service) -> Case {
         plan,
         user: 0,
         usage: Use::Counts,
+        round: 0,
         stage: Stage::Fresh,
     };
     Case {
@@ -112,13 +113,13 @@ fn new_case(plan: Plan, service: Service) -> Case {
 // Whether a line with this letter has so many numbers.
 fn fits(letter: u8, count: usize) -> bool {
     match letter {
-        b'p' | b'v' => count == 5,
+        b'p' | b's' | b'v' => count == 5,
         b'w' | b'x' => count == 4,
-        b's' => count == 3,
         b'o' | b'c' => count == 2,
         b't' => 2 <= count,
-        b'd' | b'k' | b'r' | b'e' | b'a' => 3 <= count,
+        b'd' | b'k' | b'e' | b'a' => 3 <= count,
         b'f' => 4 <= count,
+        b'r' => 5 <= count,
         b'l' | b'y' => true,
         _ => false,
     }

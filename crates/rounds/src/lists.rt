@@ -2,7 +2,8 @@
 //   SPACE, space, KEY_AT        what is lent, and where the key starts in it
 //   ROOM, MARK, marked          a buffer for a key or a message
 //   marked_list, no_bytes       a buffer for a random list; one for bytes
-//   number_at, front, rest      a number; the first n; those from a place on
+//   number_at, round_at         a number; a round, which takes two of them
+//   front, rest                 the first n; those from a place on
 //   key_of                      the key that is lent
 //   same, all_are               two lists that are equal; a list with one number throughout
 //   copy_to                     writes a list
@@ -16,7 +17,7 @@ ghost use lib.Dec.{leb};
 ghost use lib.ListN.{length, getD, take, drop, replicate};
 ghost use lib.Seq.{sets};
 ghost use Rattle.scheme.specs.Drawn.{byte};
-ghost use Rattle.rounds.specs.Lists.{lent-length, key-start, key-room, mark, Exactly};
+ghost use Rattle.rounds.specs.Lists.{lent-length, key-start, key-room, mark, round-of, Exactly};
 use plan::BLOCKS;
 use plan::FIRSTS;
 use plan::MOST_PLACES;
@@ -70,6 +71,18 @@ pub fn number_at(s: &[u16], i: usize) -> u32
 {
     if i < s.len() {
         return wide(s[i]);
+    }
+    0
+}
+
+// A round's low sixteen bits come first.
+const HIGH: u32 = 65536;
+
+pub fn round_at(s: &[u16], i: usize) -> u32
+    ensures { λ r. ⌜ r ≡ round-of (now (s .entry)) i ⌝ }
+{
+    if i < s.len() {
+        return number_at(s, i) + HIGH * number_at(s, i + 1);
     }
     0
 }

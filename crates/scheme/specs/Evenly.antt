@@ -2,17 +2,18 @@
 --   Matched                  the byte strings of one kind and those of another, one to one
 --   Draws, Gives             a string of n bytes that the call takes; one from which it fills every lent list with the same elements
 --   Evenly-drawn             what the call leaves is a random list; it leaves each; and any two of as many byte strings of a length
---   Byte-matching            one matching of all byte strings that are taken, under which partners show the same
+--   Byte-matching-under, Byte-matching    one matching of all byte strings that are taken, whose partners give lists that are the same in
+--                            some way; in that they show the same
 --   Nothing-told-of-bytes    demand 3 from bytes for one plan and the tables of a kind
 --   Demand-3-of-bytes        for every plan, uses in any mix, and admissible figures, modulo 65521
 -- `evenly-drawn` and `demand-3-of-bytes` of proofs/Drawing/ prove them. Assumes nothing: these are definitions.
 use mathlib.Core.Path.{_≡_}
 use mathlib.Core.Bool.{true}
 use mathlib.Core.List.{List}
-use Prim.Native.Nat.{ℕ, _*_, _^_, _≤_, _<_}
+use Prim.Native.Nat.{ℕ, _*_}
 use lib.ListN.{length}
-use Rattle.scheme.specs.Scheme.{Arithmetic, sixteen, Plan, plan-good, Use, ones, usable, list-length}
-use Rattle.scheme.specs.Promise.{Table, everyone, admissible, list-good, shown, Alike}
+use Rattle.scheme.specs.Scheme.{Arithmetic, sixteen, Plan, plan-good, Use, list-length}
+use Rattle.scheme.specs.Promise.{Table, everyone, admissible, list-good, shown, Of-alike}
 use Rattle.scheme.specs.Drawn.{bytes-good, bytes-of, list-refusal, list-left}
 
 pub record Matched (P Q : List ℕ → Type 0) : Type 0 where
@@ -39,17 +40,18 @@ pub record Evenly-drawn (A : Arithmetic) (p : Plan) : Type 0 where
   pub reached : (xs : List ℕ) → list-good A p xs ≡ true → Gives A p (list-length p * 2) xs (bytes-of xs)
   pub evenly : (n : ℕ) (xs ys : List ℕ) → list-good A p xs ≡ true → list-good A p ys ≡ true → Matched (Gives A p n xs) (Gives A p n ys)
 
--- each byte string that is taken has exactly one partner, and what the call leaves of it shows with the first table what its partner's
--- shows with the second, whatever lists were lent
-pub record Byte-matching (A : Arithmetic) (p : Plan) (n v c : ℕ) (x y : Table) : Type 0 where
+-- each byte string that is taken has exactly one partner, whatever lists were lent
+pub record Byte-matching-under (A : Arithmetic) (p : Plan) (n : ℕ) (Same : (xs ys : List ℕ) → Type 0) : Type 0 where
   pub matched : Matched (Draws A p n) (Draws A p n)
   pub same : (s o o′ : List ℕ) → Draws A p n s → length o ≡ list-length p → length o′ ≡ list-length p
-      → shown A p v c (list-left A p s o) x ≡ shown A p v c (list-left A p (matched .there s) o′) y
+      → Same (list-left A p s o) (list-left A p (matched .there s) o′)
+
+-- what the call leaves of a string shows with the first table what its partner's shows with the second
+abbrev pub Byte-matching : Arithmetic → Plan → (n set colluders : ℕ) → (x y : Table) → Type 0
+Byte-matching A p n v c x y = Byte-matching-under A p n (λ xs ys. shown A p v c xs x ≡ shown A p v c ys y)
 
 unfoldable pub Nothing-told-of-bytes : Arithmetic → Plan → (kind : Table → Type 0) → Type 0
-Nothing-told-of-bytes A p kind =
-    (n v c : ℕ) (x y : Table) → usable p v ≡ true → c < 2 ^ p .users → ones (p .users) c ≤ p .collusion →
-    kind x → kind y → Alike A p v c x y → Byte-matching A p n v c x y
+Nothing-told-of-bytes A p kind = (n : ℕ) → Of-alike A p kind (Byte-matching A p n)
 
 -- THE THIRD DEMAND FROM RAW BYTES
 unfoldable pub Demand-3-of-bytes : Type 0

@@ -5,9 +5,11 @@
 --   list-good                      random lists
 --   Shown, shown                   what a random list and a table show
 --   Alike                          tables that agree for each colluder and have the same survivors' total
---   Matching                       one matching of all random lists, under which partners show the same
+--   Matching-under, Matching       one matching of all random lists, whose partners are the same in some way; in that they show the same
+--   Of-alike                       what holds whichever usable set, at most T colluders, and two tables of a kind that are alike
 --   Nothing-told                   demand 3 for one plan and the tables of a kind
---   Demand-3                       for every plan, uses in any mix, and admissible figures, modulo 65521
+--   Demand-3                       for every plan, uses in any mix, and admissible figures, modulo 65521; over the messages themselves:
+--                                  client/specs/Shown.antt states it over all that may ever come to the airfield ends
 --   Key-add                        behind it: the key of a sum of two lists is the sum of their keys
 -- Assumes nothing: these are definitions.
 use mathlib.Core.Path.{_≡_}
@@ -58,18 +60,25 @@ pub record Alike (A : Arithmetic) (p : Plan) (v c : ℕ) (x y : Table) : Type 0 
   pub own : (k : ℕ) → 1 ≤ k → k ≤ p .users → in-set c k ≡ true → x k ≡ y k
   pub totals : (i : ℕ) → i < places p → total-at A p x v i ≡ total-at A p y v i
 
--- each list has exactly one partner, and with the first table it shows what its partner shows with the second
-pub record Matching (A : Arithmetic) (p : Plan) (v c : ℕ) (x y : Table) : Type 0 where
+-- each list has exactly one partner
+pub record Matching-under (A : Arithmetic) (p : Plan) (Same : (xs ys : List ℕ) → Type 0) : Type 0 where
   pub partner : List ℕ → List ℕ
   pub back : List ℕ → List ℕ
   pub stays : (xs : List ℕ) → list-good A p xs ≡ true → (list-good A p (partner xs) ≡ true) × (list-good A p (back xs) ≡ true)
   pub one-to-one : (xs : List ℕ) → list-good A p xs ≡ true → (back (partner xs) ≡ xs) × (partner (back xs) ≡ xs)
-  pub same : (xs : List ℕ) → list-good A p xs ≡ true → shown A p v c xs x ≡ shown A p v c (partner xs) y
+  pub same : (xs : List ℕ) → list-good A p xs ≡ true → Same xs (partner xs)
+
+-- with the first table a list shows what its partner shows with the second
+abbrev pub Matching : Arithmetic → Plan → (set colluders : ℕ) → (x y : Table) → Type 0
+Matching A p v c x y = Matching-under A p (λ xs ys. shown A p v c xs x ≡ shown A p v c ys y)
+
+abbrev pub Of-alike : Arithmetic → Plan → (kind : Table → Type 0) → (Holds : (set colluders : ℕ) → (x y : Table) → Type 0) → Type 0
+Of-alike A p kind Holds =
+    (v c : ℕ) (x y : Table) → usable p v ≡ true → c < 2 ^ p .users → ones (p .users) c ≤ p .collusion →
+    kind x → kind y → Alike A p v c x y → Holds v c x y
 
 unfoldable pub Nothing-told : Arithmetic → Plan → (kind : Table → Type 0) → Type 0
-Nothing-told A p kind =
-    (v c : ℕ) (x y : Table) → usable p v ≡ true → c < 2 ^ p .users → ones (p .users) c ≤ p .collusion →
-    kind x → kind y → Alike A p v c x y → Matching A p v c x y
+Nothing-told A p kind = Of-alike A p kind (Matching A p)
 
 -- THE THIRD DEMAND
 unfoldable pub Demand-3 : Type 0

@@ -235,11 +235,11 @@ message-refusal A p k u g ks fs out =
     then unless (eqb (length ks) (key-length p k) && (eqb (length fs) (places p) && eqb out (places p))) 2
     then unless (elements A ks && elements A fs) 3 then unless (figures-good A u p fs) 32
 
--- of the reply: 18, 2, 3, 5, 6, 19, of an end that start has made
-unfoldable pub reply-refusal : Arithmetic → Plan → (k : ℕ) → Stage → (key : List ℕ) → (set : ℕ) → ℕ
-reply-refusal A p k g ks v =
+-- of the reply: 18, 2, 3, 5, 6, 33, 19, of an end that start has made; `own` is the round that its key belongs to
+unfoldable pub reply-refusal : Arithmetic → Plan → (k : ℕ) → Stage → (own : ℕ) → (key : List ℕ) → (set round : ℕ) → ℕ
+reply-refusal A p k g own ks v r =
     start-refusal p k then unless (not (is-fresh g)) 18 then unless (eqb (length ks) (key-length p k)) 2 then unless (elements A ks) 3
-    then unless (usable p v) 5 then unless (in-set v k) 6 then unless (open-to v g) 19
+    then unless (usable p v) 5 then unless (in-set v k) 6 then unless (eqb r own) 33 then unless (open-to v g) 19
 
 -- of the lookup of a set's shares in a user's key: 1, 4, 5, 6
 unfoldable pub lookup-refusal : Plan → (k set : ℕ) → ℕ

@@ -7,7 +7,7 @@
 //! faults for the key maker, one for the end.
 
 use super::vectors::Case;
-use super::{plan_by_seed, row};
+use super::{another_round, any_round, plan_by_seed, row};
 use crate::field::{Element, LARGEST, Q};
 use crate::random::Random;
 use crate::scheme::{Plan, Set, Use, MAX_AIRFIELDS, MAX_BLOCKS};
@@ -20,6 +20,8 @@ const FIRST_CALL: usize = 40;
 /// called once a case, and for the end, which must get on to later stages.
 const MAKER_FAULT: usize = 30;
 const END_FAULT: usize = 15;
+/// How often the end is asked for another round, in a hundred.
+const OTHER_ROUND: usize = 30;
 
 pub fn cases(seed: u64, count: u32) -> impl Iterator<Item = String> {
     let mut random = Random::new(seed);
@@ -39,14 +41,15 @@ pub fn cases(seed: u64, count: u32) -> impl Iterator<Item = String> {
 /// Nothing refused.
 fn honest(plan: &Plan, airfield: u8, random: &mut Random) -> Case {
     let usage = any_use(random);
-    let mut case = key_and_start(plan, airfield, usage, random);
+    let round = any_round(random);
+    let mut case = key_and_start(plan, airfield, usage, round, random);
     case.first_message(&row(plan, usage, random).lent(), plan.row_length());
     let sets: Vec<Set> = plan.usable_sets_holding(airfield).collect();
-    case.reply(random.pick(&sets));
+    case.reply(random.pick(&sets), round);
     case
 }
 
-fn any_use(random: &mut Random) -> Use {
+pub(super) fn any_use(random: &mut Random) -> Use {
     random.pick(&[Use::Counts, Use::Signed])
 }
 
@@ -68,7 +71,8 @@ fn at_the_bound(plan: &Plan, usage: Use) -> (Vec<Element>, Vec<Element>) {
 /// which the end takes, and none behind them.
 fn around_the_bound(plan: &Plan, airfield: u8, random: &mut Random) -> Case {
     let usage = any_use(random);
-    let mut case = key_and_start(plan, airfield, usage, random);
+    let round = any_round(random);
+    let mut case = key_and_start(plan, airfield, usage, round, random);
     let length = plan.row_length();
     let (last, beyond) = at_the_bound(plan, usage);
     let lent = |random: &mut Random| row(plan, usage, random).lent();
@@ -80,11 +84,11 @@ fn around_the_bound(plan: &Plan, airfield: u8, random: &mut Random) -> Case {
     }
     beyond_with_earlier_faults(&mut case, plan, usage, random);
     for &figure in &last {
-        case.start(airfield, usage);
+        case.start(airfield, usage, round);
         case.first_message(&with(lent(random), 0, figure), length);
         case.first_message(&vec![beyond[0]; length], length);
     }
-    case.reply((1 << plan.airfields()) - 1);
+    case.reply((1 << plan.airfields()) - 1, round);
     case
 }
 
@@ -115,7 +119,7 @@ fn beyond_with_earlier_faults(case: &mut Case, plan: &Plan, usage: Use, random: 
 }
 
 /// The list with another number at a place.
-fn with(mut list: Vec<Element>, place: usize, number: u16) -> Vec<Element> {
+pub(super) fn with(mut list: Vec<Element>, place: usize, number: u16) -> Vec<Element> {
     list[place] = number;
     list
 }
@@ -139,14 +143,15 @@ fn key_maker_faults(plan: &Plan, mut airfield: u8, random: &mut Random) -> Case 
     let mut case = Case::new(numbers);
     case.lend_list(list);
     case.make_key(airfield, room);
-    case.start(airfield, any_use(random));
+    case.start(airfield, any_use(random), any_round(random));
     case
 }
 
 /// Calls on one end in any order, each with any of its faults together.
 fn walk(plan: &Plan, airfield: u8, random: &mut Random) -> Case {
     let usage = any_use(random);
-    let mut case = key_and_start(plan, airfield, usage, random);
+    let round = any_round(random);
+    let mut case = key_and_start(plan, airfield, usage, round, random);
     let key = case.key().to_vec();
     for _ in 0..WALK_CALLS {
         let mut lent = key.clone();
@@ -155,7 +160,9 @@ fn walk(plan: &Plan, airfield: u8, random: &mut Random) -> Case {
         if random.chance(FIRST_CALL) {
             faulty_first(&mut case, plan, usage, random);
         } else {
-            case.reply(any_set(plan, random));
+            let other = random.chance(OTHER_ROUND);
+            let asked = if other { another_round(round, random) } else { round };
+            case.reply(any_set(plan, random), asked);
         }
     }
     case
@@ -186,11 +193,11 @@ fn any_set(plan: &Plan, random: &mut Random) -> Set {
     }
 }
 
-fn key_and_start(plan: &Plan, airfield: u8, usage: Use, random: &mut Random) -> Case {
+fn key_and_start(plan: &Plan, airfield: u8, usage: Use, round: u32, random: &mut Random) -> Case {
     let mut case = Case::new(plan.numbers());
     case.lend_list(random.elements(plan.list_length()));
     case.make_key(airfield, plan.key_length(airfield));
-    case.start(airfield, usage);
+    case.start(airfield, usage, round);
     case
 }
 
@@ -206,7 +213,7 @@ fn wrong_list(list: &mut Vec<Element>, percent: usize, random: &mut Random) {
     }
 }
 
-fn no_element(random: &mut Random) -> u16 {
+pub(super) fn no_element(random: &mut Random) -> u16 {
     random.pick(&[Q, u16::MAX])
 }
 

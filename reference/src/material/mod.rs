@@ -7,17 +7,20 @@
 //! - `damaged`: streams that try every bound in every phase, and damage
 //! - `vectors`: calls with their answers as text, one a line
 //! - `calls`: cases for the key maker and the airfield end, by `vectors`
+//! - `announced`: cases for sets announced for a round, by `vectors`
 //! - `drawn`: cases for random lists from raw bytes, by `vectors`
 //! - `found`: cases for where replies lie in keys, by `vectors`
 //! - `read`: cases for the reader and for residues, by `vectors`
 //! - `whole`: whole rounds from keys to totals, by `vectors`
 //! - `all_plans`, `plan_by_seed`: every plan there is, one for each seed
 //! - `wrong_numbers`: a plan's numbers, one of them outside its range
+//! - `any_round`, `another_round`: the round of an end, and one unlike it
 //! - `Row`, `row`, `table`: the figures of one airfield, and of all of them
 //! - `whole_sums`, `totals`: what they add up to, and the residues of it
 //! - `common_use`: the use of the airfields of a set, if they have one
 //! - `first_records`, `reply_records`: one airfield's messages as records
 
+pub mod announced;
 pub mod calls;
 pub mod damaged;
 pub mod drawn;
@@ -78,6 +81,24 @@ pub fn wrong_numbers(plan: &Plan, random: &mut Random) -> [u8; 4] {
     ]);
     numbers[at] = number;
     numbers
+}
+
+/// Rounds up to this one are small.
+const SMALL_ROUND: usize = 9;
+
+/// Any number of four bytes: often either end, often a small one.
+pub fn any_round(random: &mut Random) -> u32 {
+    let small = 1 + random.below(SMALL_ROUND) as u32;
+    let any = random.draw() as u32;
+    random.pick(&[0, u32::MAX, small, any])
+}
+
+/// Differs in one bit, at either end of the low or of the high half; in bits of
+/// one half alone or of both; or in every bit.
+pub fn another_round(round: u32, random: &mut Random) -> u32 {
+    let half = 1 + random.below(usize::from(u16::MAX)) as u32;
+    let both = half << 16 | half;
+    round ^ random.pick(&[1, 1 << 15, half, 1 << 16, 1 << 31, half << 16, both, u32::MAX])
 }
 
 /// The figures of one airfield, as whole numbers.

@@ -13,9 +13,9 @@
 //! | `d room number n bytes.. list..` | a random list from n raw bytes, into a buffer of `room` elements; where it is taken, it is lent from then on |
 //! | `k airfield room number key..` | key maker, into a buffer of `room` elements; its key is lent from then on |
 //! | `y key..` | another key lent from then on |
-//! | `s airfield use number` | a fresh end; its use is 0 for counts, 1 for signed figures |
+//! | `s airfield use low high number` | a fresh end for a round; its use is 0 for counts, 1 for signed figures |
 //! | `f room number stage n figures.. message..` | first message of the end for n figures, into a buffer of `room` elements |
-//! | `r set number stage part..` | reply of the end |
+//! | `r set low high number stage part..` | reply of the end to the set, announced for a round |
 //! | `w airfield set number start` | where the shares for the set start in the airfield's key; 0 if it is refused |
 //! | `o round number` | open |
 //! | `e airfield place number elements..` | first elements from this place on, each with this answer |
@@ -27,6 +27,7 @@
 //!
 //! The number is 0, or that of the refusal, and then no elements come back.
 //! The stage is the one after the call: 0 fresh, 1 sent, 2 + v answered v.
+//! A round of an end takes two numbers, its low sixteen bits and its high ones.
 //! No number of a line lies below zero, so a value takes two: 1 if it lies
 //! below zero and 0 if not, and how far from zero it lies.
 
@@ -100,9 +101,10 @@ impl Case {
         }
     }
 
-    pub fn start(&mut self, airfield: u8, usage: Use) {
-        let result = End::start(self.plan, airfield, usage);
-        self.line('s', &[airfield.into(), use_number(usage), number_of(&result)]);
+    pub fn start(&mut self, airfield: u8, usage: Use, round: u32) {
+        let result = End::start(self.plan, airfield, usage, round);
+        let [low, high] = halves(round);
+        self.line('s', &[airfield.into(), use_number(usage), low, high, number_of(&result)]);
         self.end = result.ok().or(self.end.take());
     }
 
@@ -119,10 +121,11 @@ impl Case {
     }
 
     /// Gives the part of the key, none if it is refused.
-    pub fn reply(&mut self, set: Set) -> Vec<Element> {
+    pub fn reply(&mut self, set: Set, round: u32) -> Vec<Element> {
         let end = self.end.as_mut().expect("an end was started");
-        let result = end.reply(&self.key, set).map(<[Element]>::to_vec);
-        let head = [set, number_of(&result), stage_number(end)];
+        let result = end.reply(&self.key, set, round).map(<[Element]>::to_vec);
+        let [low, high] = halves(round);
+        let head = [set, low, high, number_of(&result), stage_number(end)];
         let part = result.unwrap_or_default();
         self.line('r', &[&head, &part[..]].concat());
         part
@@ -226,6 +229,11 @@ fn stage_number(end: &End) -> u16 {
 
 fn use_number(usage: Use) -> u16 {
     (usage == Use::Signed).into()
+}
+
+/// The low sixteen bits, then the high ones.
+fn halves(round: u32) -> [u16; 2] {
+    [round as u16, (round >> 16) as u16]
 }
 
 fn value_numbers(value: i32) -> [u16; 2] {

@@ -3,16 +3,18 @@
 //! - `cases`: the text of `count` cases, by `vectors::Case`
 //!
 //! The plan of case i is that of seed + i, so 896 cases meet every plan. A
-//! case has one round or two, each with its own random list. Every airfield
-//! makes its calls; then the service is given what it sends. Airfields may
-//! drop out before or after the close, leave rows and replies unfinished, come
-//! late, reply though they are no survivors, and one reply or two may be
-//! garbled, in one block or in all; a message may come again, as it was or
-//! changed; close and finish may be asked too early, or once too often. Figures
-//! lie within the bound of their airfield's use. Where no reply is garbled, or
-//! one among U + 2 or more, which is then set aside, the totals are held against
-//! the residues of the whole-number sums of the survivors' figures; and where
-//! the survivors have one use, what is read from them against those sums.
+//! case has one round or two, each with its own random list, whose keys all
+//! belong to that round. Every airfield makes its calls, and a late notice for
+//! the round before names the same set; then the service is given what it
+//! sends. Airfields may drop out before or after the close, leave rows and
+//! replies unfinished, come late, reply though they are no survivors, and one
+//! reply or two may be garbled, in one block or in all; a message may come
+//! again, as it was or changed; close and finish may be asked too early, or once
+//! too often. Figures lie within the bound of their airfield's use. Where no
+//! reply is garbled, or one among U + 2 or more, which is then set aside, the
+//! totals are held against the residues of the whole-number sums of the
+//! survivors' figures; and where the survivors have one use, what is read from
+//! them against those sums.
 
 use super::rounds::some_of;
 use super::vectors::Case;
@@ -55,7 +57,7 @@ fn round(case: &mut Case, plan: &Plan, number: u16, random: &mut Random) {
     let table = table(plan, random);
     let sent: Vec<Sent> = (1..)
         .zip(&table)
-        .map(|(airfield, row)| calls(case, plan, airfield, row, survivors, random))
+        .map(|(airfield, row)| calls(case, plan, airfield, row, (number, survivors), random))
         .collect();
     let of = |airfields: &[u8]| -> Vec<&Sent> {
         airfields.iter().map(|&airfield| &sent[usize::from(airfield - 1)]).collect()
@@ -101,22 +103,24 @@ fn without(airfields: &[u8], some: &[u8]) -> Vec<u8> {
     airfields.iter().copied().filter(|airfield| !some.contains(airfield)).collect()
 }
 
-/// Key, first message and reply of one airfield; now and then it is asked
-/// again, for the same set or for another.
+/// Key, first message and reply of one airfield, a late notice before it; now
+/// and then the airfield is asked again, for the same set or for another.
 fn calls(
     case: &mut Case,
     plan: &Plan,
     airfield: u8,
     row: &Row,
-    survivors: Set,
+    (number, survivors): (u16, Set),
     random: &mut Random,
 ) -> Sent {
+    let round = u32::from(number);
     case.make_key(airfield, plan.key_length(airfield));
-    case.start(airfield, row.usage);
+    case.start(airfield, row.usage, round);
     let message = case.first_message(&row.lent(), plan.row_length());
-    let reply = case.reply(survivors);
+    case.reply(survivors, round - 1);
+    let reply = case.reply(survivors, round);
     if random.chance(SOMETIMES) {
-        case.reply(random.pick(&[survivors, (1 << plan.airfields()) - 1]));
+        case.reply(random.pick(&[survivors, (1 << plan.airfields()) - 1]), round);
     }
     Sent { airfield, message, reply }
 }

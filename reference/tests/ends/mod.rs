@@ -14,7 +14,7 @@ pub fn fresh(usage: Use) -> (End, Vec<Element>) {
     let plan = Plan::new(PLAN).unwrap();
     let mut key = vec![1; plan.key_length(1)];
     make_key(PLAN, 1, &vec![0; plan.list_length()], &mut key).unwrap();
-    (End::start(PLAN, 1, usage).unwrap(), key)
+    (End::start(PLAN, 1, usage, 0).unwrap(), key)
 }
 
 /// The call is refused, and leaves buffer and stage as they were, so that good

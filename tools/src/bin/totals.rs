@@ -17,8 +17,8 @@ totals: the lines of the pooling service, with the totals as they are meant
   totals signed    the same, and each number behind `total ROUND` that is above 32760 becomes itself less 65521
   totals --help, --version
 
-Say signed where the airfields of the rounds use signed figures (`airfield key LIST AIRFIELD END signed`): where all do, the numbers are
-then their whole-number sums. Where uses are mixed in a round its total has no meaning that can be read off it.
+Say signed where the airfields of the rounds use signed figures (`airfield key LIST AIRFIELD ROUND END signed`): where all do, the numbers
+are then their whole-number sums. Where uses are mixed in a round its total has no meaning that can be read off it.
 A line `aside ROUND AIRFIELD` passes as it is: the total of that round, which follows it, goes without that airfield's reply, and has its
 figures all the same. Lines that begin with another word pass as they are. Each line is handed on as it comes. A line of either kind that
 `pool` does not print, with a total above 65520 (3), cut short or otherwise damaged, or an aside without the total of its round behind it,

@@ -84,12 +84,12 @@ impl Folder {
         Folder { path }
     }
 
-    /// With a list of plan 3 2 1 1 and fresh ends of all three airfields.
+    /// With a list of plan 3 2 1 1 and fresh ends of all three airfields, for round 7.
     pub fn with_ends(name: &str) -> Folder {
         let folder = Folder::new(name);
         folder.airfield(&["list", "3", "2", "1", "1", "list"]).done();
         for airfield in ["1", "2", "3"] {
-            folder.airfield(&["key", "list", airfield, &format!("end{airfield}")]).done();
+            folder.airfield(&["key", "list", airfield, "7", &format!("end{airfield}")]).done();
         }
         folder
     }
@@ -176,7 +176,7 @@ impl Folder {
     pub fn comment(&self, end: &str) -> String {
         let text = String::from_utf8(self.read(end)).unwrap();
         let list = text.lines().find_map(|line| line.strip_prefix("list ")).unwrap();
-        format!("# list {} airfield {}\n", &list[..8], self.numbers(end, "airfield")[0])
+        format!("# list {} airfield {} round {}\n", &list[..8], self.numbers(end, "airfield")[0], self.numbers(end, "round")[0])
     }
 
     /// Copies all files into a new folder beside it.

@@ -1,4 +1,4 @@
--- `document03::reply_part` meets document 03's contract: the client's refusal decides, and the start is our own.
+-- `document03::reply_part` meets document 03's contract, asked for the round of the key: the client's refusal decides, and the start is our own.
 -- Assumes nothing.
 use mathlib.Core.Path.{refl, sym, _∙_}
 use native.Mathlib.Nat.{le-of-lt}
@@ -18,7 +18,7 @@ use Rattle.document03.proofs.reply_part.Tie as tie
 answers : (c : tie.Else1) → let f = c .before .before .before in
     let a = f .before .before .args in
     Answers sixteen (plan-of (f .client-of .result .plan)) (f .client-of .result .user) (now (a .key)) (a .set)
-answers c = reply-answers _ (sym (c .before .reply-refusal .ensures) ∙ c .if1 .left)
+answers c = reply-answers _ _ _ (sym (c .before .reply-refusal .ensures) ∙ c .if1 .left)
 
 client-of-requires : tie.Need-client-of-requires
 client-of-requires c κs = search needs
@@ -38,11 +38,11 @@ reply-start-requires c κs =
     let g = start-taken _ _ (t .begun) in
     (g .0, g .1, omega arith, le-of-lt (usable-below _ _ (t .whole)))
 
-cast-t15 : tie.Need-cast-t15
-cast-t15 c = search needs
+cast-t16 : tie.Need-cast-t16
+cast-t16 c = search needs
 
-add-t16 : tie.Need-add-t16
-add-t16 c =
+add-t17 : tie.Need-add-t17
+add-t17 c =
     let t = answers (c .before) in
     omega (arith, usable-le _ _ (start-taken _ _ (t .begun) .0) (t .whole))
 
@@ -53,4 +53,4 @@ returns-2 c =
     (λ e. (c .reply-start .ensures .0, refl, refl)) (λ no. absurd (no (sym (f .reply-refusal .ensures) ∙ c .before .if1 .left)))
 
 pub reply-part-spec : {M : Type 1} → statement M
-reply-part-spec = tie.close (tie.spec client-of-requires reply-refusal-requires returns reply-start-requires cast-t15 add-t16 returns-2)
+reply-part-spec = tie.close (tie.spec client-of-requires reply-refusal-requires returns reply-start-requires cast-t16 add-t17 returns-2)

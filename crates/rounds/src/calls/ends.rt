@@ -25,20 +25,21 @@ use crate::lists::marked;
 use crate::lists::marked_behind;
 use crate::lists::number_at;
 use crate::lists::rest;
+use crate::lists::round_at;
 use client::Client;
 use client::Moved;
 use client::Stage;
 use client::Start;
 use plan::BLOCKS;
 
-// s user use number: a fresh end; the use is 0 for counts, anything else for signed figures.
+// s user use low high number: a fresh end for a round; the use is 0 for counts, anything else for signed figures.
 pub fn check_start(mut case: Case, line: &[u16]) -> Checked
     ensures { λ r. ⌜ r ≡ started case (now (line .entry)) ⌝ }
 {
     let plan = case.plan;
     let usage = plan::use_of_number(number_at(line, 1));
-    let wanted = number_at(line, 2);
-    let started = Client::start(plan, number_at(line, 0), usage);
+    let wanted = number_at(line, 4);
+    let started = Client::start(plan, number_at(line, 0), usage, round_at(line, 2));
     match started {
         Start::Refused(number) => {
             let verdict = agree(number, wanted);
@@ -152,10 +153,10 @@ fn copy_out(number: u32, client: Client, part: &[u16]) -> Copied
 }
 
 // The only function here that holds a part of the key: what it hands back is plain.
-fn copied_reply(end: Client, key: &[u16], set: u32) -> Copied
-    ensures { λ r. ⌜ r ≡ copied (reply-answer sixteen end (now (key .entry)) set) (part-of sixteen end (now (key .entry)) set) ⌝ }
+fn copied_reply(end: Client, key: &[u16], set: u32, round: u32) -> Copied
+    ensures { λ r. ⌜ r ≡ copied (reply-answer sixteen end (now (key .entry)) set round) (part-of sixteen end (now (key .entry)) set round) ⌝ }
 {
-    let replied = end.reply(key, set);
+    let replied = end.reply(key, set, round);
     copy_out(replied.number, replied.client, replied.part)
 }
 
@@ -167,20 +168,25 @@ fn shares_are(shares: &[u16; BLOCKS], count: usize, wanted: &[u16]) -> bool {
     holds_just(shares, wanted, 0)
 }
 
-// r set number stage part..: the end's reply to a set, and the part of the key.
+// r set low high number stage part..: the end's reply to a set, announced for a round, and the part of the key.
 pub fn check_reply(mut case: Case, line: &[u16], lent: &[u16; SPACE]) -> Checked {
     let end = case.end;
     let length = case.key;
-    let wanted = rest(line, 3);
-    let replied = copied_reply(end, key_of(lent, length), number_at(line, 0));
+    let wanted = rest(line, 5);
+    let replied = copied_reply(
+        end,
+        key_of(lent, length),
+        number_at(line, 0),
+        round_at(line, 1),
+    );
     let next = replied.client;
     let stage = next.stage;
     let shares = replied.shares;
     case.end = next;
     let verdict = judge(
         replied.number,
-        number_at(line, 1),
-        stage_is(stage, number_at(line, 2)),
+        number_at(line, 3),
+        stage_is(stage, number_at(line, 4)),
         shares_are(&shares, replied.count, wanted),
     );
     Checked { case, verdict }

@@ -1,4 +1,5 @@
 -- Demand 3 from raw bytes.
+--   bytes-matched            a matching of lists matches byte strings
 --   nothing-told-of-bytes    for one plan and the tables of a kind, from demand 3 for them
 --   demand-3-of-bytes        THE THIRD DEMAND FROM RAW BYTES, modulo 65521
 -- Assumes nothing.
@@ -8,9 +9,9 @@ use mathlib.Core.List.{List}
 use Prim.Native.Nat.{ℕ, _*_, _≤_}
 use native.Mathlib.Omega.{arith}
 use Rattle.scheme.specs.Scheme.{Arithmetic, sixteen, Plan}
-use Rattle.scheme.specs.Promise.{Table, everyone, admissible, list-good, Matching, Nothing-told, Demand-3}
+use Rattle.scheme.specs.Promise.{Table, everyone, admissible, list-good, Matching-under, Nothing-told, Demand-3}
 use Rattle.scheme.specs.Drawn.{byte}
-use Rattle.scheme.specs.Evenly.{Matched, Draws, Nothing-told-of-bytes, Demand-3-of-bytes}
+use Rattle.scheme.specs.Evenly.{Matched, Draws, Byte-matching-under, Nothing-told-of-bytes, Demand-3-of-bytes}
 use Rattle.scheme.proofs.Privacy.Demand.{demand-3}
 use Rattle.scheme.proofs.Drawing.Draws.{draws-good, draws-left}
 use Rattle.scheme.proofs.Drawing.Partners.{Drawn-from, partners, partners-drawn}
@@ -26,8 +27,8 @@ module _ (A : Arithmetic) (p : Plan) where
     drawing = λ s d h. d;
   }
 
-  abbrev lists-matched : {v c : ℕ} {x y : Table} → Matching A p v c x y → Matched Good-list Good-list
-  lists-matched m = record {
+  abbrev lists-matched : (Same : (xs ys : List ℕ) → Type 0) → Matching-under A p Same → Matched Good-list Good-list
+  lists-matched Same m = record {
     there = m .partner;
     back = m .back;
     there-in = λ xs h. m .stays xs h .0;
@@ -36,12 +37,10 @@ module _ (A : Arithmetic) (p : Plan) where
     back-there = λ xs h. m .one-to-one xs h .1;
   }
 
-pub nothing-told-of-bytes : (A : Arithmetic) → A .size ≤ byte * byte → (p : Plan) (kind : Table → Type 0) → Nothing-told A p kind
-    → Nothing-told-of-bytes A p kind
-unfolding Nothing-told Nothing-told-of-bytes
-nothing-told-of-bytes A two p kind told n v c x y ok lt few good-x good-y alike =
-    let m = told v c x y ok lt few good-x good-y alike in
-    let l = lists-matched A p m in
+pub bytes-matched : (A : Arithmetic) → A .size ≤ byte * byte → (p : Plan) (n : ℕ) (Same : (xs ys : List ℕ) → Type 0) → Matching-under A p Same
+    → Byte-matching-under A p n Same
+bytes-matched A two p n Same m =
+    let l = lists-matched A p Same m in
     let f = draws-from A p n in
     record {
       matched = partners A two p n f f l;
@@ -49,6 +48,12 @@ nothing-told-of-bytes A two p kind told n v c x y ok lt few good-x good-y alike 
           rw (draws-left A p n s d o e, draws-left A p n _ (partners A two p n f f l .there-in s d) o′ e′, partners-drawn A two p n f f l s d)
           (m .same _ (draws-good A p n s d));
     }
+
+pub nothing-told-of-bytes : (A : Arithmetic) → A .size ≤ byte * byte → (p : Plan) (kind : Table → Type 0) → Nothing-told A p kind
+    → Nothing-told-of-bytes A p kind
+unfolding Nothing-told Nothing-told-of-bytes
+nothing-told-of-bytes A two p kind told n v c x y ok lt few good-x good-y alike =
+    bytes-matched A two p n _ (told v c x y ok lt few good-x good-y alike)
 
 pub demand-3-of-bytes : Demand-3-of-bytes
 unfolding Demand-3-of-bytes Demand-3

@@ -3,10 +3,11 @@
 //! The first line names kind and version, then comes a line a field, the last line is a checksum over all bytes before it:
 //!
 //! ```text
-//! cutawheno end 1
+//! cutawheno end 2
 //! list 00112233445566778899aabbccddeeff    the list's identity: drawn with the list, not made from it
 //! plan 3 2 1 1
 //! airfield 1
+//! round 7                                  the one that its key belongs to
 //! use signed                               of its figures; no such line in an end of counts
 //! stage answered 5                         or: fresh, sent
 //! key 100 154 220 340
@@ -14,12 +15,13 @@
 //! checksum 89abcdef
 //! ```
 //!
-//! A list has the kind `list`, the fields list, plan, ends (the set of the airfields whose ends were made from it) and elements. The
-//! checksum is CRC-32 (ISO 3309), which differs after every change of up to 32 bits in a row, so after every change of one byte. It finds
-//! accidents; it keeps out nobody who wants to forge a file.
-//! Reading is strict: a file is read only if writing what was read gives the same bytes again.
+//! A list has the kind `list`, the fields list, plan, ends (the set of the airfields whose ends were made from it), round (of those ends;
+//! no such line while there are none) and elements. The checksum is CRC-32 (ISO 3309), which differs after every change of up to 32 bits in
+//! a row, so after every change of one byte. It finds accidents; it keeps out nobody who wants to forge a file.
+//! Reading is strict: a file is read only if writing what was read gives the same bytes again. Files of version 1 tell no round, and are
+//! not read.
 //!
-//! - `Identity`, `List`, `End`, `Stage`: what the files hold
+//! - `Identity`, `List`, `Made`, `End`, `Stage`: what the files hold
 //! - `List::text`, `List::read`, `End::text`, `End::read`: to bytes and back
 //! - `List::head`, `End::head`: how every file of this list or end begins, whatever came after
 //! - `known`: whether bytes begin as a list or an end of any version
@@ -29,7 +31,7 @@ use std::fmt;
 
 const LIST: &str = "list";
 const END: &str = "end";
-const VERSION: &str = "1";
+const VERSION: &str = "2";
 const SIGNED: &str = "use signed\n";
 const CHECKSUM: &str = "checksum ";
 /// Digits of a checksum and the line's end.
@@ -61,15 +63,25 @@ impl fmt::Display for Identity {
 pub struct List {
     pub identity: Identity,
     pub plan: Plan,
-    /// The set of the airfields whose ends were made from it.
-    pub ends: u32,
+    /// What was made from it, if anything.
+    pub made: Option<Made>,
     pub elements: Vec<u16>,
+}
+
+/// The ends made from a list: all have one round.
+#[derive(Clone, Copy)]
+pub struct Made {
+    /// The set of their airfields, never empty.
+    pub ends: u32,
+    pub round: u32,
 }
 
 pub struct End {
     pub list: Identity,
     pub plan: Plan,
     pub airfield: u32,
+    /// The one that its key belongs to.
+    pub round: u32,
     pub usage: Use,
     pub key: Vec<u16>,
     pub stage: Stage,
@@ -88,35 +100,42 @@ impl List {
         format!("{}list {}\nplan {}\n", first_line(LIST), self.identity, numbers(&self.plan))
     }
 
+    /// The set of the airfields whose ends were made from it.
+    pub fn ends(&self) -> u32 {
+        self.made.map_or(0, |made| made.ends)
+    }
+
     pub fn text(&self) -> String {
-        sealed(format!("{}ends {}\nelements{}\n", self.head(), self.ends, spaced(&self.elements)))
+        let round = self.made.map(|made| format!("round {}\n", made.round)).unwrap_or_default();
+        sealed(format!("{}ends {}\n{round}elements{}\n", self.head(), self.ends(), spaced(&self.elements)))
     }
 
     pub fn read(bytes: &[u8]) -> Result<List, String> {
         let mut fields = Fields::new(bytes, LIST)?;
-        let list = List {
-            identity: fields.take("list", Identity::read)?,
-            plan: fields.take("plan", plan)?,
-            ends: fields.take("ends", number)?,
-            elements: fields.take("elements", elements)?,
+        let identity = fields.take("list", Identity::read)?;
+        let plan = fields.take("plan", plan)?;
+        let made = match fields.take("ends", number)? {
+            0 => None,
+            ends => Some(Made { ends, round: fields.take("round", number)? }),
         };
+        let list = List { identity, plan, made, elements: fields.take("elements", elements)? };
         as_written(bytes, &list.text())?;
         wanted_count("elements", list.elements.len(), list.plan.list_len())?;
-        match list.ends >> list.plan.users {
+        match list.ends() >> list.plan.users {
             0 => Ok(list),
-            _ => Err(format!("ends {} is no set of its plan", list.ends)),
+            _ => Err(format!("ends {} is no set of its plan", list.ends())),
         }
     }
 }
 
 impl End {
     pub fn head(&self) -> String {
-        let End { list, plan, airfield, .. } = self;
+        let End { list, plan, airfield, round, .. } = self;
         let usage = match self.usage {
             Use::Counts => "",
             Use::Signed => SIGNED,
         };
-        format!("{}list {list}\nplan {}\nairfield {airfield}\n{usage}", first_line(END), numbers(plan))
+        format!("{}list {list}\nplan {}\nairfield {airfield}\nround {round}\n{usage}", first_line(END), numbers(plan))
     }
 
     pub fn text(&self) -> String {
@@ -142,6 +161,7 @@ impl End {
         let list = fields.take("list", Identity::read)?;
         let plan = fields.take("plan", plan)?;
         let airfield = fields.take("airfield", number)?;
+        let round = fields.take("round", number)?;
         let usage = if fields.pass(SIGNED) { Use::Signed } else { Use::Counts };
         let stage = fields.take("stage", |text| Some(text.to_string()))?;
         let key = fields.take("key", elements)?;
@@ -152,7 +172,7 @@ impl End {
             Some(("answered", set)) => Stage::Answered { message: message()?, set: number(set).ok_or("its stage names no set")? },
             _ => return Err("it has no stage that this tool knows".to_string()),
         };
-        let end = End { list, plan, airfield, usage, key, stage };
+        let end = End { list, plan, airfield, round, usage, key, stage };
         as_written(bytes, &end.text())?;
         end.fits()?;
         Ok(end)

@@ -11,7 +11,7 @@ use cutawheno::{Plan, Refusal, Use};
 use cutawheno_tools::command::{shown, start, Fault, VERSION};
 use cutawheno_tools::{standard, system};
 use files::{is_erased, Held, New, Purpose};
-use format::{numbers, End, Identity, List, Stage, LARGEST};
+use format::{numbers, End, Identity, List, Made, Stage, LARGEST};
 use std::ffi::OsStr;
 use std::io::Read;
 use std::path::{Path, PathBuf};
@@ -41,10 +41,10 @@ fn run() -> Result<(), Fault> {
         Command::Help => (HELP.to_string(), None),
         Command::Version => (format!("airfield {VERSION}\n"), None),
         Command::List { plan, list } => (draw_list(plan, &list)?, None),
-        Command::Key { list, airfield, end, usage } => (make_key(&list, airfield, &end, usage)?, None),
+        Command::Key { list, airfield, round, end, usage } => (make_key(&list, airfield, round, &end, usage)?, None),
         Command::First { end, figures } => (first(&end, figures)?, Some(kept(&end))),
         Command::Again { end } => (again(&end)?, Some(kept(&end))),
-        Command::Reply { end, set } => (reply(&end, set)?, Some(kept(&end))),
+        Command::Reply { end, round, set } => (reply(&end, round, set)?, Some(kept(&end))),
         Command::Status { file } => (status(&file)?, None),
         Command::Destroy { files } => (destroy(&files)? + NOT_COVERED, Some(destroyed(&files))),
     };
@@ -69,7 +69,7 @@ fn draw_list([k, u, t, m]: [Number; 4], file: &Path) -> Result<String, String> {
     }
     let mut identity = [0; 16];
     draw(&mut identity)?;
-    let list = List { identity: Identity(identity), plan, ends: 0, elements: elements(plan, wanted)? };
+    let list = List { identity: Identity(identity), plan, made: None, elements: elements(plan, wanted)? };
     New::create(file, None)?.write(list.text().as_bytes())?;
     Ok(String::new())
 }
@@ -94,8 +94,9 @@ fn draw(bytes: &mut [u8]) -> Result<(), String> {
     system::draw(bytes).map_err(|fault| format!("the system's source of randomness: {fault}"))
 }
 
-/// The list counts the airfield's end as made before the key is written anywhere: from one list no second end can come.
-fn make_key(file: &Path, given: Number, end: &Path, usage: Use) -> Result<String, String> {
+/// The list counts the airfield's end as made, and its round, before the key is written anywhere: from one list no second end can come, and
+/// no end for a second round.
+fn make_key(file: &Path, given: Number, round: u32, end: &Path, usage: Use) -> Result<String, String> {
     let airfield = given.value;
     let held = Held::open(file, Purpose::Use)?;
     let mut list = List::read(&held.read()?).map_err(|fault| format!("{}: {fault}", shown(file)))?;
@@ -105,15 +106,19 @@ fn make_key(file: &Path, given: Number, end: &Path, usage: Use) -> Result<String
         _ => refusal.to_string(),
     })?;
     let member = 1 << (airfield - 1);
-    if list.ends & member != 0 {
+    if let Some(made) = list.made.filter(|made| made.round != round) {
+        let why = format!("its ends are for round {}, and a list serves one round", made.round);
+        return Err(format!("{}: {why}; draw a new list for round {round}", shown(file)));
+    }
+    if list.ends() & member != 0 {
         return Err(format!("{}: the end of airfield {airfield} was made from it already, and a key serves one end", shown(file)));
     }
     let new = New::create(end, Some(&held))?;
-    list.ends |= member;
+    list.made = Some(Made { ends: list.ends() | member, round });
     if let Err(fault) = held.replace(list.text().as_bytes(), list.head().len()) {
         return Err(format!("{fault}; {}", new.remove()));
     }
-    let end = End { list: list.identity, plan: list.plan, airfield, usage, key, stage: Stage::Fresh };
+    let end = End { list: list.identity, plan: list.plan, airfield, round, usage, key, stage: Stage::Fresh };
     let made = |fault| format!("{fault}; {} counts the end as made, so draw a new list", shown(file));
     new.write(end.text().as_bytes()).map_err(made)?;
     Ok(String::new())
@@ -181,7 +186,7 @@ fn nothing_sent(file: &Path) -> String {
 fn masked(end: &End, figures: &[Figure]) -> Result<Vec<u16>, Refusal> {
     let row: Vec<u16> = figures.iter().map(|figure| lent(end, figure.value)).collect();
     let mut message = vec![0; end.plan.row_len()];
-    let fresh = cutawheno::End::start(end.plan, end.airfield, end.usage);
+    let fresh = cutawheno::End::start(end.plan, end.airfield, end.usage, end.round);
     let sent = fresh.and_then(|mut fresh| fresh.first_message(&end.key, &row, &mut message));
     sent.map(|()| message)
 }
@@ -243,10 +248,11 @@ fn figures_from_input() -> Result<Vec<Figure>, String> {
     words::figures_of(&text).map_err(|fault| format!("standard input: {fault}"))
 }
 
-fn reply(file: &Path, set: Number) -> Result<String, String> {
+fn reply(file: &Path, round: u32, set: Number) -> Result<String, String> {
     let mut kept = Kept::open(file)?;
     let mut end = resumed(&kept.end);
-    let shares = end.reply(&kept.end.key, set.value).map_err(|refusal| reply_refused(refusal, &kept.end, &set, file))?.to_vec();
+    let shares = end.reply(&kept.end.key, set.value, round);
+    let shares = shares.map_err(|refusal| reply_refused(refusal, &kept.end, round, &set, file))?.to_vec();
     match kept.end.stage {
         Stage::Fresh | Stage::Answered { .. } => kept.held.sync()?,
         Stage::Sent { message } => {
@@ -265,10 +271,10 @@ fn resumed(end: &End) -> cutawheno::End {
         Stage::Sent { .. } => 1,
         Stage::Answered { set, .. } => 2 + set,
     };
-    cutawheno::End::resume([users, threshold, collusion, blocks, end.airfield, stage, end.usage as u32, 0])
+    cutawheno::End::resume([users, threshold, collusion, blocks, end.airfield, stage, end.usage as u32, end.round])
 }
 
-fn reply_refused(refusal: Refusal, end: &End, set: &Number, file: &Path) -> String {
+fn reply_refused(refusal: Refusal, end: &End, round: u32, set: &Number, file: &Path) -> String {
     let End { plan, airfield, .. } = end;
     let why = match (refusal, &end.stage) {
         (Refusal::SetUnusable, _) if set.value >> plan.users != 0 => {
@@ -278,6 +284,14 @@ fn reply_refused(refusal: Refusal, end: &End, set: &Number, file: &Path) -> Stri
             format!("set {set} is {}; wanted are at least {} of 1 to {}", members(set.value), plan.threshold, plan.users)
         }
         (Refusal::NotInSet, _) => format!("airfield {airfield} is not in set {set}, which is {}", members(set.value)),
+        (Refusal::OtherRound, stage) => {
+            let (file, own) = (shown(file), end.round);
+            let advice = match stage {
+                Stage::Answered { set, .. } => format!("of round {own} it has answered set {set}"),
+                _ => format!("wait for the notice of round {own}"),
+            };
+            format!("set {set} is announced for round {round}, and {file} is for round {own}, the only one that its key serves; {advice}")
+        }
         (Refusal::OtherSet, Stage::Answered { set: answered, .. }) => {
             format!("{} has answered set {answered}, and a key never answers two", shown(file))
         }
@@ -287,11 +301,12 @@ fn reply_refused(refusal: Refusal, end: &End, set: &Number, file: &Path) -> Stri
     refused(refusal, &why)
 }
 
-/// A message as records in words, place by place or block by block, led by a comment that tells which list its key comes from.
+/// A message as records in words, place by place or block by block, led by a comment that tells which list its key comes from, and for
+/// which round.
 fn records(end: &End, kind: &str, elements: &[u16]) -> String {
-    let End { list, airfield, .. } = end;
+    let End { list, airfield, round, .. } = end;
     let lines = elements.iter().enumerate().map(|(at, element)| format!("{kind} {airfield} {at} {element}\n"));
-    format!("# list {} airfield {airfield}\n", list.short()) + &lines.collect::<String>()
+    format!("# list {} airfield {airfield} round {round}\n", list.short()) + &lines.collect::<String>()
 }
 
 fn status(file: &Path) -> Result<String, String> {
@@ -311,21 +326,22 @@ fn status(file: &Path) -> Result<String, String> {
 }
 
 fn status_of_list(list: &List) -> String {
-    let List { identity, plan, ends, elements } = list;
+    let List { identity, plan, made, elements } = list;
+    let round = made.map(|made| format!(", for round {}", made.round)).unwrap_or_default();
     let figures = [Use::Counts, Use::Signed].map(|usage| in_words(plan, usage)).join(", or ");
     let plan = status_of_plan(plan, &figures);
-    format!("random list of {} elements\nlist {identity}\n{plan}ends made: {}\n", elements.len(), members(*ends))
+    format!("random list of {} elements\nlist {identity}\n{plan}ends made: {}{round}\n", elements.len(), members(list.ends()))
 }
 
 fn status_of_end(end: &End) -> String {
-    let End { list, plan, airfield, .. } = end;
+    let End { list, plan, airfield, round, .. } = end;
     let stage = match &end.stage {
         Stage::Fresh => "fresh: no first message has been sent".to_string(),
         Stage::Sent { .. } => "sent: the first message has been given, and no set is answered".to_string(),
         Stage::Answered { set, .. } => format!("answered: set {set}, {}", members(*set)),
     };
     let plan = status_of_plan(plan, &in_words(plan, end.usage));
-    format!("end of airfield {airfield}\nlist {list}\n{plan}stage {stage}\n")
+    format!("end of airfield {airfield}, for round {round}\nlist {list}\n{plan}stage {stage}\n")
 }
 
 fn status_of_plan(plan: &Plan, figures: &str) -> String {

@@ -17,14 +17,14 @@ pub const HELP: &str = "\
 airfield: the key office and an airfield's end, over the proved library
 
   airfield list K U T M LIST      draws a random list from the system's source into the new file LIST
-  airfield key LIST AIRFIELD END [counts|signed]
-                                  makes the airfield's key, and a fresh end that keeps it in the new file END; LIST counts it,
-                                  and makes no second end for that airfield; the last word tells what its figures are, counts
-                                  where none is given
+  airfield key LIST AIRFIELD ROUND END [counts|signed]
+                                  makes the airfield's key for that round, and a fresh end that keeps it in the new file END;
+                                  LIST counts it, and makes no second end for that airfield, and none for another round; the
+                                  last word tells what its figures are, counts where none is given
   airfield first END [FIGURE..]   prints the first message as records in words; without figures they are read from
                                   standard input, with white space between, so that they show in no list of processes
   airfield again END              prints the first message that END has sent once more, the same bytes, without the figures
-  airfield reply END SET          prints the reply to the announced set as records in words
+  airfield reply END ROUND SET    prints the reply to the set announced for the round, as records in words
   airfield status FILE            tells what an end or a list is, and shows nothing secret
   airfield destroy FILE..         overwrites and removes lists and ends
   airfield --help, --version
@@ -32,8 +32,9 @@ airfield: the key office and an airfield's end, over the proved library
 K airfields (3 to 8), U of them must answer at least (above T, below K), T may collude at most (from 1), M blocks (1 to 16).
 A row has M x (U - T) figures. Counts are whole numbers from 0 to 65520 / K, rounded down. Signed figures are whole numbers within
 32760 / K of zero, rounded down, and may have a minus, as -14. `airfield status` tells how many, which, and how far they may go.
-Bit k - 1 of a set's number stands for airfield k.
-An end sends one first message and answers one set. The same figures, or the same set, asked again give the same bytes.
+Bit k - 1 of a set's number stands for airfield k. A round is a number from 0 to 4294967295: the one that the service will open.
+An end sends one first message and answers one set, announced for its own round, as the line survivors ROUND SET of `pool` has both.
+The same figures, or the same set, asked again give the same bytes.
 `records encode` makes bytes of the records in words; `totals signed` reads the totals of signed figures.
 
 Exit status: 0 done; 1 refused or failed, told on standard error, and a refusal changes nothing; 2 command line not understood.
@@ -43,10 +44,10 @@ pub enum Command {
     Help,
     Version,
     List { plan: [Number; 4], list: PathBuf },
-    Key { list: PathBuf, airfield: Number, end: PathBuf, usage: Use },
+    Key { list: PathBuf, airfield: Number, round: u32, end: PathBuf, usage: Use },
     First { end: PathBuf, figures: Figures },
     Again { end: PathBuf },
-    Reply { end: PathBuf, set: Number },
+    Reply { end: PathBuf, round: u32, set: Number },
     Status { file: PathBuf },
     Destroy { files: Vec<PathBuf> },
 }
@@ -56,8 +57,8 @@ pub enum Figures {
     FromInput,
 }
 
-/// A number, and the word that gave it, which messages show. A number too large for 32 bits is too large for every use: the largest
-/// stands for it, and is refused as it would be; and so on the other side of zero.
+/// A number, and the word that gave it, which messages show. A number too large for 32 bits is too large for every use of it: the largest
+/// stands for it, and is refused as it would be; and so on the other side of zero. A round is none of these.
 pub struct Number<T = u32> {
     pub value: T,
     word: String,
@@ -88,11 +89,12 @@ pub fn read(words: &[OsString]) -> Result<Command, String> {
             Ok(Command::List { plan, list: list.into() })
         }
         (Some("list"), _) => wanted("K U T M LIST"),
-        (Some("key"), [list, airfield, end, usage @ ..]) if usage.len() <= 1 => {
+        (Some("key"), [list, airfield, given, end, usage @ ..]) if usage.len() <= 1 => {
+            let (airfield, round) = (number("AIRFIELD", airfield)?, round(given)?);
             let usage = usage.first().map_or(Ok(Use::Counts), named_use)?;
-            Ok(Command::Key { list: list.into(), airfield: number("AIRFIELD", airfield)?, end: end.into(), usage })
+            Ok(Command::Key { list: list.into(), airfield, round, end: end.into(), usage })
         }
-        (Some("key"), _) => wanted("LIST AIRFIELD END [counts|signed]"),
+        (Some("key"), _) => wanted("LIST AIRFIELD ROUND END [counts|signed]"),
         (Some("first"), [end]) => Ok(Command::First { end: end.into(), figures: Figures::FromInput }),
         (Some("first"), [end, figures @ ..]) => {
             let figures = figures.iter().enumerate().map(|(at, word)| figure(at, word)).collect::<Result<_, _>>()?;
@@ -101,8 +103,8 @@ pub fn read(words: &[OsString]) -> Result<Command, String> {
         (Some("first"), _) => wanted("END [FIGURE..]"),
         (Some("again"), [end]) => Ok(Command::Again { end: end.into() }),
         (Some("again"), _) => wanted("END"),
-        (Some("reply"), [end, set]) => Ok(Command::Reply { end: end.into(), set: number("SET", set)? }),
-        (Some("reply"), _) => wanted("END SET"),
+        (Some("reply"), [end, given, set]) => Ok(Command::Reply { end: end.into(), round: round(given)?, set: number("SET", set)? }),
+        (Some("reply"), _) => wanted("END ROUND SET"),
         (Some("status"), [file]) => Ok(Command::Status { file: file.into() }),
         (Some("status"), _) => wanted("FILE"),
         (Some("destroy"), [_, ..]) => Ok(Command::Destroy { files: words.iter().map(PathBuf::from).collect() }),
@@ -135,6 +137,12 @@ fn number(what: &str, word: &OsStr) -> Result<Number, String> {
     let digits = word.to_str().filter(|word| is_decimal(word));
     let digits = digits.ok_or_else(|| format!("{what}: a whole number from 0 on is wanted, and {} is found", shown(word)))?;
     Ok(Number { value: digits.parse().unwrap_or(u32::MAX), word: shown(digits) })
+}
+
+/// Every number of 32 bits is a round, so that none can stand for those that are larger.
+fn round(word: &OsStr) -> Result<u32, String> {
+    let round = word.to_str().filter(|word| is_decimal(word)).and_then(|digits| digits.parse().ok());
+    round.ok_or_else(|| format!("ROUND: a whole number from 0 to {} is wanted, and {} is found", u32::MAX, shown(word)))
 }
 
 fn is_decimal(text: &str) -> bool {

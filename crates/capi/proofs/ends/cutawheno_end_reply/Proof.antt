@@ -22,7 +22,7 @@ answers : (c : tie.Else1) → let e = c .before .before in
     let d = e .end-at .result in
     let a = e .before .before .before .args in
     Answers sixteen (plan-of (d .plan)) (d .user) (now (a .key)) (a .set)
-answers c = reply-answers _ (sym (c .before .reply-refusal .ensures) ∙ c .if1 .left)
+answers c = reply-answers _ _ _ (sym (c .before .reply-refusal .ensures) ∙ c .if1 .left)
 
 end-at-requires : tie.Need-end-at-requires
 end-at-requires c κs = search needs

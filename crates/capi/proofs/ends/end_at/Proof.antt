@@ -34,10 +34,13 @@ element-copy-out-t20 c = search needs
 element-copy-out-t7-2 : tie.Need-element-copy-out-t7-2
 element-copy-out-t7-2 c = search needs
 
+element-copy-out-t20-2 : tie.Need-element-copy-out-t20-2
+element-copy-out-t20-2 c = search needs
+
 returns : tie.Need-returns
 unfolding end-at
 returns c =
-    let x = c .before .before .before .before .before in
+    let x = c .before .before .before .before .before .before in
     let g = x .before .before .stage-of-number in
     rw (sym (stage-back (g .result)) ∙ ap code-stage (g .ensures), x .use-of-number .ensures)
 
@@ -54,4 +57,5 @@ end-at-spec =
     element-copy-out-t17
     element-copy-out-t20
     element-copy-out-t7-2
+    element-copy-out-t20-2
     returns)

@@ -18,11 +18,11 @@ use Rattle.client.proofs.Client.part.Statement.{statement}
 use Rattle.client.proofs.Client.part.Tie as tie
 
 -- the reply is taken
-taken : (c : tie.Else1) → let a = c .before .before .args in answer-refusal sixteen (a .self) (now (a .key)) (a .set) ≡ 0
+taken : (c : tie.Else1) → let a = c .before .before .args in answer-refusal sixteen (a .self) (now (a .key)) (a .set) (a .round) ≡ 0
 taken c = sym (c .before .before .pre) ∙ c .if1 .left
 
 answers : (c : tie.Else1) → let a = c .before .before .args in Answers sixteen (plan-of (a .self .plan)) (a .self .user) (now (a .key)) (a .set)
-answers c = reply-answers _ (taken c)
+answers c = reply-answers _ _ _ (taken c)
 
 sub-result : tie.Need-sub-result
 sub-result c = search needs
@@ -37,7 +37,7 @@ returns : tie.Need-returns
 unfolding part-of part-start
 returns c =
     let s = c .before .before .before in
-    let h : answer-refusal sixteen (s .args .self) (now (s .args .key)) (s .args .set) ≡ 0 → ⊥ = λ z. c .before .if1 .taken (s .pre ∙ z) in
+    let h : answer-refusal sixteen (s .args .self) (now (s .args .key)) (s .args .set) (s .args .round) ≡ 0 → ⊥ = λ z. c .before .if1 .taken (s .pre ∙ z) in
     (sym (after-refused h _ _), simp (after-refused {A = ℕ} h) (ap (λ (i : ℕ). (s .args .key .ptr .0, i)) (omega arith)))
 
 reply-start-requires : tie.Need-reply-start-requires
