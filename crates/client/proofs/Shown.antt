@@ -22,7 +22,8 @@ use Rattle.scheme.specs.Scheme.{Arithmetic, sixteen, elements, plan-good, place
 use Rattle.scheme.specs.Laws.{Laws}
 use Rattle.scheme.specs.Promise.{Table, everyone, rows-good, admissible, list-good, Shown, shown, Alike, Matching, Matching-under, Nothing-told}
 use Rattle.scheme.proofs.Good.{good}
-use Rattle.scheme.proofs.Lists.{map-same, map-at, span-in, in-span, members-in, in-members}
+use Rattle.scheme.proofs.Lists.{map-same, map-back, span-in, in-span}
+use Rattle.scheme.proofs.Sets.{user-in, in-users}
 use Rattle.scheme.proofs.Keys.{key-is-long, key-elements, list-long, list-elements}
 use Rattle.scheme.proofs.Sums.{zero-small}
 use Rattle.scheme.proofs.Elements.{figures-elements}
@@ -226,20 +227,20 @@ module _ (A : Arithmetic) {n m : ℕ} (L : Laws A n m) (p : Plan) (u : (k : ℕ)
   module _ (xs ys : List ℕ) (x y : Table) (same : shown A (plan-of p) v c xs x ≡ shown A (plan-of p) v c ys y) (k : ℕ) (lo : 1 ≤ k) (hi : k ≤ p .users) where
     first-same : first-of xs x k ≡ first-of ys y k
     unfolding shown
-    first-same = map-at (first-of xs x) (first-of ys y) (span (p .users) 1) (ap (λ (s : Shown). s .firsts) same) k (in-span (p .users) 1 k lo (omega arith))
+    first-same = map-back (first-of xs x) (first-of ys y) (span (p .users) 1) (ap (λ (s : Shown). s .firsts) same) k (in-span (p .users) 1 k lo (omega arith))
 
     share-same : (b : Bool) → in-set v k ≡ b → cond b (reply-of xs k) [] ≡ cond b (reply-of ys k) []
-    unfolding shown users-in
+    unfolding shown
     share-same false e = refl
     share-same true e =
-        map-at (reply-of xs) (reply-of ys) (users-in (plan-of p) v) (ap (λ (s : Shown). s .replies) same) k
-        (in-members (in-set v) (p .users) 1 k lo (omega arith) e)
+        map-back (reply-of xs) (reply-of ys) (users-in (plan-of p) v) (ap (λ (s : Shown). s .replies) same) k
+        (in-users (plan-of p) v k lo hi e)
 
     key-same : in-set c k ≡ true → key A (plan-of p) xs k ≡ key A (plan-of p) ys k
-    unfolding shown users-in
+    unfolding shown
     key-same e =
-        map-at (key A (plan-of p) xs) (key A (plan-of p) ys) (users-in (plan-of p) c) (ap (λ (s : Shown). s .keys) same) k
-        (in-members (in-set c) (p .users) 1 k lo (omega arith) e)
+        map-back (key A (plan-of p) xs) (key A (plan-of p) ys) (users-in (plan-of p) c) (ap (λ (s : Shown). s .keys) same) k
+        (in-users (plan-of p) c k lo hi e)
 
     -- a colluder's end has the same key and the same figures, so it hands out the same whatever comes
     handed-same : (ko : List ℕ) (es : List Call) → Inputs-right A p (u k) xs k (x k) ko → Inputs-right A p (u k) ys k (y k) ko
@@ -261,7 +262,7 @@ module _ (A : Arithmetic) {n m : ℕ} (L : Laws A n m) (p : Plan) (u : (k : ℕ)
 
   seen-same : (xs ys : List ℕ) (x y : Table) → list-good A (plan-of p) xs ≡ true → list-good A (plan-of p) ys ≡ true → Good-rows x → Good-rows y
       → Alike A (plan-of p) v c x y → shown A (plan-of p) v c xs x ≡ shown A (plan-of p) v c ys y → Same-seen A p u own v c x y xs ys
-  unfolding Same-seen seen shown users-in
+  unfolding Same-seen seen shown
   seen-same xs ys x y ok-x ok-y rows-x rows-y alike same ko es room one =
       let of-x = inputs xs x ko ok-x rows-x room in
       let of-y = inputs ys y ko ok-y rows-y room in
@@ -272,10 +273,10 @@ module _ (A : Arithmetic) {n m : ℕ} (L : Laws A n m) (p : Plan) (u : (k : ℕ)
             handed-same xs ys x y same k (l .0) hi (ko k) (es k) (of-x k (l .0) hi) (of-y k (l .0) hi) (alike .own k (l .0) hi) (one k (l .0) hi)
             (in-set c k) refl) i;
         keys = (map-same _ (key A (plan-of p) xs) (users-in (plan-of p) c) (λ k m.
-            let l = members-in (in-set c) (p .users) 1 k m in key-given xs (x k) (ko k) k (es k) (of-x k (l .0) (omega arith)))
+            let l = user-in (plan-of p) c k m in key-given xs (x k) (ko k) k (es k) (of-x k (l .0) (l .1)))
             ∙ ap (λ (s : Shown). s .keys) same
             ∙ map-same (key A (plan-of p) ys) _ (users-in (plan-of p) c) (λ k m.
-            let l = members-in (in-set c) (p .users) 1 k m in sym (key-given ys (y k) (ko k) k (es k) (of-y k (l .0) (omega arith))))) i;
+            let l = user-in (plan-of p) c k m in sym (key-given ys (y k) (ko k) k (es k) (of-y k (l .0) (l .1))))) i;
       }
 
   pub seen-matched : (x y : Table) → Good-rows x → Good-rows y → Alike A (plan-of p) v c x y

@@ -4,6 +4,7 @@
 --   no-message, same-set              an end that has sent takes no first message, one that has answered no other set
 --   sent-once, one-message            behind a first message no other is taken, and of a list at most one
 --   answered-only, Only, one-set      behind a reply only its set is answered, and by a list only one
+--   round-kept, one-round             no call changes an array's round, and a list is answered for that round only
 --   ends-right                        with other-round, the statements of specs/Ends.antt
 -- Assumes nothing.
 use mathlib.Core.Path.{_≡_, refl, sym, ap, _∙_, subst}

@@ -1,7 +1,7 @@
 -- Laws of span, members, rank, rows and all-of.
 --   span-append, span-in, in-span, span-once, span-length       the n numbers from k on
 --   span-start, span-more, span-end                             those from i on, of n: all, one and the others, none
---   map-same, map-at, map-span-length, map-span-at              maps over them
+--   map-same, map-back, map-span-length, map-span-at            maps over them
 --   map-below-same, map-below-at                                and over those below n
 --   members-append, members-in, in-members, members-once, members-fewer, members-le     those that pass a test
 --   rank-start, rank-more, rank-at, rank-lt                      how many below v pass
@@ -65,19 +65,11 @@ pub map-same : {A : Type 0} (f g : ℕ → A) (l : List ℕ) → ((k : ℕ) → 
 map-same f g [] h = refl
 map-same f g (k ∷ l) h = ap₂ _∷_ (h k (inl refl)) (map-same f g l (λ i m. h i (inr m)))
 
-first-or : {A : Type 0} → A → List A → A
-first-or d [] = d
-first-or d (a ∷ l) = a
-
-all-but-first : {A : Type 0} → List A → List A
-all-but-first [] = []
-all-but-first (a ∷ l) = l
-
-pub map-at : {A : Type 0} (f g : ℕ → A) (l : List ℕ) → map f l ≡ map g l → (k : ℕ) → In k l → f k ≡ g k
-unfolding first-or all-but-first
-map-at f g [] e k m = absurd m
-map-at f g (i ∷ l) e k (inl h) = ap f h ∙ ap (first-or (f i)) e ∙ ap g (sym h)
-map-at f g (i ∷ l) e k (inr m) = map-at f g l (ap all-but-first e) k m
+-- equal maps of a list are equal at each of its numbers
+pub map-back : {A : Type 0} (f g : ℕ → A) (l : List ℕ) → map f l ≡ map g l → (k : ℕ) → In k l → f k ≡ g k
+map-back f g [] e k m = absurd m
+map-back f g (i ∷ l) e k (inl d) = cc
+map-back f g (i ∷ l) e k (inr m) = map-back f g l (cc) k m
 
 pub map-below-same : {A : Type 0} (f g : ℕ → A) (n : ℕ) → ((i : ℕ) → i < n → f i ≡ g i) → map f (span n 0) ≡ map g (span n 0)
 map-below-same f g n h = map-same f g (span n 0) (λ i m. h i (omega (arith, span-in n 0 i m)))

@@ -1,5 +1,5 @@
 -- Sets of users, and where the masks and the noise stand in the random list.
---   users-in-in, user-in            the users of a set
+--   users-in-in, user-in, in-users  the users of a set
 --   count-ones, users-in-size       as many as the set number has ones
 --   usable-below, usable-size       what makes a set usable
 --   colluders-few, colluders-in-in  the colluders in a set
@@ -20,7 +20,7 @@ use Rattle.scheme.specs.Lists.{keep, members, rank}
 use Rattle.scheme.specs.Scheme.{Plan, items, places, in-set, ones, usable, users-in, usable-sets, list-length, noise-start}
 use Rattle.scheme.specs.Delta.{colluders-in}
 use Rattle.scheme.proofs.Tests.{and-both}
-use Rattle.scheme.proofs.Lists.{members-in, members-fewer, rank-lt, digits-lt}
+use Rattle.scheme.proofs.Lists.{members-in, in-members, members-fewer, rank-lt, digits-lt}
 
 pub users-in-in : (p : Plan) (v k : ℕ) → In k (users-in p v) → (1 ≤ k) × (k ≤ p .users) × (in-set v k ≡ true)
 unfolding users-in
@@ -28,6 +28,10 @@ users-in-in p v k h = let s = members-in (in-set v) (p .users) 1 k h in (s .0, o
 
 pub user-in : (p : Plan) (v k : ℕ) → In k (users-in p v) → (1 ≤ k) × (k ≤ p .users)
 user-in p v k h = let s = users-in-in p v k h in (s .0, s .1)
+
+pub in-users : (p : Plan) (v k : ℕ) → 1 ≤ k → k ≤ p .users → in-set v k ≡ true → In k (users-in p v)
+unfolding users-in
+in-users p v k lo hi e = in-members (in-set v) (p .users) 1 k lo (omega arith) e
 
 -- one bit
 bit : (b k : ℕ) (l : List ℕ) → b < 2 → length (keep (eqb b 1) k l) ≡ b + length l

@@ -25,11 +25,11 @@ use Rattle.scheme.specs.Laws.{Laws}
 use Rattle.scheme.specs.Sharp.{Own-needed, Collusion-needed}
 use Rattle.scheme.proofs.Lists.{map-same, map-span-length, map-below-at, members-once}
 use Rattle.scheme.proofs.Sums.{el-same, sum-same, sum-el}
-use Rattle.scheme.proofs.Sets.{users-in-in, place-lt}
+use Rattle.scheme.proofs.Sets.{users-in-in, in-users, place-lt}
 use Rattle.scheme.proofs.Elements.{within-map}
 use Rattle.scheme.proofs.Good.{good}
 use Rattle.scheme.proofs.Modular.{sixteen-laws}
-use Rattle.scheme.proofs.Privacy.Sharp.{in-users, zeros, zeros-good}
+use Rattle.scheme.proofs.Privacy.Sharp.{zeros, zeros-good}
 use Rattle.scheme.proofs.Privacy.FirstUsers.{first, first-in, first-out, first-size, first-below, first-usable}
 use Rattle.scheme.proofs.Privacy.Settled.{own-same, last-total}
 

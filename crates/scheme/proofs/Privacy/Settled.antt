@@ -22,12 +22,11 @@ use Rattle.scheme.specs.Lists.{span}
 use Rattle.scheme.specs.Scheme.{Arithmetic, sum, Plan, items, places, in-set, ones, usable, users-in, mask, noise, column, share, shares, key, first-message, reply, total-at}
 use Rattle.scheme.specs.Promise.{Table, Shown, rows-good, element-rows, shown}
 use Rattle.scheme.specs.Laws.{Laws}
-use Rattle.scheme.proofs.Lists.{span-append, span-in, in-span, map-below-at, members-once}
+use Rattle.scheme.proofs.Lists.{span-append, span-in, in-span, map-back, map-below-at, members-once}
 use Rattle.scheme.proofs.Sums.{el-same, zero-small, sum-el, sum-small, row-value-el}
 use Rattle.scheme.proofs.Sets.{users-in-in, user-in, users-in-size, place-lt}
 use Rattle.scheme.proofs.Keys.{each-at, key-mask, key-reply, elements-at}
 use Rattle.scheme.proofs.Laws.{system-of}
-use Rattle.scheme.proofs.Privacy.Sharp.{map-back}
 
 module _ (A : Arithmetic) (p : Plan) (L : Laws A (p .users) (p .threshold)) (v c : ℕ) (x y : Table) (xs ys : List ℕ)
     (same : shown A p v c xs x ≡ shown A p v c ys y) where

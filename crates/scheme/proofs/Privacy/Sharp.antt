@@ -1,42 +1,29 @@
 -- The premises of demand 3 are sharp: what is shown settles the survivors' total.
---   map-back                equal maps of a list are equal at each of its numbers
---   in-users                a user that a set holds is one of its users
 --   zeros, zeros-good       the random list of zeros
 --   totals-told             lists that show the same belong to tables with the same survivors' total
 --   totals-needed           another total over the survivors: no matching
 --   totals-needed-sixteen   modulo 65521, for every good plan
 -- Assumes nothing.
 use mathlib.Core.Path.{_≡_, refl, sym, ap, _∙_}
-use mathlib.Core.Logic.{inl, inr}
 use mathlib.Core.Bool.{true}
-use mathlib.Core.List.{List, [], _∷_, map}
-use Prim.Native.Nat.{ℕ, _≤_, _<_}
+use mathlib.Core.List.{List, map}
+use Prim.Native.Nat.{ℕ, _<_}
 use native.Mathlib.Omega.{arith}
 use lib.ListN.{getD}
 use borrow.Author.Tests.{eq-eqb}
-use Rattle.algebra.specs.Sums.{In}
 use Rattle.scheme.specs.Lists.{span}
-use Rattle.scheme.specs.Scheme.{Arithmetic, sixteen, Plan, plan-good, places, in-set, usable, users-in, list-length, key, first-message, reply, total-at}
+use Rattle.scheme.specs.Scheme.{Arithmetic, sixteen, Plan, plan-good, places, usable, users-in, list-length, key, first-message, reply, total-at}
 use Rattle.scheme.specs.Promise.{Table, Shown, list-good, shown}
 use Rattle.scheme.specs.Totals.{Follows, Residues-right, Choice, Rules-explain}
 use Rattle.scheme.specs.Laws.{Laws}
 use Rattle.scheme.specs.Sharp.{Totals-needed}
 use Rattle.scheme.proofs.Tests.{and-joined}
-use Rattle.scheme.proofs.Lists.{in-span, map-span-length, map-below-at, in-members}
+use Rattle.scheme.proofs.Lists.{in-span, map-back, map-span-length, map-below-at}
 use Rattle.scheme.proofs.Sums.{zero-small}
-use Rattle.scheme.proofs.Sets.{usable-size}
+use Rattle.scheme.proofs.Sets.{in-users, usable-size}
 use Rattle.scheme.proofs.Keys.{elements-map}
 use Rattle.scheme.proofs.Modular.{sixteen-laws}
 use Rattle.scheme.proofs.Pooling.Totals.{rules-explain, residues-right}
-
-pub map-back : {B : Type 0} (f g : ℕ → B) (l : List ℕ) → map f l ≡ map g l → (k : ℕ) → In k l → f k ≡ g k
-map-back f g [] e k m = absurd m
-map-back f g (i ∷ l) e k (inl d) = cc
-map-back f g (i ∷ l) e k (inr m) = map-back f g l (cc) k m
-
-pub in-users : (p : Plan) (v k : ℕ) → 1 ≤ k → k ≤ p .users → in-set v k ≡ true → In k (users-in p v)
-unfolding users-in
-in-users p v k lo hi e = in-members (in-set v) (p .users) 1 k lo (omega arith) e
 
 pub zeros : Plan → List ℕ
 zeros p = map (λ i. 0) (span (list-length p) 0)
