@@ -53,6 +53,38 @@ fn reduced(n: u64) -> u16 {
     (n % Q as u64) as u16
 }
 
+/// The sum of two elements, in 16 bits: 65536 is 15 more than Q.
+fn add(a: u16, b: u16) -> u16 {
+    a.wrapping_add(b).wrapping_add(if Q as u16 - b <= a { 15 } else { 0 })
+}
+
+fn subtract(a: u16, b: u16) -> u16 {
+    a.wrapping_sub(b).wrapping_sub(if a < b { 15 } else { 0 })
+}
+
+/// A factor a, made ready: `by` is 65536 a, and Q times `key` is `by` modulo 65536.
+#[derive(Clone, Copy)]
+struct Scale {
+    by: u16,
+    key: u16,
+}
+
+impl Scale {
+    fn of(a: u16) -> Scale {
+        let by = (a as u32 * 15 % Q) as u16;
+        Scale { by, key: by.wrapping_mul(4369) }
+    }
+}
+
+fn high(a: u16, b: u16) -> u16 {
+    (a as u32 * b as u32 >> 16) as u16
+}
+
+/// The sum plus x times a factor, by Montgomery's reduction.
+fn add_scaled(sum: u16, x: u16, scale: Scale) -> u16 {
+    subtract(add(sum, high(x, scale.by)), high(x.wrapping_mul(scale.key), Q as u16))
+}
+
 /// Without an early end, so that it goes by vectors, as differences that stop at 0 do.
 fn all_within(list: &[u16], most: u16) -> bool {
     list.iter().fold(0, |past, &x| past | x.saturating_sub(most)) == 0
@@ -255,8 +287,8 @@ fn write_by<const ITEMS: usize>(plan: Plan, user: u32, masks: &[u16], noise: &[u
     }
 }
 
-/// The masks of each user times the first columns, reduced, once a key; then all set numbers in rising order: a usable one has its
-/// noise, and where it holds the user its shares.
+/// The masks of each user times the first columns, once a key, and their sums over the sets of the low and of the high users; then all
+/// set numbers in rising order: a usable one has its noise, and where it holds the user its shares.
 fn write_sets<const ITEMS: usize, const COLLUSION: usize>(
     plan: Plan,
     user: u32,
@@ -265,48 +297,65 @@ fn write_sets<const ITEMS: usize, const COLLUSION: usize>(
     mut shares: &mut [u16],
 ) {
     let blocks = plan.blocks as usize;
-    let low: [u64; ITEMS] = array::from_fn(|j| INVERSES[user as usize + 1 + j & 15] as u64);
-    let high: [u64; COLLUSION] = array::from_fn(|j| INVERSES[user as usize + 1 + ITEMS + j & 15] as u64);
-    let mut products = [[0u32; MOST_BLOCKS]; MOST_USERS];
+    let low: [u16; ITEMS] = array::from_fn(|j| INVERSES[user as usize + 1 + j & 15]);
+    let high: [u16; COLLUSION] = array::from_fn(|j| INVERSES[user as usize + 1 + ITEMS + j & 15]);
+    let mut products = NO_REPLY;
     for (row, masks) in products.iter_mut().zip(masks.chunks_exact(blocks * ITEMS)) {
-        for (product, masks) in row.iter_mut().zip(masks.as_chunks::<ITEMS>().0) {
-            *product = reduced(low.iter().zip(masks).map(|(c, &x)| c * x as u64).sum()) as u32;
-        }
+        put_blocks(&[0; MOST_BLOCKS], &low, masks, &mut row[..blocks]);
     }
-    for set in 0..1u32 << plan.users {
-        if set.count_ones() < plan.threshold {
+    let (low_rows, high_rows) = products[..plan.users as usize].split_at(HALF.min(plan.users as usize));
+    let (low_sums, high_sums) = (sums_over(low_rows), sums_over(high_rows));
+    for set in 0..1usize << plan.users {
+        let [x, y] = [set % SETS, set / SETS & SETS - 1];
+        if ONES[x] + ONES[y] < plan.threshold {
             continue;
         }
         let (here, rest) = noise.split_at(blocks * COLLUSION);
         noise = rest;
-        if holds(set, user) {
+        if holds(set as u32, user) {
             let (part, rest) = shares.split_at_mut(blocks);
             shares = rest;
-            write_shares::<COLLUSION>(set, &products, &high, here, part);
+            put_blocks(&sum_rows(&low_sums[x], &high_sums[y]), &high, here, part);
         }
     }
 }
 
-/// The products of the set's users, row upon row, then a share for each block, reduced once.
-fn write_shares<const COLLUSION: usize>(
-    set: u32,
-    products: &[[u32; MOST_BLOCKS]; MOST_USERS],
-    high: &[u64; COLLUSION],
-    noise: &[u16],
-    out: &mut [u16],
-) {
-    let mut sums = [0u32; MOST_BLOCKS];
-    for (k, row) in products.iter().enumerate() {
-        if set >> k & 1 == 1 {
-            for (sum, &x) in sums.iter_mut().zip(row) {
-                *sum += x;
-            }
+/// The low users, and how many sets they have; how many users a set of them has.
+const HALF: usize = 4;
+const SETS: usize = 1 << HALF;
+const ONES: [u32; SETS] = [0, 1, 1, 2, 1, 2, 2, 3, 1, 2, 2, 3, 2, 3, 3, 4];
+
+fn sum_rows(a: &Blocks, b: &Blocks) -> Blocks {
+    array::from_fn(|i| add(a[i], b[i]))
+}
+
+/// The sums of the rows over each set: those with a row more follow those without it.
+fn sums_over(rows: &[Blocks]) -> [Blocks; SETS] {
+    let mut sums = [[0; MOST_BLOCKS]; SETS];
+    for (i, row) in rows.iter().enumerate() {
+        let (without, with) = sums.split_at_mut(1 << i);
+        for (with, without) in with.iter_mut().zip(without) {
+            *with = sum_rows(without, row);
         }
     }
-    for ((share, &sum), noise) in out.iter_mut().zip(&sums).zip(noise.as_chunks::<COLLUSION>().0) {
-        let of_noise: u64 = high.iter().zip(noise).map(|(c, &x)| c * x as u64).sum();
-        *share = reduced(sum as u64 + of_noise);
+    sums
+}
+
+/// Block by block a sum plus N numbers times factors. One factor and all blocks go by lanes.
+fn put_blocks<const N: usize>(sums: &Blocks, factors: &[u16; N], numbers: &[u16], out: &mut [u16]) {
+    if N == 1 {
+        if let (Some(numbers), Some(out)) = (numbers.first_chunk(), out.first_chunk_mut()) {
+            return put_row(sums, Scale::of(factors[0]), numbers, out);
+        }
     }
+    for ((out, &sum), numbers) in out.iter_mut().zip(sums).zip(numbers.as_chunks::<N>().0) {
+        let weighed: u64 = factors.iter().zip(numbers).map(|(&c, &x)| c as u64 * x as u64).sum();
+        *out = reduced(sum as u64 + weighed);
+    }
+}
+
+fn put_row(sums: &Blocks, scale: Scale, numbers: &Blocks, out: &mut Blocks) {
+    *out = array::from_fn(|b| add_scaled(sums[b], numbers[b], scale));
 }
 
 #[derive(Clone, Copy)]
@@ -422,6 +471,11 @@ fn hold(held: &mut u16, element: u32) -> u32 {
     }
 }
 
+/// The number that two bytes hold, the low one first.
+pub fn two_bytes(low: u8, high: u8) -> u32 {
+    u16::from_le_bytes([low, high]).into()
+}
+
 /// The users whose first `each` elements are held.
 fn complete_set<const N: usize>(held: &[[u16; N]], each: usize) -> u32 {
     held.iter().enumerate().filter(|(_, row)| row[..each].iter().all(|&x| x != 0)).map(|(k, _)| 1 << k).sum()
@@ -487,6 +541,29 @@ impl Service {
         hold(&mut self.first[user as usize - 1][place as usize], element)
     }
 
+    /// Takes first elements as long as they are taken quietly, and answers how many bytes they are.
+    pub fn run_first(&mut self, bytes: &[u8]) -> usize {
+        let (users, places) = (self.plan.users, self.places as usize);
+        let (mut row, mut from): (&mut [u16], _) = (&mut [], 0);
+        let mut records = 0;
+        for &[kind, user, a, b, c, d] in bytes.as_chunks().0 {
+            let tag = two_bytes(kind, user);
+            if tag != from {
+                if kind != 3 || user == 0 || users < user as u32 {
+                    break;
+                }
+                (row, from) = (&mut self.first[user as usize - 1 & 7][..places], tag);
+            }
+            let element = two_bytes(c, d);
+            let Some(held) = row.get_mut(two_bytes(a, b) as usize) else { break };
+            if Q <= element || hold(held, element) != 0 {
+                break;
+            }
+            records += 1;
+        }
+        6 * records
+    }
+
     pub fn close(&mut self) -> u32 {
         let number = self.not_in(Phase::Gathering);
         if number != 0 {
@@ -522,6 +599,29 @@ impl Service {
         hold(&mut self.reply[user as usize - 1][block as usize], element)
     }
 
+    /// Takes replies as long as they are taken quietly, and answers how many bytes they are.
+    pub fn run_reply(&mut self, bytes: &[u8]) -> usize {
+        let (users, blocks) = (self.plan.users, self.plan.blocks as usize);
+        let (mut row, mut from): (&mut [u16], _) = (&mut [], 0);
+        let mut records = 0;
+        for &[kind, user, block, c, d] in bytes.as_chunks().0 {
+            let tag = two_bytes(kind, user);
+            if tag != from {
+                if kind != 5 || user == 0 || users < user as u32 || !holds(self.survivors, user as u32) {
+                    break;
+                }
+                (row, from) = (&mut self.reply[user as usize - 1 & 7][..blocks], tag);
+            }
+            let element = two_bytes(c, d);
+            let Some(held) = row.get_mut(block as usize) else { break };
+            if Q <= element || hold(held, element) != 0 {
+                break;
+            }
+            records += 1;
+        }
+        5 * records
+    }
+
     /// The totals go to the first L places. The user set aside, 0 where all replies agree; or the refusal's number.
     pub fn finish(&mut self, totals: &mut [u16; MOST_PLACES]) -> Result<u32, u32> {
         let number = self.not_in(Phase::Replying);
@@ -533,7 +633,8 @@ impl Service {
             return Err(15);
         }
         let mut unknowns = NO_REPLY;
-        let Some(aside) = explain(self.plan.threshold as usize, set, &self.reply, &mut unknowns) else {
+        let (size, wanted) = (self.plan.threshold as usize, self.plan.items());
+        let Some(aside) = explain(size, wanted, set, &self.reply, &mut unknowns) else {
             return Err(16);
         };
         *totals = self.totals(&unknowns);
@@ -571,40 +672,47 @@ impl Service {
 /// An element for each block: the systems of all blocks are solved side by side.
 type Blocks = [u16; MOST_BLOCKS];
 
-/// The product over all points of (own + other) / (own - own'), for each own point.
-fn weights(own: &[u8], other: &[u8]) -> [u32; MOST_USERS] {
+/// The product over all points of (own + other) / (own - own'), for each own point: two factors at a time.
+fn weights(own: &[u8], other: &[u8]) -> [u16; MOST_USERS] {
     let mut out = [0; MOST_USERS];
     for (weight, &x) in out.iter_mut().zip(own) {
-        *weight = own.iter().zip(other).fold(1, |w, (&near, &far)| {
-            (w as u64 * ((x + far) as u64 * GAPS[(7 + x - near) as usize & 15] as u64) % Q as u64) as u32
-        });
+        let factor = |i: usize| (x + other[i]) as u64 * GAPS[(7 + x - own[i]) as usize & 15] as u64;
+        let mut product = 1;
+        let mut i = 0;
+        while i + 1 < own.len().min(other.len()) {
+            product = product * factor(i) * factor(i + 1) % Q as u64;
+            i += 2;
+        }
+        if i < own.len() {
+            product = product * factor(i) % Q as u64;
+        }
+        *weight = product as u16;
     }
     out
 }
 
-/// Block by block Σ values[i] / (x + points[i]), reduced once.
+/// Block by block Σ values[i] / (x + points[i]).
 fn dots(x: u8, points: &[u8], values: &[Blocks]) -> Blocks {
-    let mut sums = [0u64; MOST_BLOCKS];
+    let mut sums = [0; MOST_BLOCKS];
     for (&y, row) in points.iter().zip(values) {
-        let c = INVERSES[(x + y) as usize & 15] as u64;
-        for (sum, &v) in sums.iter_mut().zip(row) {
-            *sum += c * v as u64;
-        }
+        let scale = Scale::of(INVERSES[(x + y) as usize & 15]);
+        sums = array::from_fn(|b| add_scaled(sums[b], row[b], scale));
     }
-    sums.map(reduced)
+    sums
 }
 
-fn scaled(weight: u32, row: &Blocks) -> Blocks {
-    row.map(|x| (weight * x as u32 % Q) as u16)
+fn scaled(weight: u16, row: &Blocks) -> Blocks {
+    let scale = Scale::of(weight);
+    row.map(|x| add_scaled(0, x, scale))
 }
 
-/// The unknowns of the Cauchy systems with these rows, by the closed solution.
-fn solve(rows: &[u8], columns: &[u8], values: &[Blocks], unknowns: &mut [Blocks; MOST_USERS]) {
+/// The first unknowns of the Cauchy systems with these rows, as many as are wanted, by the closed solution.
+fn solve(rows: &[u8], columns: &[u8], values: &[Blocks], wanted: usize, unknowns: &mut [Blocks; MOST_USERS]) {
     let mut weighed = [[0; MOST_BLOCKS]; MOST_USERS];
     for ((out, weight), row) in weighed.iter_mut().zip(weights(rows, columns)).zip(values) {
         *out = scaled(weight, row);
     }
-    for ((out, weight), &column) in unknowns.iter_mut().zip(weights(columns, rows)).zip(columns) {
+    for ((out, weight), &column) in unknowns.iter_mut().zip(weights(columns, rows)).zip(&columns[..wanted]) {
         *out = scaled(weight, &dots(column, rows, &weighed));
     }
 }
@@ -627,19 +735,26 @@ fn gather(
     count
 }
 
-/// Writes the unknowns that explain the complete replies, and answers with the user set aside, 0 where all agree; or with none where no
+/// Writes the unknowns that explain the complete replies, where just enough reply the wanted ones alone, and answers with the user set aside, 0 where all agree; or with none where no
 /// single user can be. The first `size` rows are solved. If one of the further rows does not fit, it is set aside; if more do not, it is
 /// none of them, and as many of the first rows go behind them, until each has been a further one.
-fn explain(size: usize, set: u32, reply: &[Blocks; MOST_USERS], unknowns: &mut [Blocks; MOST_USERS]) -> Option<u32> {
+fn explain(
+    size: usize,
+    wanted: usize,
+    set: u32,
+    reply: &[Blocks; MOST_USERS],
+    unknowns: &mut [Blocks; MOST_USERS],
+) -> Option<u32> {
     const COLUMNS: [u8; MOST_USERS] = [1, 2, 3, 4, 5, 6, 7, 0];
     let columns = &COLUMNS[..size];
     let (mut rows, mut values) = ([0; MOST_USERS], NO_REPLY);
     let count = gather(set, reply, &mut rows, &mut values);
     let (rows, values) = (&mut rows[..count], &mut values[..count]);
     let spare = count - size;
+    let wanted = if spare == 0 { wanted } else { size };
     let mut from = 0;
     loop {
-        solve(&rows[..size], columns, &values[..size], unknowns);
+        solve(&rows[..size], columns, &values[..size], wanted, unknowns);
         let further = rows[size..].iter().zip(&values[size..]);
         let mut misfits = further.filter(|(&row, wanted)| dots(row, columns, unknowns) != **wanted);
         match (misfits.next(), misfits.next()) {

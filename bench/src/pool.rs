@@ -1,7 +1,7 @@
 //! The program of document 01 in plain Rust: records from standard input, lines to standard output, those of a read behind that read.
 mod fast;
 
-use fast::{Plan, Service, MOST_PLACES};
+use fast::{two_bytes, Plan, Service, MOST_PLACES};
 use std::fs::File;
 use std::io::{self, ErrorKind, Read, Write};
 use std::os::fd::AsFd;
@@ -149,11 +149,8 @@ fn take_other(service: &mut Service, record: &[u8], offset: u64, lines: &mut Lin
     Ok(len)
 }
 
-fn two_bytes(low: u8, high: u8) -> u32 {
-    u16::from_le_bytes([low, high]).into()
-}
-
-/// Takes the whole records in order; answers how many bytes they are, and why it stopped.
+/// Takes the whole records in order, behind an element that is taken quietly those of its kind in a run; answers how many bytes they are,
+/// and why it stopped.
 fn feed(service: &mut Service, bytes: &[u8], offset: u64, lines: &mut Lines) -> (usize, Stop) {
     let mut at = 0;
     loop {
@@ -162,18 +159,34 @@ fn feed(service: &mut Service, bytes: &[u8], offset: u64, lines: &mut Lines) -> 
         }
         let here = offset + at as u64;
         let record = &bytes[at..];
-        let (number, len) = match *record {
-            [3, user, a, b, c, d, ..] => (service.first_element(user.into(), two_bytes(a, b), two_bytes(c, d)), 6),
-            [5, user, block, c, d, ..] => (service.reply_element(user.into(), block.into(), two_bytes(c, d)), 5),
+        let number = match *record {
+            [3, user, a, b, c, d, ..] => {
+                at += 6;
+                let number = service.first_element(user.into(), two_bytes(a, b), two_bytes(c, d));
+                if number == 0 {
+                    at += service.run_first(&bytes[at..]);
+                }
+                number
+            }
+            [5, user, block, c, d, ..] => {
+                at += 5;
+                let number = service.reply_element(user.into(), block.into(), two_bytes(c, d));
+                if number == 0 {
+                    at += service.run_reply(&bytes[at..]);
+                }
+                number
+            }
             _ => match take_other(service, record, here, lines) {
-                Ok(len) => (0, len),
+                Ok(len) => {
+                    at += len;
+                    0
+                }
                 Err(stop) => return (at, stop),
             },
         };
         if number != 0 {
             lines.refused(number, here);
         }
-        at += len;
     }
 }
 

@@ -1,5 +1,6 @@
-//! The program over streams of records: `target/bin/pool`, the plain Rust program, and `cat`.
-use crate::report::Report;
+//! The program over streams of records: `target/bin/pool`, the plain Rust program in two builds, the frozen one, and `cat`.
+use crate::instructions;
+use crate::report::{Report, Stream};
 use crate::rounds::Records;
 use crate::timing::{race, RUNS};
 use std::fs::{self, File};
@@ -8,32 +9,56 @@ use std::process::{Command, Stdio};
 use std::time::Instant;
 
 const OURS: &str = "target/bin/pool";
-const RUST: &str = "target/bench/release/pool";
+const BEST: &str = "target/bench/best/pool";
+const FROZEN: &str = "target/bench/best/frozen";
+const RELEASE: &str = "target/bench/release/pool";
+const PROGRAMS: [&str; 5] = [OURS, BEST, FROZEN, RELEASE, "cat"];
 const INPUT: &str = "target/bench/records";
+
+/// Bytes of a stream that is timed, and of one of which the instructions are counted.
 const SIZE: usize = 48 << 20;
+const SHORT: usize = 4 << 20;
 
 pub fn measure(report: &mut Report) {
-    measure_stream(report, "accepted", Records::accepted(SIZE));
-    measure_stream(report, "every record twice", Records::repeated(SIZE));
-    measure_stream(report, "an aside each round", Records::falsified(SIZE));
-    measure_stream(report, "refused", Records::refused(SIZE));
-    let mixed = measure_stream(report, "mixed", Records::mixed(SIZE));
-    report.memory = [OURS, RUST].map(|program| peak_memory(program, &mixed.0));
+    measure_stream(report, "accepted", Records::accepted);
+    measure_stream(report, "airfields in turn", Records::crossed);
+    measure_stream(report, "every record twice", Records::repeated);
+    measure_stream(report, "an aside each round", Records::falsified);
+    measure_stream(report, "refused", Records::refused);
+    let mixed = measure_stream(report, "mixed", Records::mixed);
+    report.memory = [OURS, BEST].map(|program| peak_memory(program, &mixed.0));
     fs::remove_file(INPUT).unwrap();
 }
 
-fn measure_stream(report: &mut Report, name: &str, records: Records) -> Records {
-    fs::write(INPUT, &records.0).unwrap();
-    let lines = lines_of(OURS);
-    assert!(lines == lines_of(RUST), "the programs print different lines of the {name} stream");
-    let lines = lines.iter().filter(|&&b| b == b'\n').count();
+fn measure_stream(report: &mut Report, name: &str, records: fn(usize) -> Records) -> Records {
+    let counts = count(&records(SHORT).0);
+    let records = records(SIZE);
     let bytes = &records.0;
-    let file = race(RUNS, [&mut || run_file(OURS), &mut || run_file(RUST), &mut || run_file("cat")]);
-    let pipe =
-        race(RUNS, [&mut || run_pipe(OURS, bytes), &mut || run_pipe(RUST, bytes), &mut || run_pipe("cat", bytes)]);
-    report.stream(name, "file", bytes.len(), lines, file);
-    report.stream(name, "pipe", bytes.len(), lines, pipe);
+    fs::write(INPUT, bytes).unwrap();
+    let lines = lines_of(OURS);
+    for program in [BEST, FROZEN, RELEASE] {
+        assert!(lines == lines_of(program), "the programs print different lines of the {name} stream");
+    }
+    let [mut a, mut b, mut c, mut d, mut e] = PROGRAMS.map(|program| move || run_file(program));
+    let file = race(RUNS, [&mut a, &mut b, &mut c, &mut d, &mut e]);
+    let [mut a, mut b, mut c, mut d, mut e] = PROGRAMS.map(|program| move || run_pipe(program, bytes));
+    let pipe = race(RUNS, [&mut a, &mut b, &mut c, &mut d, &mut e]);
+    for (from, times, counts) in [("file", file, counts), ("pipe", pipe, [None; 3])] {
+        let name = format!("{name}, {from}");
+        eprintln!("{name}: {:.2} {:.2}", times[0] / times[1], times[0] / times[2]);
+        report.streams.push(Stream { name, times, counts });
+    }
     records
+}
+
+/// Instructions for each byte, by ours, Rust at its best and the frozen Rust, those of a run without input apart.
+fn count(bytes: &[u8]) -> [Option<f64>; 3] {
+    [OURS, BEST, FROZEN].map(|program| {
+        fs::write(INPUT, []).unwrap();
+        let start = instructions::of_run(program, INPUT)?;
+        fs::write(INPUT, bytes).unwrap();
+        Some((instructions::of_run(program, INPUT)? - start) / bytes.len() as f64)
+    })
 }
 
 fn lines_of(program: &str) -> Vec<u8> {

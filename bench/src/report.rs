@@ -1,6 +1,4 @@
 //! docs/SPEED.md and docs/speed.svg, from what was measured.
-use crate::fast::Plan;
-use crate::rounds::named;
 use std::fmt::Write;
 use std::fs;
 
@@ -9,95 +7,119 @@ const FASTER: &str = "#4a8";
 const SLOWER: &str = "#c84";
 const OURS: &str = "#848";
 
+/// Nanoseconds and instructions of a call of ours, Rust and the frozen Rust, these two at their best; our time over that of Rust's release build.
+pub struct Call {
+    pub name: String,
+    pub times: [f64; 3],
+    pub release: f64,
+    pub counts: [Option<f64>; 3],
+}
+
+/// Milliseconds of ours, Rust and the frozen Rust at their best, Rust's release build and cat; instructions for a byte of the first three.
+pub struct Stream {
+    pub name: String,
+    pub times: [f64; 5],
+    pub counts: [Option<f64>; 3],
+}
+
 #[derive(Default)]
 pub struct Report {
-    /// Name, nanoseconds of ours and of Rust.
-    calls: Vec<(String, [f64; 2])>,
-    /// Name, bytes, lines, milliseconds of ours, Rust and cat.
-    streams: Vec<(String, usize, usize, [f64; 3])>,
+    pub calls: Vec<Call>,
+    pub streams: Vec<Stream>,
     /// KiB of ours and of Rust.
     pub memory: [u32; 2],
-    /// Nanoseconds of our lookups of user 1's sets 3 and 255 under 8 2 1 16.
-    pub lookups: [f64; 2],
-    /// Plan, nanoseconds of our finish, and of FLINT block by block and by columns.
-    pub solver: Vec<(String, f64, Option<[f64; 2]>)>,
-    /// Plan and the airfield set aside, nanoseconds of our finish where replies agree, and with the aside.
-    pub asides: Vec<(String, f64, f64)>,
-    /// Users, nanoseconds of a key by ours and by Rust.
-    pub growth: Vec<(u32, [f64; 2])>,
+    /// The name of a call of ours, and nanoseconds of FLINT block by block and by columns.
+    pub solver: Vec<(String, Option<[f64; 2]>)>,
     /// Users, seconds of a check.
     pub proofs: Vec<(u32, f64)>,
 }
 
+fn counted<const N: usize>(counts: [Option<f64>; N], digits: usize) -> String {
+    counts.map(|count| count.map_or(" |".into(), |count| format!(" {count:.digits$} |"))).concat()
+}
+
 impl Report {
-    pub fn call(&mut self, call: &str, p: Plan, times: [f64; 2]) {
-        let name = format!("{call}, {}", named(p));
-        eprintln!("{name}: {:.2}", times[0] / times[1]);
-        self.calls.push((name, times));
-    }
-
-    pub fn stream(&mut self, name: &str, from: &str, bytes: usize, lines: usize, times: [f64; 3]) {
-        eprintln!("{name} stream, {from}: {:.2}", times[0] / times[1]);
-        self.streams.push((format!("{name}, {from}"), bytes, lines, times));
-    }
-
     pub fn write(&self, method: &str) {
         fs::write("docs/SPEED.md", self.table(method)).unwrap();
         fs::write("docs/speed.svg", self.plot()).unwrap();
+    }
+
+    fn call(&self, name: &str) -> &Call {
+        self.calls.iter().find(|call| call.name == name).unwrap()
+    }
+
+    /// Name and times of every row: ours, Rust, the frozen Rust.
+    fn rows(&self) -> Vec<(&str, [f64; 3])> {
+        let streams = self.streams.iter().map(|row| (row.name.as_str(), [row.times[0], row.times[1], row.times[2]]));
+        streams.chain(self.calls.iter().map(|row| (row.name.as_str(), row.times))).collect()
+    }
+
+    /// Our time over that of Rust (1) or the frozen Rust (2), of the rows whose name starts so.
+    fn ratios(&self, start: &str, side: usize) -> Vec<(&str, f64)> {
+        let rows = self.rows().into_iter().filter(|row| row.0.starts_with(start));
+        rows.map(|(name, times)| (name, times[0] / times[side])).collect()
     }
 
     fn table(&self, method: &str) -> String {
         let mut out = String::new();
         let mut line = |text: &str| writeln!(out, "{text}").unwrap();
         line("# Speed\n");
-        line("Written by `bench/run`, which builds everything, compares all results and then measures. A ratio is our time over the time of plain Rust: above 1, ours is slower.\n");
+        line("Written by `bench/run`, which builds everything, compares all results and then measures. A ratio is our time over another's in the same run: above 1, ours is slower.\n");
+        line("- Rust: `bench/src`, plain Rust with the same algorithms and the same tests of the input, at its best build: `codegen-units = 1`, `lto = \"fat\"`, `panic = \"abort\"`.\n- Release: the same built by cargo's release profile.\n- Frozen: `bench/frozen`, the plain Rust that ours was measured beside before sums came from tables and products went by lanes, at the best build. It is never changed.\n- Instructions are counted by callgrind, and are the same in every run.\n");
         line(method);
-        line("\n![Ratios of each row, and how cost grows with the number of airfields](speed.svg)\n");
+        line(
+            "\n![Ratios of each row to Rust at its best, and how cost grows with the number of airfields](speed.svg)\n",
+        );
+        self.goals(&mut line);
         line("## The program\n");
-        line("`target/bin/pool` beside `bench/src/pool.rs`, which prints the same lines after the same reads; `cat` of the same bytes is the floor. Output goes to /dev/null.\n");
-        line("| stream | bytes | lines | ours, ms | Rust, ms | ratio | cat, ms |\n|---|---|---|---|---|---|---|");
-        for (name, bytes, lines, [ours, rust, cat]) in &self.streams {
-            line(&format!("| {name} | {bytes} | {lines} | {ours:.0} | {rust:.0} | {:.2} | {cat:.0} |", ours / rust));
+        line("`target/bin/pool` beside `bench/src/pool.rs`, which prints the same lines after the same reads; `cat` of the same bytes is the floor. A stream has 48 MiB, and the output goes to /dev/null.\n");
+        line("| stream | ours, ms | Rust, ms | ratio | release, ms | ratio | frozen, ms | ratio | cat, ms | ours, instructions a byte | Rust | frozen |\n|---|---|---|---|---|---|---|---|---|---|---|---|");
+        for Stream { name, times: [ours, rust, frozen, release, cat], counts } in &self.streams {
+            let [best, plain, before] = [rust, release, frozen].map(|other| ours / other);
+            line(&format!("| {name} | {ours:.0} | {rust:.0} | {best:.2} | {release:.0} | {plain:.2} | {frozen:.0} | {before:.2} | {cat:.0} |{}", counted(*counts, 1)));
         }
         let [ours, rust] = self.memory;
         line(&format!("\nPeak memory over the mixed stream: ours {ours} KiB, Rust {rust} KiB.\n"));
         line("## Calls\n");
-        line("Through the static library, beside `bench/src/fast.rs`: the same algorithms and the same tests of the input, over `&mut` state, with loops that know their lengths and, in finish, all blocks side by side. The random list is drawn from bytes that look random, with a number to skip among them; a key is that of all users in turn; of a round all users survive, and the first U or all of them reply; for an aside all reply, one of them falsely in every block.\n");
-        line("| call and plan | ours, ns | Rust, ns | ratio |\n|---|---|---|---|");
-        for (name, [ours, rust]) in &self.calls {
-            line(&format!("| {name} | {ours:.0} | {rust:.0} | {:.2} |", ours / rust));
+        line("Through the static library, beside `bench/src/fast.rs`. The random list is drawn from bytes that look random, with a number to skip among them; a key is that of all users in turn; of a round all users survive, and the first U or all of them reply; for an aside all reply, one of them falsely in every block. The ratio to the release build is of a run of its own.\n");
+        line("| call and plan | ours, ns | Rust, ns | ratio | to release | frozen, ns | ratio | ours, instructions | Rust | frozen |\n|---|---|---|---|---|---|---|---|---|---|");
+        for Call { name, times: [ours, rust, frozen], release, counts } in &self.calls {
+            let [best, before] = [rust, frozen].map(|other| ours / other);
+            line(&format!(
+                "| {name} | {ours:.0} | {rust:.0} | {best:.2} | {release:.2} | {frozen:.0} | {before:.2} |{}",
+                counted(*counts, 0)
+            ));
         }
         line("\n## Finding a reply\n");
         line("A lookup goes through the set numbers and stops at the announced set: the first and the last set of airfield 1, by our calls of the rows above.\n");
         line("| plan | set 3, ns | set 255, ns | times as long |\n|---|---|---|---|");
-        let [near, far] = self.lookups;
+        let [near, far] = [3, 255].map(|set| self.call(&format!("lookup of set {set}, 8 2 1 16")).times[0]);
         line(&format!("| 8 2 1 16 | {near:.1} | {far:.1} | {:.1} |", far / near));
         line("\n## Solving a round\n");
         line("A whole finish of ours, with its tests, the sums of the first messages and the clearing of the state, beside FLINT's `nmod_mat_solve` on the same systems modulo 65521 in matrices that are already filled; where more than U reply, FLINT sees by `nmod_mat_mul` and `nmod_mat_equal` whether the unknowns explain the others, as finish does. By block: M systems with one right side each; by columns, its best shape: one system with M right sides. Here a number above 1 says how many times faster ours is.\n");
-        line("| plan and replies | our finish, ns | FLINT by block, ns | times | FLINT by columns, ns | times |\n|---|---|---|---|---|---|");
-        for (plan, ours, flint) in &self.solver {
+        line("| call | our finish, ns | FLINT by block, ns | times | FLINT by columns, ns | times |\n|---|---|---|---|---|---|");
+        for (name, flint) in &self.solver {
+            let ours = self.call(name).times[0];
             match flint {
                 Some([blocks, columns]) => line(&format!(
-                    "| {plan} | {ours:.0} | {blocks:.0} | {:.1} | {columns:.0} | {:.1} |",
+                    "| {name} | {ours:.0} | {blocks:.0} | {:.1} | {columns:.0} | {:.1} |",
                     blocks / ours,
                     columns / ours
                 )),
-                None => line(&format!("| {plan} | {ours:.0} | skipped: FLINT is not installed | | | |")),
+                None => line(&format!("| {name} | {ours:.0} | skipped: FLINT is not installed | | | |")),
             }
         }
         line("\n## One false reply\n");
         line("A finish of ours with the replies of all airfields, that of one of them false in every block, beside one in which they agree. The unknowns of the first U replies are compared with the others: if one of these does not fit it is set aside, and if more do not, finish solves from other replies, at most U / (K - U) times, rounded up. An airfield above U is found at once. Leaving out one airfield after the other would solve up to K + 1 = 9 times.\n");
-        line("| plan and airfield | all agree, ns | with the aside, ns | times as long |\n|---|---|---|---|");
-        for (name, agreeing, aside) in &self.asides {
-            line(&format!("| {name} | {agreeing:.0} | {aside:.0} | {:.1} |", aside / agreeing));
+        line("| call | all agree, ns | with the aside, ns | times as long |\n|---|---|---|---|");
+        for call in self.calls.iter().filter(|call| call.name.starts_with("finish with aside")) {
+            let (_, plan) = call.name.split_once(", ").unwrap();
+            let [agreeing, aside] = [self.call(&format!("finish of 8 replies, {plan}")).times[0], call.times[0]];
+            line(&format!("| {} | {agreeing:.0} | {aside:.0} | {:.1} |", call.name, aside / agreeing));
         }
         line("\n## How cost grows with the number of airfields\n");
-        line("The key maker, U = 2, T = 1, M = 16. A key has shares for 2 ^ (K - 1) - 1 sets, so the time of the key maker doubles with each airfield, and so does that of first message and reply, which test the whole key. The service holds no key: its calls grow with K at most. The row of K = 8 is that of plan 8 2 1 16 above.\n");
-        line("| K | ours, ns | Rust, ns | ratio |\n|---|---|---|---|");
-        for (users, [ours, rust]) in &self.growth {
-            line(&format!("| {users} | {ours:.0} | {rust:.0} | {:.2} |", ours / rust));
-        }
-        line("\nOf the proofs two go through all sets: the table of counts in `plan/src/lib.rt` is computed and compared entry by entry, and that no plan has longer lists is computed from such counts (`exported/proofs/Longest.antt`). Their time about doubles with each airfield, as the number of sets does. The tables of inverses and of gaps have an entry for each sum and difference of points, and the examples have plans of their own; all other proofs are arguments for every plan, and their time does not depend on K. Seconds of processor time of `rt check` on the table alone, for at most K airfields, all loading included:\n");
+        line("A key has shares for 2 ^ (K - 1) - 1 sets where U = 2, so the time of the key maker doubles with each airfield, as its rows above show, and so does that of first message and reply, which test the whole key. The service holds no key: its calls grow with K at most.\n");
+        line("Of the proofs two go through all sets: the table of counts in `plan/src/lib.rt` is computed and compared entry by entry, and that no plan has longer lists is computed from such counts (`exported/proofs/Longest.antt`). Their time about doubles with each airfield, as the number of sets does. The tables of inverses and of gaps have an entry for each sum and difference of points, and the examples have plans of their own; all other proofs are arguments for every plan, and their time does not depend on K. Seconds of processor time of `rt check` on the table alone, for at most K airfields, all loading included:\n");
         line("| K | seconds |\n|---|---|");
         for (users, seconds) in &self.proofs {
             line(&format!("| {users} | {seconds:.1} |"));
@@ -105,16 +127,34 @@ impl Report {
         out
     }
 
+    /// What was set out for, and how far it is reached.
+    fn goals(&self, line: &mut impl FnMut(&str)) {
+        line("## Goals\n");
+        line("| goal | rows | short |\n|---|---|---|");
+        let mut goal = |goal: &str, ratios: Vec<(&str, f64)>, met: &dyn Fn(f64) -> bool| {
+            let short: Vec<_> =
+                ratios.iter().filter(|row| !met(row.1)).map(|(name, ratio)| format!("{name}: {ratio:.2}")).collect();
+            let short = if short.is_empty() { "none".into() } else { short.join("; ") };
+            line(&format!("| {goal} | {} | {short} |", ratios.len()));
+        };
+        let most = |most: f64| move |ratio: f64| ratio < most + 0.005;
+        goal("at most 1.00 of Rust at its best build", self.ratios("", 1), &most(1.0));
+        goal("accepted elements at most 0.65 of the frozen Rust", self.ratios("accepted", 2), &most(0.65));
+        goal("key maker 8 2 1 16 at most 0.45 of the frozen Rust", self.ratios("key maker, 8 2 1 16", 2), &most(0.45));
+        goal("a finish at most 0.75 of the frozen Rust", self.ratios("finish", 2), &most(0.75));
+        let times = |(name, flint): &'_ (String, Option<[f64; 2]>)| {
+            flint.map(|[_, columns]| columns / self.call(name).times[0])
+        };
+        let flint = self.solver.iter().filter_map(|row| times(row).map(|times| (row.0.as_str(), times))).collect();
+        goal("a finish at least 4 times as fast as FLINT by columns", flint, &|times| 3.95 <= times);
+        line("");
+    }
+
     fn plot(&self) -> String {
-        let ratios: Vec<(&str, f64)> = self
-            .streams
-            .iter()
-            .map(|(name, _, _, times)| (name.as_str(), times[0] / times[1]))
-            .chain(self.calls.iter().map(|(name, times)| (name.as_str(), times[0] / times[1])))
-            .collect();
+        let ratios = self.ratios("", 1);
         let bars = 20 * ratios.len();
         let mut svg = Svg::new(760, bars + 350);
-        svg.text(10, 20, "start", "our time over Rust's: left of the line ours is faster");
+        svg.text(10, 20, "start", "our time over that of Rust at its best: left of the line ours is faster");
         for (x, fill, text) in [(500.0, FASTER, "ours is faster"), (620.0, SLOWER, "ours is slower")] {
             svg.bar(x, 9, 14.0, fill);
             svg.text(x as u32 + 20, 20, "start", text);
@@ -131,12 +171,14 @@ impl Report {
         svg.text(scale(1.0) as u32, 22, "middle", "1.00");
         svg.line(scale(1.0), 28.0, scale(1.0), 34.0 + bars as f64, "#333");
         let top = bars as f64 + 70.0;
-        let micros = |i: usize| self.growth.iter().map(|row| (row.0, row.1[i] / 1e3)).collect::<Vec<_>>();
+        let micros = |side: usize| {
+            (3..=8).map(|users| (users, self.call(&format!("key maker, {users} 2 1 16")).times[side] / 1e3)).collect()
+        };
         svg.panel(
             60.0,
             top,
             "key maker, microseconds against K",
-            &[("ours", OURS, micros(0)), ("Rust", "#48c", micros(1))],
+            &[("ours", OURS, micros(0)), ("Rust", "#48c", micros(1)), ("frozen", "#999", micros(2))],
         );
         svg.panel(440.0, top, "check of what is computed over K, seconds", &[("seconds", OURS, self.proofs.clone())]);
         svg.end()

@@ -84,13 +84,8 @@ impl Round {
 
     /// All first elements where each figure is changed into another.
     fn firsts_of(&self, other: impl Fn(u32) -> u32) -> Vec<(u32, u32, u32)> {
-        let mut firsts = vec![];
-        for (k, (figures, key)) in self.figures.iter().zip(&self.keys).enumerate() {
-            for (place, (&figure, &mask)) in figures.iter().zip(key).enumerate() {
-                firsts.push((k as u32 + 1, place as u32, (other(figure as u32) + mask as u32) % Q));
-            }
-        }
-        firsts
+        let first = |(&figure, &mask): (&u16, &u16)| ((other(figure as u32) + mask as u32) % Q) as u16;
+        elements(self.figures.iter().zip(&self.keys).map(|(figures, key)| figures.iter().zip(key).map(first).collect()))
     }
 
     /// The replies, that of one user false in every block; 0 is nobody.
@@ -103,6 +98,12 @@ impl Round {
         }
         replies
     }
+}
+
+/// The elements of all users' rows, as user, place and element.
+fn elements(rows: impl IntoIterator<Item = Vec<u16>>) -> Vec<(u32, u32, u32)> {
+    let of_user = |(user, row): (u32, Vec<u16>)| (0..).zip(row).map(move |(place, x)| (user, place, x as u32));
+    (1..).zip(rows).flat_map(of_user).collect()
 }
 
 /// A stream of records.
@@ -139,37 +140,46 @@ impl Records {
 
     /// Round upon round, with nothing refused.
     pub fn accepted(size: usize) -> Records {
-        Records::rounds(size, 1, |_| 0)
+        Records::rounds(size, 1, false, |_| 0)
     }
 
-    /// The same with one false reply in each round, of all users in turn.
-    pub fn falsified(size: usize) -> Records {
-        Records::rounds(size, 1, |number| 1 + number % 8)
+    /// The same with the users in turn at each place and block.
+    pub fn crossed(size: usize) -> Records {
+        Records::rounds(size, 1, true, |_| 0)
     }
 
     /// The same with every record twice: elements are taken again, and the others refused.
     pub fn repeated(size: usize) -> Records {
-        Records::rounds(size, 2, |_| 0)
+        Records::rounds(size, 2, false, |_| 0)
+    }
+
+    /// The same with one false reply in each round, of all users in turn.
+    pub fn falsified(size: usize) -> Records {
+        Records::rounds(size, 1, false, |number| 1 + number % 8)
     }
 
     /// Each figure is one more than in the round before, and 0 behind the bound. Each record comes so many times. The number of a round
     /// tells whose reply is false; 0 is nobody.
-    fn rounds(size: usize, times: usize, false_user: fn(u32) -> u32) -> Records {
+    fn rounds(size: usize, times: usize, crossed: bool, false_user: fn(u32) -> u32) -> Records {
         let round = Round::new(plan(8, 2, 1, 16), &mut Random(1));
         let figures = round.plan.bound(Use::Counts) as u32 + 1;
         let mut records = Records(Records::plan(round.plan).0.repeat(times));
         let mut number = 0;
         while records.0.len() < size {
             number += 1;
+            let mut firsts = round.firsts_of(|figure| (figure + number) % figures);
+            let mut replies = elements(round.falsified(false_user(number)));
+            if crossed {
+                firsts.sort_by_key(|&(_, place, _)| place);
+                replies.sort_by_key(|&(_, block, _)| block);
+            }
             records.repeat(times, |records| records.open(number));
-            for (user, place, x) in round.firsts_of(|figure| (figure + number) % figures) {
+            for (user, place, x) in firsts {
                 records.repeat(times, |records| records.first(user, place, x));
             }
             records.repeat(times, Records::close);
-            for (k, row) in round.falsified(false_user(number)).iter().enumerate() {
-                for (block, &x) in row.iter().enumerate() {
-                    records.repeat(times, |records| records.reply(k as u32 + 1, block as u32, x as u32));
-                }
+            for (user, block, x) in replies {
+                records.repeat(times, |records| records.reply(user, block, x));
             }
             records.repeat(times, Records::finish);
         }
