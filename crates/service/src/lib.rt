@@ -163,7 +163,7 @@ fn element_refusal(users: u32, limit: u32, user: u32, at: u32, element: u32) -> 
 }
 
 // An element is held as itself plus 1, and 0 stands where none is held.
-fn held_as(element: u16) -> u16
+pub fn held_as(element: u16) -> u16
     requires { ⌜ element < q ⌝ }
     ensures { λ r. ⌜ r ≡ held-as element ⌝ }
 {
@@ -181,7 +181,7 @@ pub fn element_of(held: u16) -> u16
 }
 
 // What a place holds once an element has come, both as they are held: what it held, or else the new one.
-fn left_in(held: u16, new: u16) -> u16
+pub fn left_in(held: u16, new: u16) -> u16
     ensures { λ r. ⌜ r ≡ left-in held new ⌝ }
 {
     if 0 < held {

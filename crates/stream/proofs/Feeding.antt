@@ -5,6 +5,8 @@
 --   Along, along-start, along-more          the bytes used so far are whole records, and state and length written are theirs
 --   fed-far, fed-within, fed-more, fed-end    what fed is: offsets that pass 64 bits or do not, one record more, no more
 --   Going, going-start, going-more, going-end     what holds at each turn of feed
+--   turn-silent, going-run, going-takes     the same behind records that are taken in silence
+--   run-onward, takes-onward                they lead onward
 -- Assumes nothing.
 use mathlib.Core.Path.{_≡_, refl, sym, ap, _∙_}
 use mathlib.Core.Logic.{_≢_}
@@ -20,7 +22,7 @@ use Rattle.lines.specs.Text.{line}
 use Rattle.lines.specs.Put.{room, Put}
 use Rattle.lines.proofs.Lines.{put-none, put-append, put-as, put-length}
 use Rattle.stream.specs.declared.Stop.the-variants.{Used, Far}
-use Rattle.stream.specs.Stream.{length-at, record-at, Whole, Item, taken, items-from, items, step, answers, text, lines, ready-at, stop-at, halt, fed-from, fed, Turns}
+use Rattle.stream.specs.Stream.{length-at, record-at, Whole, Item, taken, items-from, items, step, answers, text, lines, ready-at, stop-at, halt, fed-from, fed, Turns, Silent-at, Silent-run, stays, goes-on, Takes, alone, in-silence}
 use Rattle.stream.specs.Promise.{all-taken, last-state}
 use Rattle.stream.proofs.Records.{items-next, taken-append, state-append, text-append}
 use Rattle.stream.proofs.Turns.{line-short}
@@ -164,3 +166,35 @@ module _ {s : Service} {b : List ℕ} {o : ℕ} {out₀ : List ℕ} {t : Service
 
   pub going-end : (Ready b at (length out - wrote) → ⊥) → halt t at wrote (stop-at b at) ≡ fed s b o (length out₀)
   going-end h = sym (fed-end (g .most) t b o (length out₀) at wrote (same ∙ ready-false b at _ h)) ∙ g .rest
+
+-- ---- records that are taken in silence
+turn-silent : {b : List ℕ} {at next : ℕ} {t u : Service} → Silent-at b at next t u → (o : ℕ) (out : List ℕ) (wrote : ℕ)
+    → Turns (record-at b at) o t u out out wrote wrote
+unfolding line
+turn-silent r o out wrote = record { state = r .state; put = put-as (put-none out wrote) (ap (line o) (sym (r .quiet))) }
+
+going-silent : {s : Service} {b : List ℕ} {o : ℕ} {out₀ : List ℕ} {t : Service} {at wrote : ℕ} {out : List ℕ} → Going s b o out₀ t at wrote out
+    → room ≤ length out - wrote → {next : ℕ} {u : Service} → Silent-at b at next t u → Going s b o out₀ u next wrote out
+going-silent {s} {b} {o} {out₀} {out = out} g fits {next} {u} r =
+    rw (r .long) (going-more g (record { known = r .known; whole = r .whole; fits = fits }) refl (turn-silent r _ out _))
+
+pub going-run : {s : Service} {b : List ℕ} {o : ℕ} {out₀ : List ℕ} {wrote : ℕ} {out : List ℕ} → room ≤ length out - wrote
+    → {at next : ℕ} {t u : Service} → Silent-run b at next t u → Going s b o out₀ t at wrote out → Going s b o out₀ u next wrote out
+going-run fits (stays at s) g = g
+going-run fits (goes-on start at next s t u run r) g = going-silent (going-run fits run g) fits r
+
+-- one with its lines, or a run
+pub going-takes : {s : Service} {b : List ℕ} {o : ℕ} {out₀ : List ℕ} {t : Service} {at wrote : ℕ} {out : List ℕ} → Going s b o out₀ t at wrote out
+    → Ready b at (length out - wrote) → {end : ℕ} {u : Service} {out′ : List ℕ} {next : ℕ} → Takes b (o + at) at end t u out out′ wrote next
+    → Going s b o out₀ u end next out′
+going-takes g r (alone d turn) = rw d (going-more g r refl turn)
+going-takes g r (in-silence at u one run same still) = rw (same, still) (going-run (r .fits) run (going-silent g (r .fits) one))
+
+run-onward : {b : List ℕ} {at next : ℕ} {t u : Service} → Silent-run b at next t u → at ≤ next
+run-onward (stays at s) = omega arith
+run-onward (goes-on start at next s t u run r) = omega (arith, run-onward run, r .long)
+
+pub takes-onward : {b : List ℕ} {o at end : ℕ} {t u : Service} {out out′ : List ℕ} {wrote next : ℕ} → length-at b at ≢ 0
+    → Takes b o at end t u out out′ wrote next → at < end
+takes-onward h (alone d turn) = omega (arith, d, h)
+takes-onward h (in-silence at u one run same still) = omega (arith, one .long, h, run-onward run)

@@ -11,6 +11,8 @@
 --   fed-from, fed                what feed hands back: the state, the bytes used and written, and why it stops
 --   early-refusal                the refusal that the head alone decides
 --   Turns                        one record: the state before and after it, and its lines written
+--   Silent-at, Silent-run        records that are taken in silence: one, and one upon another
+--   Takes                        one record with its lines, or one in silence and a run of such behind it
 --   cut-length, cut-left         the line of refusal 7
 -- Assumes nothing: these are definitions.
 use mathlib.Core.Path.{_≡_}
@@ -168,6 +170,25 @@ early-refusal h finish-record = not-replying (phase-of (h .phase))
 pub record Turns (r : Record) (o : ℕ) (s t : Service) (out out-now : List ℕ) (wrote next : ℕ) : Type 0 where
   pub state : t ≡ step s r .service
   pub put : Put out out-now wrote next (line o (step s r .answer))
+
+-- the record at a place, taken in silence: where the next one starts, and the state before and after it
+pub record Silent-at (b : List ℕ) (at next : ℕ) (s t : Service) : Type 0 where
+  pub whole : Whole b at
+  pub known : length-at b at ≢ 0
+  pub long : next ≡ at + length-at b at
+  pub state : t ≡ step s (record-at b at) .service
+  pub quiet : step s (record-at b at) .answer ≡ silent
+
+-- none or more of them, from a place to another
+pub data Silent-run (b : List ℕ) : (start end : ℕ) (s t : Service) → Type 0 where
+  stays : (at : ℕ) (s : Service) → Silent-run b at at s s
+  goes-on : (start at next : ℕ) (s t u : Service) → Silent-run b start at s t → Silent-at b at next t u → Silent-run b start next s u
+
+-- the record at a place, at an offset; behind a silent one there may be a run
+pub data Takes (b : List ℕ) (o start end : ℕ) (s t : Service) (out out-now : List ℕ) (wrote next : ℕ) : Type 0 where
+  alone : end ≡ start + length-at b start → Turns (record-at b start) o s t out out-now wrote next → Takes b o start end s t out out-now wrote next
+  in-silence : (at : ℕ) (u : Service) → Silent-at b start at s u → Silent-run b at end u t → out-now ≡ out → next ≡ wrote
+      → Takes b o start end s t out out-now wrote next
 
 -- the line of refusal 7, where there is room for a line
 unfoldable pub cut-length : (offset out : ℕ) → ℕ

@@ -3,25 +3,27 @@
 //   record_length, byte_at .. four_at, plan_at    a record's bytes
 //   Turned, take_plan .. take_other            one record other than an element: the head behind it, and how far out is written
 //   early_refusal                              what the head alone refuses
-//   take_first, take_reply, put_element        one element: how far out is written
+//   sender, run_first, run_reply               the elements of a kind that follow and are accepted: where their run ends
+//   Reached, take_first, take_reply            one element, and behind an accepted one a run: how far the input is taken and out is written
 //   stop_at, halt                              why no record is taken at a place, and what is then handed back
 //   feed, feed_records                         takes the whole records of a chunk in order; the same where no offset passes 64 bits
 //   cut                                        the line of refusal 7, for an unknown kind or a record that the end of the input cuts short
 ghost use mathlib.Core.Path.{_≡_};
 ghost use mathlib.Core.List.{List};
-ghost use Prim.Native.Nat.{ℕ, _+_, _*_, _^_, _≤_, _<_};
+ghost use Prim.Native.Nat.{ℕ, _+_, _*_, _/_, _%_, _^_, _≤_, _<_};
 ghost use lib.ListN.{length, getD, take};
 ghost use lib.Seq.{sets};
-ghost use Rattle.scheme.specs.Service.{plan-record, open-record, close-record, finish-record, silent};
+ghost use Rattle.scheme.specs.Service.{not-gathering, not-replying, plan-record, open-record, close-record, finish-record};
 ghost use Rattle.plan.specs.Plan.{plan-of};
+ghost use Rattle.service.specs.View.{phase-of};
 ghost use Rattle.service.specs.Calls.{lent};
-ghost use Rattle.service.specs.Promise.{told};
-ghost use Rattle.lines.specs.Text.{line};
-ghost use Rattle.lines.specs.Put.{room, Put};
-ghost use Rattle.stream.specs.Stream.{record-length, two-bytes, four-bytes, plan-at, record-at, Whole, Other, lines, stop-at, halt, fed, early-refusal, Turns, cut-length, cut-left};
+ghost use Rattle.lines.specs.Put.{room};
+ghost use Rattle.stream.specs.Stream.{record-length, two-bytes, four-bytes, plan-at, record-at, Whole, Other, lines, stop-at, halt, fed, early-refusal, Turns, Silent-run, Takes, cut-length, cut-left};
 use lines::LINE;
+use plan::BLOCKS;
 use plan::CELLS;
 use plan::FIRSTS;
+use plan::MOST_PLACES;
 use plan::Plan;
 use service::Head;
 use service::Service;
@@ -78,14 +80,15 @@ fn byte_at(b: &[u8], i: usize) -> u32
 }
 
 fn from_bytes(low: u8, high: u8) -> u16
-    ensures { λ r. ⌜ r ≡ low + high * 256 ⌝ }
+    ensures { λ r. ⌜ (r ≡ low + high * 256) × (r % 256 ≡ low) × (r / 256 ≡ high) ⌝ }
 {
     low as u16 + high as u16 * 256
 }
 
 fn two_at(b: &[u8], i: usize) -> u32
     requires { ⌜ i + 2 ≤ length (now b) ⌝ }
-    ensures { λ r. ⌜ (r ≡ two-bytes (now (b .entry)) i) × (r < 65536) ⌝ }
+    ensures { λ r. ⌜ (r ≡ two-bytes (now (b .entry)) i) × (r < 65536)
+        × (r % 256 ≡ getD (now (b .entry)) i 0) × (r / 256 ≡ getD (now (b .entry)) (i + 1) 0) ⌝ }
 {
     from_bytes(b[i], b[i + 1]) as u32
 }
@@ -97,17 +100,6 @@ fn four_at(b: &[u8], i: usize) -> u32
     let low = two_at(b, i);
     let high = two_at(b, i + 2);
     low + high * 65536
-}
-
-// The line of an element record: its refusal, or nothing.
-fn put_element(out: &mut [u8], at: usize, number: u32, offset: u64) -> usize
-    requires { ⌜ at + room ≤ length (now out) ⌝ }
-    ensures { λ r. ⌜ Put (now (out .entry)) (now (out .exit)) at r (line offset (told number silent)) ⌝ }
-{
-    if number == 0 {
-        return at;
-    }
-    lines::put_refusal(out, at, number, offset)
 }
 
 fn plan_at(b: &[u8], at: usize) -> Plan
@@ -278,7 +270,109 @@ fn take_other(
     }
 }
 
-// 03, a first element. It leaves the replies as they are, whatever they are.
+// Of a tag, the first two bytes of a record, that no record has.
+const NO_TAG: u32 = 1 << 16;
+
+// The user whose element of a kind has this tag; 0 where that is another record's, or of no user of the plan.
+fn sender(kind: u32, users: u32, tag: u32) -> u32
+    ensures { λ r. ⌜ ((r ≡ 0 → ⊥) → (tag % 256 ≡ kind) × (tag / 256 ≡ r) × (r ≤ users)) ⌝ }
+{
+    let user = tag / 256;
+    if tag % 256 != kind || users < user {
+        return 0;
+    }
+    user
+}
+
+// Takes first elements while one follows that is accepted, behind one that was: new or a repeat. Any other record is left to `take_first`
+// and the rest. The user's row is looked up where the tag changes.
+fn run_first(head: Head, first: &mut [u16; FIRSTS], b: &[u8], start: usize) -> usize
+    requires { ⌜ (start ≤ length (now b)) × (not-gathering (phase-of (head .phase)) ≡ 0) × (1 ≤ head .plan .users) ⌝ }
+    ensures { λ r. ⌜ ((reply : List ℕ) → Silent-run (now (b .entry)) start r
+        (lent head (now (first .entry)) reply) (lent head (now (first .exit)) reply)) ⌝ }
+{
+    let limit = head.places;
+    // never so in a state that calls have made
+    if FIRSTS < service::row_start(head.plan.users, MOST_PLACES) + limit as usize {
+        return start;
+    }
+    let mut tag = NO_TAG;
+    let mut row: usize = 0;
+    let mut at = start;
+    while 6 <= b.len() - at {
+        let next = two_at(b, at);
+        if next != tag {
+            let user = sender(3, head.plan.users, next);
+            if user == 0 {
+                return at;
+            }
+            row = service::row_start(user, MOST_PLACES);
+            tag = next;
+        }
+        let place = two_at(b, at + 2);
+        let element = two_at(b, at + 4);
+        if limit <= place || element::Q <= element {
+            return at;
+        }
+        let i = row + place as usize;
+        let new = service::held_as(element as u16);
+        let left = service::left_in(first[i], new);
+        if left != new {
+            return at;
+        }
+        first[i] = left;
+        at += 6;
+    }
+    at
+}
+
+// The same of reply elements: only a survivor's row is looked up.
+fn run_reply(head: Head, reply: &mut [u16; CELLS], b: &[u8], start: usize) -> usize
+    requires { ⌜ (start ≤ length (now b)) × (not-replying (phase-of (head .phase)) ≡ 0) × (1 ≤ head .plan .users) ⌝ }
+    ensures { λ r. ⌜ ((first : List ℕ) → Silent-run (now (b .entry)) start r
+        (lent head first (now (reply .entry))) (lent head first (now (reply .exit)))) ⌝ }
+{
+    let limit = head.plan.blocks;
+    // never so in a state that calls have made
+    if CELLS < service::row_start(head.plan.users, BLOCKS) + limit as usize {
+        return start;
+    }
+    let mut tag = NO_TAG;
+    let mut row: usize = 0;
+    let mut at = start;
+    while 5 <= b.len() - at {
+        let next = two_at(b, at);
+        if next != tag {
+            let user = sender(5, head.plan.users, next);
+            if user == 0 || !plan::holds(head.survivors, user) {
+                return at;
+            }
+            row = service::row_start(user, BLOCKS);
+            tag = next;
+        }
+        let block = byte_at(b, at + 2);
+        let element = two_at(b, at + 3);
+        if limit <= block || element::Q <= element {
+            return at;
+        }
+        let i = row + block as usize;
+        let new = service::held_as(element as u16);
+        let left = service::left_in(reply[i], new);
+        if left != new {
+            return at;
+        }
+        reply[i] = left;
+        at += 5;
+    }
+    at
+}
+
+pub struct Reached {
+    pub at: usize,
+    pub wrote: usize,
+}
+
+// 03, a first element, and behind an accepted one its run. They leave the replies as they are, whatever they are.
 fn take_first(
     head: Head,
     first: &mut [u16; FIRSTS],
@@ -287,19 +381,25 @@ fn take_first(
     offset: u64,
     out: &mut [u8],
     at: usize,
-) -> usize
+) -> Reached
     requires { ⌜ (at + room ≤ length (now out)) × Whole (now b) start × (getD (now b) start 0 ≡ 3) ⌝ }
-    ensures { λ r. ⌜ ((reply : List ℕ) → Turns (record-at (now (b .entry)) start) offset
-        (lent head (now (first .entry)) reply) (lent head (now (first .exit)) reply) (now (out .entry)) (now (out .exit)) at r) ⌝ }
+    ensures { λ r. ⌜ ((reply : List ℕ) → Takes (now (b .entry)) offset start (r .at)
+        (lent head (now (first .entry)) reply) (lent head (now (first .exit)) reply) (now (out .entry)) (now (out .exit)) at (r .wrote)) ⌝ }
 {
     let user = byte_at(b, start + 1);
     let place = two_at(b, start + 2);
     let element = two_at(b, start + 4);
     let number = service::put_first(head, first, user, place, element);
-    put_element(out, at, number, offset)
+    let next = start + 6;
+    if number != 0 {
+        let wrote = lines::put_refusal(out, at, number, offset);
+        return Reached { at: next, wrote };
+    }
+    let end = run_first(head, first, b, next);
+    Reached { at: end, wrote: at }
 }
 
-// 05, a reply element. It leaves the first elements as they are.
+// 05, a reply element, and behind an accepted one its run. They leave the first elements as they are.
 fn take_reply(
     head: Head,
     reply: &mut [u16; CELLS],
@@ -308,16 +408,22 @@ fn take_reply(
     offset: u64,
     out: &mut [u8],
     at: usize,
-) -> usize
+) -> Reached
     requires { ⌜ (at + room ≤ length (now out)) × Whole (now b) start × (getD (now b) start 0 ≡ 5) ⌝ }
-    ensures { λ r. ⌜ ((first : List ℕ) → Turns (record-at (now (b .entry)) start) offset
-        (lent head first (now (reply .entry))) (lent head first (now (reply .exit))) (now (out .entry)) (now (out .exit)) at r) ⌝ }
+    ensures { λ r. ⌜ ((first : List ℕ) → Takes (now (b .entry)) offset start (r .at)
+        (lent head first (now (reply .entry))) (lent head first (now (reply .exit))) (now (out .entry)) (now (out .exit)) at (r .wrote)) ⌝ }
 {
     let user = byte_at(b, start + 1);
     let block = byte_at(b, start + 2);
     let element = two_at(b, start + 3);
     let number = service::put_reply(head, reply, user, block, element);
-    put_element(out, at, number, offset)
+    let next = start + 5;
+    if number != 0 {
+        let wrote = lines::put_refusal(out, at, number, offset);
+        return Reached { at: next, wrote };
+    }
+    let end = run_reply(head, reply, b, next);
+    Reached { at: end, wrote: at }
 }
 
 // Why no record is taken at a place: the room for its lines is the last test.
@@ -367,13 +473,14 @@ fn feed_records(start: Service, b: &[u8], offset: u64, out: &mut [u8]) -> Fed
             return halt(state, reply, at, wrote, stop_at(b, at));
         }
         let here = offset + at as u64;
-        // an element's 6 or 5 bytes are written out, so that the next record need not wait for a length that is looked up
         if kind == 3 {
-            wrote = take_first(state.head, &mut state.first, b, at, here, out, wrote);
-            at += 6;
+            let reached = take_first(state.head, &mut state.first, b, at, here, out, wrote);
+            at = reached.at;
+            wrote = reached.wrote;
         } else if kind == 5 {
-            wrote = take_reply(state.head, &mut reply, b, at, here, out, wrote);
-            at += 5;
+            let reached = take_reply(state.head, &mut reply, b, at, here, out, wrote);
+            at = reached.at;
+            wrote = reached.wrote;
         } else {
             let head = state.head;
             let number = early_refusal(head, b, at);

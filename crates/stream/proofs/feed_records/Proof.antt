@@ -1,7 +1,8 @@
 -- `stream::feed_records` meets its contract: at each turn what fed answers from here on is its answer, and the lines of the bytes used are written.
 -- Assumes nothing.
-use mathlib.Core.Path.{sym, ap, _∙_}
+use mathlib.Core.Path.{sym, _∙_}
 use mathlib.Core.Logic.{inl, inr}
+use mathlib.Core.List.{[]}
 use Prim.Native.Nat.{_-_, _≤_}
 use native.Mathlib.Omega.{arith}
 use lib.ListN.{length}
@@ -9,9 +10,9 @@ use borrow.Author.Needs.{needs}
 use borrow.Author.Tests.{ltb-true, ltb-false}
 use Rattle.service.specs.Calls.{lent}
 use Rattle.lines.specs.Put.{room}
-use Rattle.stream.specs.Stream.{record-length, Other}
+use Rattle.stream.specs.Stream.{Other}
 use Rattle.stream.proofs.Early.{turn-early}
-use Rattle.stream.proofs.Feeding.{Ready, stop-used, Going, going-start, going-more, going-end}
+use Rattle.stream.proofs.Feeding.{Ready, stop-used, Going, going-start, going-more, going-end, going-takes, takes-onward}
 use Rattle.stream.proofs.feed_records.Statement.{statement}
 use Rattle.stream.proofs.feed_records.Tie as tie
 
@@ -119,36 +120,32 @@ add-here c = omega (arith, taken c .whole .inside)
 take-first-requires : tie.Need-take-first-requires Inv-loop μ-loop
 take-first-requires c κs = let test = from-first c in let r = taken (test .before) in (omega (arith, r .fits), r .whole, test .if4 .taken)
 
-add-at : tie.Need-add-at Inv-loop μ-loop
-add-at c = search needs
-
 loop-less : tie.Need-loop-less Inv-loop μ-loop
-loop-less c = omega (arith, taken (from-first (c .before .before .before) .before) .whole .inside)
+loop-less c =
+    let turn = c .before .before in
+    let top = from-first (turn .before) .before in
+    omega (arith, takes-onward (taken top .known) (turn .take-first .ensures []), taken top .whole .inside)
 
 loop-again : tie.Need-loop-again Inv-loop μ-loop
-unfolding record-length
 loop-again c =
     let turn = c .before .before in
-    let test = from-first (turn .before) in
-    let top = test .before in
-    going-more (at-loop (length-of top) .loop .inv) (taken top) (sym (ap record-length (test .if4 .taken))) (turn .take-first .ensures _)
+    let top = from-first (turn .before) .before in
+    going-takes (at-loop (length-of top) .loop .inv) (taken top) (turn .take-first .ensures _)
 
 take-reply-requires : tie.Need-take-reply-requires Inv-loop μ-loop
 take-reply-requires c κs = let test = from-reply c in let r = taken (test .before .before) in (omega (arith, r .fits), r .whole, test .if5 .taken)
 
-add-at-2 : tie.Need-add-at-2 Inv-loop μ-loop
-add-at-2 c = search needs
-
 loop-less-2 : tie.Need-loop-less-2 Inv-loop μ-loop
-loop-less-2 c = let test = from-reply (c .before .before .before) in omega (arith, taken (test .before .before) .whole .inside)
+loop-less-2 c =
+    let turn = c .before .before in
+    let top = from-reply (turn .before) .before .before in
+    omega (arith, takes-onward (taken top .known) (turn .take-reply .ensures []), taken top .whole .inside)
 
 loop-again-2 : tie.Need-loop-again-2 Inv-loop μ-loop
-unfolding record-length
 loop-again-2 c =
     let turn = c .before .before in
-    let test = from-reply (turn .before) in
-    let top = test .before .before in
-    going-more (at-loop (length-of top) .loop .inv) (taken top) (sym (ap record-length (test .if5 .taken))) (turn .take-reply .ensures _)
+    let top = from-reply (turn .before) .before .before in
+    going-takes (at-loop (length-of top) .loop .inv) (taken top) (turn .take-reply .ensures _)
 
 -- plan, open, close or finish
 other : (c : tie.Else5 Inv-loop μ-loop) → let n = length-of (c .before .before) in Other (start n .args .b .now) (at-loop n .loop .at)
@@ -160,8 +157,8 @@ early-refusal-requires c κs = other (c .before)
 put-refusal-requires : tie.Need-put-refusal-requires Inv-loop μ-loop
 put-refusal-requires c κs = omega (arith, taken (no-element (c .before .before)) .fits)
 
-add-at-3 : tie.Need-add-at-3 Inv-loop μ-loop
-add-at-3 c =
+add-at : tie.Need-add-at Inv-loop μ-loop
+add-at c =
     let top = from-early c in
     let n = length-of top in
     record { fits = omega (arith, taken top .whole .whole, n .record-length .ensures, start n .pre) }
@@ -181,8 +178,8 @@ loop-again-3 c =
 take-other-requires : tie.Need-take-other-requires Inv-loop μ-loop
 take-other-requires c κs = let early = to-other c in (omega (arith, taken (no-element early) .fits), other (early .before .before))
 
-add-at-4 : tie.Need-add-at-4 Inv-loop μ-loop
-add-at-4 c =
+add-at-2 : tie.Need-add-at-2 Inv-loop μ-loop
+add-at-2 c =
     let top = from-other c in
     let n = length-of top in
     record { fits = omega (arith, taken top .whole .whole, n .record-length .ensures, start n .pre) }
@@ -227,20 +224,18 @@ feed-records-spec =
     returns
     add-here
     take-first-requires
-    add-at
     loop-less
     loop-again
     take-reply-requires
-    add-at-2
     loop-less-2
     loop-again-2
     early-refusal-requires
     put-refusal-requires
-    add-at-3
+    add-at
     loop-less-3
     loop-again-3
     take-other-requires
-    add-at-4
+    add-at-2
     loop-less-4
     loop-again-4
     halt-requires-2

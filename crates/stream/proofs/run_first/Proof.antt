@@ -1,0 +1,198 @@
+-- `stream::run_first` meets its contract: each turn takes one record more in silence.
+-- Assumes nothing.
+use mathlib.Core.Path.{_≡_, sym, _∙_}
+use mathlib.Core.Logic.{⊎-elim}
+use mathlib.Core.List.{List}
+use Prim.Native.Nat.{ℕ, _+_, _-_, _≤_, _<_}
+use native.Mathlib.Omega.{arith}
+use lib.ListN.{length}
+use borrow.Author.Needs.{needs}
+use borrow.Author.Tests.{leb-false}
+use Rattle.scheme.specs.Limits.{most-places, firsts}
+use Rattle.scheme.specs.Scheme.{q}
+use Rattle.service.specs.View.{row-start}
+use Rattle.service.specs.Calls.{lent}
+use Rattle.stream.specs.Stream.{Silent-run, stays, goes-on}
+use Rattle.stream.proofs.Runs.{Row, row-new, row-kept, row-inside, comes, first-silent}
+use Rattle.stream.proofs.run_first.Statement.{statement}
+use Rattle.stream.proofs.run_first.Tie as tie
+
+abbrev Inv-loop : tie.InvT-loop
+Inv-loop head first₀ b start limit tag₀ row₀ at₀ first tag row at =
+    (at ≤ length b) × (tag < 65536 → Row 3 most-places (head .plan .users) tag row)
+    × ((reply : List ℕ) → Silent-run b start at (lent head first₀ reply) (lent head first reply))
+
+abbrev μ-loop : tie.MeasureT-loop
+μ-loop head first₀ b start limit tag₀ row₀ at₀ first tag row at = length b - at
+
+-- ---- places
+abbrev start : tie.At-loop Inv-loop μ-loop → tie.Start Inv-loop μ-loop
+start c = c .before .before .before .before
+
+abbrev turn : tie.After-two-at3 Inv-loop μ-loop → tie.Joined2 Inv-loop μ-loop
+turn c = c .before .before
+
+abbrev at-loop : tie.Joined2 Inv-loop μ-loop → tie.At-loop Inv-loop μ-loop
+at-loop c = c .before .before .before
+
+abbrev tested : tie.After-left-in Inv-loop μ-loop → tie.Else5 Inv-loop μ-loop
+tested c = c .before .before .before .before
+
+-- the row at hand is that of the record at hand
+same-tag : (c : tie.Joined2 Inv-loop μ-loop) → c .if2 .tag ≡ c .before .two-at .result
+same-tag c = ⊎-elim (λ w. w .4) (λ w. w .1 ∙ sym (w .0 .left)) (c .if2 .came)
+
+row : (c : tie.Joined2 Inv-loop μ-loop)
+    → Row 3 most-places (start (at-loop c) .args .head .plan .users) (c .before .two-at .result) (c .if2 .row)
+row c =
+    ⊎-elim (λ w. row-new (w .2 .left) (w .1 .ensures (w .2 .left)) (w .5 ∙ w .3 .ensures))
+    (λ w. row-kept (w .0 .left) (w .2) (at-loop c .loop .inv .1 (omega (arith, w .0 .left, c .before .two-at .ensures .1)))) (c .if2 .came)
+
+-- the place is inside the row, and the row inside the array
+inside : (c : tie.Else4 Inv-loop μ-loop) → turn (c .before) .if2 .row + c .before .before .two-at2 .result < firsts
+inside c =
+    let t = turn (c .before) in
+    let s = start (at-loop t) .args .head in
+    let h : row-start most-places (s .plan .users) + s .places ≤ firsts =
+    omega (arith, at-loop t .before .if1 .left, at-loop t .before .before .row-start .ensures) in
+    row-inside (row t) h (c .if4 .left)
+
+small : (c : tie.Else5 Inv-loop μ-loop) → c .before .before .two-at3 .result < q
+small c = leb-false _ _ (c .if5 .left)
+
+row-start-requires : tie.Need-row-start-requires Inv-loop μ-loop
+row-start-requires c κs = search needs
+
+cast-if1 : tie.Need-cast-if1 Inv-loop μ-loop
+cast-if1 c = search needs
+
+add-if1 : tie.Need-add-if1 Inv-loop μ-loop
+add-if1 c = omega (arith, c .row-start .ensures)
+
+returns : tie.Need-returns Inv-loop μ-loop
+returns c reply = stays _ _
+
+loop-holds : tie.Need-loop-holds Inv-loop μ-loop
+loop-holds c = (omega (arith, c .before .before .before .pre .0), λ l. absurd (omega arith), λ reply. stays _ _)
+
+sub-loop : tie.Need-sub-loop Inv-loop μ-loop
+sub-loop c = search needs
+
+two-at-requires : tie.Need-two-at-requires Inv-loop μ-loop
+two-at-requires c κs = omega (arith, c .loop-test .taken)
+
+sender-requires : tie.Need-sender-requires Inv-loop μ-loop
+sender-requires c κs = search needs
+
+returns-2 : tie.Need-returns-2 Inv-loop μ-loop
+returns-2 c reply = c .before .before .before .before .before .loop .inv .2 reply
+
+row-start-requires-2 : tie.Need-row-start-requires-2 Inv-loop μ-loop
+row-start-requires-2 c κs = (omega (arith, c .if3 .left), omega arith)
+
+add-two-at : tie.Need-add-two-at Inv-loop μ-loop
+add-two-at c = search needs
+
+two-at-requires-2 : tie.Need-two-at-requires-2 Inv-loop μ-loop
+two-at-requires-2 c κs = omega (arith, c .before .before .loop-test .taken)
+
+add-two-at-2 : tie.Need-add-two-at-2 Inv-loop μ-loop
+add-two-at-2 c = search needs
+
+two-at-requires-3 : tie.Need-two-at-requires-3 Inv-loop μ-loop
+two-at-requires-3 c κs = omega (arith, c .before .before .before .loop-test .taken)
+
+returns-3 : tie.Need-returns-3 Inv-loop μ-loop
+returns-3 c reply = at-loop (turn (c .before)) .loop .inv .2 reply
+
+cast-i : tie.Need-cast-i Inv-loop μ-loop
+cast-i c = search needs
+
+add-i : tie.Need-add-i Inv-loop μ-loop
+add-i c = omega (arith, inside (c .before .before))
+
+cast-held-as : tie.Need-cast-held-as Inv-loop μ-loop
+cast-held-as c = omega (arith, small (c .before))
+
+held-as-requires : tie.Need-held-as-requires Inv-loop μ-loop
+held-as-requires c κs = small (c .before)
+
+mul-left-in : tie.Need-mul-left-in Inv-loop μ-loop
+mul-left-in c = omega (arith, inside (c .before .before .before))
+
+element-copy-out-left-in : tie.Need-element-copy-out-left-in Inv-loop μ-loop
+element-copy-out-left-in c = inside (c .before .before .before)
+
+left-in-requires : tie.Need-left-in-requires Inv-loop μ-loop
+left-in-requires c κs = search needs
+
+returns-4 : tie.Need-returns-4 Inv-loop μ-loop
+returns-4 c reply = at-loop (turn (tested (c .before) .before .before)) .loop .inv .2 reply
+
+mul-first : tie.Need-mul-first Inv-loop μ-loop
+mul-first c = omega (arith, inside (tested (c .before) .before))
+
+element-write-first : tie.Need-element-write-first Inv-loop μ-loop
+element-write-first c = inside (tested (c .before) .before)
+
+add-at : tie.Need-add-at Inv-loop μ-loop
+add-at c = search needs
+
+loop-less : tie.Need-loop-less Inv-loop μ-loop
+loop-less c = omega (arith, at-loop (turn (tested (c .before) .before .before)) .loop .inv .0)
+
+loop-again : tie.Need-loop-again Inv-loop μ-loop
+loop-again c =
+    let left = c .before in
+    let test = tested left in
+    let place = test .before .before .before in
+    let t = place .before in
+    let l = at-loop t in
+    let read = t .before .two-at .ensures in
+    let whole : l .loop .at + 6 ≤ length (start l .args .b .now) = omega (arith, t .before .before .loop-test .taken) in
+    let new =
+    comes (row t) (read .2) (read .3) (place .two-at2 .ensures .0) (test .before .before .two-at3 .ensures .0) whole (test .before .if4 .left) (small test)
+    (left .before .before .held-as .ensures) (left .left-in .ensures) (c .if6 .left) in (
+      whole,
+      λ h. rw (same-tag t) (row t),
+      λ reply. goes-on _ _ _ _ _ _ (l .loop .inv .2 reply) (first-silent (start l .pre .1) new (inside (test .before)) reply),
+    )
+
+returns-5 : tie.Need-returns-5 Inv-loop μ-loop
+returns-5 c reply = c .before .loop .inv .2 reply
+
+pub run-first-spec : {M : Type 1} → statement M
+run-first-spec =
+    tie.close
+    (tie.spec
+    Inv-loop
+    μ-loop
+    row-start-requires
+    cast-if1
+    add-if1
+    returns
+    loop-holds
+    sub-loop
+    two-at-requires
+    sender-requires
+    returns-2
+    row-start-requires-2
+    add-two-at
+    two-at-requires-2
+    add-two-at-2
+    two-at-requires-3
+    returns-3
+    cast-i
+    add-i
+    cast-held-as
+    held-as-requires
+    mul-left-in
+    element-copy-out-left-in
+    left-in-requires
+    returns-4
+    mul-first
+    element-write-first
+    add-at
+    loop-less
+    loop-again
+    returns-5)
