@@ -1,18 +1,26 @@
 // Elements of document 01: whole numbers modulo 65521, held in 16 bits.
 //   Q                         the modulus; in 16 bits Q16, one past LAST; OVER, by which WORD is more
-//   add, multiply             of two elements; of any two 16-bit numbers, through wider integers
+//   add, subtract, over_if    of two elements; OVER where a test holds
+//   multiply                  of any two 16-bit numbers, through wider integers
 //   reduce, folded            n % Q and a product without a division
+//   Scale, scale_of           a factor for many products in 16 bits
+//   add_scaled                a sum plus such a product
+//   high_half, low_half       of a product
 //   inverse_of, coefficient   the inverses of the numbers below points
 //   past, all_within          how far a number is past the most; that no number of a list is
 //   excess, all_elements      the same of the last element: test 3 of document 01
 //   far, all_near             0 of an element no further than the most from zero, up or down; that all of a list are such elements
 ghost use mathlib.Core.Path.{_≡_};
+ghost use mathlib.Core.Bool.{cond};
 ghost use lib.Dec.{eqb};
-ghost use Prim.Native.Nat.{_+_, _-_, _*_, _%_, _≤_, _<_};
+ghost use Prim.Native.Nat.{ℕ, _+_, _-_, _*_, _/_, _%_, _≤_, _<_};
 ghost use Rattle.algebra.specs.Residue.{inverse};
 ghost use Rattle.scheme.specs.Limits.{points};
 ghost use Rattle.scheme.specs.Scheme.{q, sixteen, elements, within, is-near, near};
 ghost use Rattle.element.specs.Fold.{word, fold, most-folded, reducible};
+ghost use Rattle.element.specs.Halves.{Scales};
+use std::num::wrapping_add_u16;
+use std::num::wrapping_sub_u16;
 
 pub const Q: u32 = 65521;
 
@@ -26,16 +34,34 @@ const WORD: u32 = 65536;
 
 const OVER: u32 = WORD - Q;
 
-// Of two elements, all in 16 bits, so that many are added at a time.
+const OVER16: u16 = OVER as u16;
+
+// The inverse of Q modulo WORD.
+const INVERSE: u16 = 4369;
+
+// Of two elements, all in 16 bits, so that many are added at a time. Where the sum passes Q, OVER more makes it wrap.
 pub fn add(a: u16, b: u16) -> u16
     requires { ⌜ (a < q) × (b < q) ⌝ }
     ensures { λ r. ⌜ r ≡ sixteen .add a b ⌝ }
 {
-    let rest = Q16 - b;
-    if a < rest {
-        return a + b;
+    wrapping_add_u16(wrapping_add_u16(a, b), over_if(Q16 - b <= a))
+}
+
+// The same of the difference, which wraps below zero.
+pub fn subtract(a: u16, b: u16) -> u16
+    requires { ⌜ (a < q) × (b < q) ⌝ }
+    ensures { λ r. ⌜ r ≡ sixteen .subtract a b ⌝ }
+{
+    wrapping_sub_u16(wrapping_sub_u16(a, b), over_if(a < b))
+}
+
+fn over_if(test: bool) -> u16
+    ensures { λ r. ⌜ r ≡ cond test (word - q) 0 ⌝ }
+{
+    if test {
+        return OVER16;
     }
-    a - rest
+    0
 }
 
 pub fn multiply(a: u16, b: u16) -> u16
@@ -62,6 +88,47 @@ pub fn folded(a: u16, b: u16) -> u32
 {
     let n = a as u32 * b as u32;
     n % WORD + n / WORD * OVER
+}
+
+// A factor a, prepared for many products in 16 bits: `by` is a * WORD modulo Q, and Q * key is `by` modulo WORD.
+pub struct Scale {
+    pub by: u16,
+    pub key: u16,
+}
+
+pub fn scale_of(a: u16) -> Scale
+    ensures { λ r. ⌜ Scales word q a (r .by) (r .key) ⌝ }
+{
+    let by = multiply(a, OVER16);
+    Scale {
+        by,
+        key: low_half(by, INVERSE),
+    }
+}
+
+// A sum plus a product, reduced, without a wider division: the low halves of x * by and of Q * (x * key) are the same, and the difference of the
+// high ones is a * x modulo Q.
+pub fn add_scaled(sum: u16, x: u16, s: Scale) -> u16
+    requires { ⌜ (sum < q) × (s .by < q) ⌝ }
+    ensures small { λ r. ⌜ r < q ⌝ }
+    ensures right { λ r. ⌜ ((a : ℕ) → Scales word q a (s .by) (s .key) → r ≡ sixteen .add sum (sixteen .multiply a x)) ⌝ }
+{
+    subtract(
+        add(sum, high_half(x, s.by)),
+        high_half(low_half(x, s.key), Q16),
+    )
+}
+
+fn high_half(a: u16, b: u16) -> u16
+    ensures { λ r. ⌜ r ≡ a * b / word ⌝ }
+{
+    (a as u32 * b as u32 / WORD) as u16
+}
+
+fn low_half(a: u16, b: u16) -> u16
+    ensures { λ r. ⌜ r ≡ a * b % word ⌝ }
+{
+    (a as u32 * b as u32 % WORD) as u16
 }
 
 // The inverses of the numbers below points modulo Q, and at 0, which has none, the 1 that the definition gives. The compiler makes a table of the arms;
