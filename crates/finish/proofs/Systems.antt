@@ -18,7 +18,7 @@ use Rattle.scheme.specs.Lists.{span, filled}
 use Rattle.scheme.specs.Scheme.{Arithmetic, elements, Plan, in-set, users-in, row-value}
 use Rattle.scheme.specs.Laws.{Laws}
 use Rattle.scheme.specs.Good.{Good}
-use Rattle.scheme.specs.Solve.{Points, Square, solution-of, value-of, cell, block, unknowns-of, row-fits}
+use Rattle.scheme.specs.Solve.{Points, Square, solution-of, unknown-at, value-of, cell, block, unknowns-of, row-fits}
 use Rattle.scheme.proofs.Lists.{span-in, in-span, in-members, all-of-in, at-all-of, in-at}
 use Rattle.scheme.proofs.Sums.{zero-small}
 use Rattle.scheme.proofs.Sets.{users-in-in}
@@ -32,7 +32,7 @@ use Rattle.scheme.proofs.Solving.Closed.{points-some, unknowns-at}
 use Rattle.scheme.proofs.Solving.Explains.{Block, row-told, explains-first}
 use Rattle.service.specs.View.{held-in}
 use Rattle.finish.specs.Finish.{columns, all-elements}
-use Rattle.finish.specs.Parts.{row-reply, reply-grid, row-before, Listed}
+use Rattle.finish.specs.Parts.{row-reply, reply-grid, row-before, Listed, solution-fits}
 use Rattle.finish.specs.declared.Users.{Users}
 use Rattle.finish.proofs.Turns.{row-reply-inside, row-reply-behind}
 use Rattle.finish.proofs.Blocks.{column-at, columns-points, listed-at, listed-points}
@@ -130,7 +130,10 @@ module _ (A : Arithmetic) (L : Laws A most-users most-threshold) (p : Plan) (goo
         ltb-true _ _ (all-of-in _ (span (p .blocks) 0) (all-of-in _ (users-in p r) e _ (in-members (in-set r) (p .users) 1 _ (s .0) (omega arith) (s .2)))
         b (in-span (p .blocks) 0 b (omega arith) (omega arith))))
 
-    module _ (ok : elements A vs ≡ true) (many : p .threshold ≤ m) (ws : List ℕ) (w : ws ≡ unknowns-of A L rs columns vs (p .threshold)) where
+    module _ (ok : elements A vs ≡ true) (many : p .threshold ≤ m) where
+      abbrev ws : List ℕ
+      ws = unknowns-of A L rs columns vs n n
+
       abbrev solved : (block : ℕ) → List ℕ
       solved b = solution-of A L rs columns (block vs b) n
 
@@ -146,7 +149,7 @@ module _ (A : Arithmetic) (L : Laws A most-users most-threshold) (p : Plan) (goo
       unknown-cell : (i b : ℕ) → i < n → b < p .blocks → cell ws i b ≡ getD (solved b) i 0
       unfolding solution-of
       unknown-cell i b l k =
-          ap (λ (u : List ℕ). cell u i b) w ∙ unknowns-at A L rs columns n vs i b l (omega (arith, good .blocks-high)) ∙ sym (filled-at most-users _ n i l)
+          unknowns-at A L rs columns n vs n i b l (omega (arith, good .blocks-high)) ∙ sym (filled-at most-users _ n i l)
 
       row-value-at : (a b : ℕ) → a < m → b < p .blocks
           → row-value A n (getD rs a 0) (unknown (take n (solved b))) ≡ value-of A (getD rs a 0) columns (block ws b) n
@@ -155,8 +158,8 @@ module _ (A : Arithmetic) (L : Laws A most-users most-threshold) (p : Plan) (goo
           ∙ weighed-same A _ n (λ i j. sym (block-at ws b i (omega (arith, threshold-few)) ∙ unknown-cell i b j k))
 
       pub a-turn : Turn A p r (held-in most-blocks ys) rs m (λ b. take (p .threshold) (solution-of A L rs columns (block vs b) (p .threshold)))
-          (row-fits A rs columns vs ws (p .threshold) (p .blocks))
-      unfolding row-fits
+          (solution-fits A L p rs vs)
+      unfolding solution-fits row-fits
       a-turn = record {
         rows = rows;
         many = many;
@@ -169,5 +172,6 @@ module _ (A : Arithmetic) (L : Laws A most-users most-threshold) (p : Plan) (goo
       }
 
       pub cell-right : (i b : ℕ) → i < p .threshold → b < p .blocks
-          → cell ws i b ≡ getD (take (p .threshold) (solution-of A L rs columns (block vs b) (p .threshold))) i 0
-      cell-right i b l k = unknown-cell i b l k ∙ sym (getD-take n (solved b) i 0 l)
+          → unknown-at A L rs columns (block vs b) (p .threshold) i ≡ getD (take (p .threshold) (solution-of A L rs columns (block vs b) (p .threshold))) i 0
+      unfolding solution-of
+      cell-right i b l k = sym (getD-take n (solved b) i 0 l ∙ filled-at most-users _ n i l)

@@ -54,13 +54,13 @@ module _ (A : Arithmetic) (xs ws : List ℕ) (n m : ℕ) where
         let e : b ≡ m = omega (arith, s .inside) in
         s .written ∙ ap (λ (k : ℕ). filled most-places k (place-total A xs ws n)) (s .place ∙ ap (λ (k : ℕ). k * n) e)
 
-pub totals-same : (q : ℕ) (p : Plan) (v : ℕ) (xs rs sums ws : List ℕ) (k : ℕ) (choice : (block : ℕ) → List ℕ) → items p ≤ p .threshold
+pub totals-same : (q : ℕ) (p : Plan) (v : ℕ) (xs rs sums ws : List ℕ) (k : ℕ) (choice : (block : ℕ) → List ℕ)
     → rs ≡ rows-of p v → k ≡ length (users-in p v) → First-sums q xs rs k (places p) sums
-    → ((i b : ℕ) → i < p .threshold → b < p .blocks → cell ws i b ≡ getD (choice b) i 0)
+    → ((i b : ℕ) → i < items p → b < p .blocks → cell ws i b ≡ getD (choice b) i 0)
     → filled most-places (p .blocks * items p) (place-total (modular q) sums ws (items p))
     ≡ padded most-places (totals (modular q) p v (held-in most-places xs) choice)
 unfolding filled totals total-of place-total first-sum rows-of places
-totals-same q p v xs rs sums ws k choice few e d s u =
+totals-same q p v xs rs sums ws k choice e d s u =
     ap (padded most-places) (map-same _ _ (span (places p) 0) (λ i m.
     let l : i < p .blocks * items p = omega (arith, span-in (places p) 0 i m .1) in
     let some : 0 < items p = lt-of-mul-lt-mul-left (p .blocks) (omega (arith, mul-zero (p .blocks))) in

@@ -2,32 +2,34 @@
 --   Listed                               the users of a set
 --   row-reply, reply-grid                the reply of a row in a block, and 0 from M on; of all rows
 --   row-before                           where a row of the next turn stood: the last n come first, and the others behind them
+--   Needed                               how many unknowns a turn needs: those of the totals, and where there are further rows all
 --   most-sum, At-most                    of a sum of a number of 16 bits for each user; bounds of a list
 --   raised, first-sum, First-sums        a sum and one element more; the sum of the first elements of a place; of each place, not reduced
 --   block-total, place-total             a total: by its block and item, by its place
 -- Over an arithmetic with its laws:
---   Rows-solved                          the closed solution of the first U rows, and the first two further rows that do not fit
+--   solution-fits                        whether a row has the values that follow from the closed solution of the first U rows
+--   Rows-solved                          of the closed solution of the first U rows the unknowns that are needed, and the first two further
+--                                        rows that it does not fit
 --   Explained-right                      what settles the replies of a set
 --   Totalled, Answered                   the numbers and the totals: of a set of complete replies, of a state
 -- Assumes nothing: these are definitions.
 use mathlib.Core.Path.{_≡_}
-use mathlib.Core.Bool.{cond, _&&_}
+use mathlib.Core.Bool.{Bool, cond, _&&_}
 use mathlib.Core.List.{List}
 use Prim.Native.Nat.{ℕ, _+_, _*_, _-_, _/_, _%_, _≤_, _<_}
 use lib.Dec.{ltb}
 use lib.ListN.{length, getD, replicate}
 use Rattle.scheme.specs.Limits.{most-users, most-threshold, most-blocks, most-places}
 use Rattle.scheme.specs.Lists.{span, padded}
-use Rattle.scheme.specs.Scheme.{Arithmetic, modular, sum, Plan, users-in, unless, after}
+use Rattle.scheme.specs.Scheme.{Arithmetic, modular, sum, Plan, items, users-in, unless, after}
 use Rattle.scheme.specs.Laws.{Laws}
-use Rattle.scheme.specs.Solve.{cell, grid, unknowns-of, row-fits, First-misfit}
+use Rattle.scheme.specs.Solve.{cell, grid, block, unknown-at, unknowns-of, row-fits, First-misfit}
 use Rattle.scheme.specs.Totals.{totals}
 use Rattle.element.specs.Fold.{most-word}
 use Rattle.service.specs.declared.Service.{Service}
 use Rattle.service.specs.View.{held-in}
 use Rattle.finish.specs.declared.Users.{Users}
-use Rattle.finish.specs.declared.Solved.{Solved}
-use Rattle.finish.specs.declared.Explained.{Explained}
+use Rattle.finish.specs.declared.Misfits.{Misfits}
 use Rattle.finish.specs.declared.Numbers.{Numbers}
 use Rattle.finish.specs.Finish.{rows-of, columns, choice-of, aside-of, heard, all-elements, is-settled, finish-refusal, finish-answer}
 
@@ -43,6 +45,11 @@ reply-grid ys rs n m = grid n (row-reply ys rs m)
 
 unfoldable pub row-before : (n m at : ℕ) → ℕ
 row-before n m i = cond (ltb i n) (i + (m - n)) (i - n)
+
+pub record Needed (p : Plan) (m k : ℕ) : Type 0 where
+  pub low : items p ≤ k
+  pub high : k ≤ p .threshold
+  pub all : p .threshold < m → k ≡ p .threshold
 
 -- ---- sums that are not reduced
 abbrev pub most-sum : ℕ
@@ -74,18 +81,21 @@ place-total A xs ws n i = A .subtract (getD xs i 0) (cell ws (i % n) (i / n))
 
 -- ---- what settles the replies
 module _ (A : Arithmetic) (L : Laws A most-users most-threshold) where
-  -- of m rows with their values
-  pub record Rows-solved (p : Plan) (rows values : List ℕ) (m : ℕ) (s : Solved) : Type 0 where
-    pub unknowns-right : s .unknowns ≡ unknowns-of A L rows columns values (p .threshold)
-    pub first-right : First-misfit (row-fits A rows columns values (s .unknowns) (p .threshold) (p .blocks)) (p .threshold) m (s .first)
-    pub second-right : s .first < m
-        → First-misfit (row-fits A rows columns values (s .unknowns) (p .threshold) (p .blocks)) (s .first + 1) m (s .second)
+  -- whether a row has the values that follow from all unknowns
+  unfoldable pub solution-fits : Plan → (rows values : List ℕ) → (a : ℕ) → Bool
+  solution-fits p rs vs = row-fits A rs columns vs (unknowns-of A L rs columns vs (p .threshold) (p .threshold)) (p .threshold) (p .blocks)
 
-  pub record Explained-right (p : Plan) (r : ℕ) (reply : List ℕ) (e : Explained) : Type 0 where
-    pub number-right : let y = held-in most-blocks reply in e .number ≡ unless (all-elements A p r y && is-settled A L p r y) 16
-    pub aside-right : e .aside ≡ after (e .number) (aside-of A L p r (held-in most-blocks reply)) 0
-    pub unknowns-right : e .number ≡ 0 → (i b : ℕ) → i < p .threshold → b < p .blocks
-        → cell (e .unknowns) i b ≡ getD (choice-of A L p (heard A L p r (held-in most-blocks reply)) (held-in most-blocks reply) b) i 0
+  -- of m rows with their values
+  pub record Rows-solved (p : Plan) (rows values : List ℕ) (m : ℕ) (s : Misfits) (unknowns : List ℕ) : Type 0 where
+    pub unknowns-right : (i b : ℕ) → i < items p → b < p .blocks → cell unknowns i b ≡ unknown-at A L rows columns (block values b) (p .threshold) i
+    pub first-right : First-misfit (solution-fits p rows values) (p .threshold) m (s .first)
+    pub second-right : s .first < m → First-misfit (solution-fits p rows values) (s .first + 1) m (s .second)
+
+  pub record Explained-right (p : Plan) (r : ℕ) (reply : List ℕ) (n : Numbers) (unknowns : List ℕ) : Type 0 where
+    pub number-right : let y = held-in most-blocks reply in n .number ≡ unless (all-elements A p r y && is-settled A L p r y) 16
+    pub aside-right : n .aside ≡ after (n .number) (aside-of A L p r (held-in most-blocks reply)) 0
+    pub unknowns-right : n .number ≡ 0 → (i b : ℕ) → i < items p → b < p .blocks
+        → cell unknowns i b ≡ getD (choice-of A L p (heard A L p r (held-in most-blocks reply)) (held-in most-blocks reply) b) i 0
 
   pub record Totalled (p : Plan) (r v : ℕ) (first reply : List ℕ) (n : Numbers) (out : List ℕ) : Type 0 where
     pub number-right : let y = held-in most-blocks reply in n .number ≡ unless (all-elements A p r y && is-settled A L p r y) 16

@@ -2,13 +2,13 @@
 //   Users, users_of                           the users of a set, in a place each
 //   the_columns                               the points of the columns
 //   put_held, gather                          the replies of all blocks, in the order of the rows
-//   Solved, solve_rows                        a turn of the search: U rows solved, and the further ones compared
+//   Misfits, needed, solve_rows               a turn of the search: U rows solved, and the further ones compared
 //   row_before, turned                        the rows of the next turn
-//   Explained, unexplained, explain           the sums and noise that explain the replies, and the user set aside
+//   Numbers, refused                          a refusal's number, and the user set aside
+//   explain                                   these, and the sums and noise that explain the replies
 //   add_first, no_sums, first_sums            the sum of the first elements of each place
 //   total, put_block_totals, put_all_totals   the totals: of a place, of a block, of all blocks
-//   Numbers, refused                          a refusal's number, and the user set aside
-//   put_explained_totals, put_state_totals    these and the totals: of a set, 0 or 16; of a state, 11, 12, 15 too
+//   put_explained_totals, put_state_totals    the numbers and the totals: of a set, 0 or 16; of a state, 11, 12, 15 too
 //   no_totals, idle                           what stands in the places before; the head after a finish
 //   FinishedHead, finish_lent                 the call on lent arrays
 //   Finished, finish                          the call with the state
@@ -29,7 +29,7 @@ ghost use Rattle.plan.specs.Plan.{plan-of};
 ghost use Rattle.service.specs.Calls.{lent};
 ghost use Rattle.solve.specs.Solve.{laws16};
 ghost use Rattle.finish.specs.Finish.{columns, finished, finishing, finish-step};
-ghost use Rattle.finish.specs.Parts.{Listed, reply-grid, row-before, Rows-solved, Explained-right, most-sum, At-most, raised, First-sums, block-total, place-total, Totalled, Answered};
+ghost use Rattle.finish.specs.Parts.{Listed, reply-grid, row-before, Needed, Rows-solved, Explained-right, most-sum, At-most, raised, First-sums, block-total, place-total, Totalled, Answered};
 use plan::BLOCKS;
 use plan::CELLS;
 use plan::FIRSTS;
@@ -100,38 +100,49 @@ fn gather(reply: &[u16; CELLS], rows: &[u32; USERS], count: usize, blocks: usize
     out
 }
 
-// The unknowns of the first U rows, and the first two of the further rows that do not fit: the count of rows for none.
-struct Solved {
-    unknowns: [u16; CELLS],
+// The first two of the further rows that do not fit: the count of rows for none.
+struct Misfits {
     first: usize,
     second: usize,
 }
 
-fn solve_rows(plan: Plan, rows: &[u32; USERS], values: &[u16; CELLS], count: usize) -> Solved
+// How many unknowns a turn needs: all where it has further rows, and else those of the totals.
+fn needed(plan: Plan, count: usize) -> usize
+    requires { ⌜ plan .collusion ≤ plan .threshold ⌝ }
+    ensures { λ r. ⌜ Needed (plan-of plan) count r ⌝ }
+{
+    let n = plan.threshold as usize;
+    if n < count {
+        return n;
+    }
+    (plan.threshold - plan.collusion) as usize
+}
+
+// The unknowns of the first U rows that are needed, and which further rows do not fit.
+fn solve_rows(
+    plan: Plan,
+    rows: &[u32; USERS],
+    values: &[u16; CELLS],
+    count: usize,
+    unknowns: &mut [u16; CELLS],
+) -> Misfits
     requires { ⌜ Good (plan-of plan) × (plan .threshold ≤ count) × (count ≤ most-users) × Points most-users count (now rows) ⌝ }
-    ensures { λ r. ⌜ Rows-solved sixteen laws16 (plan-of plan) (now (rows .entry)) (now (values .entry)) count r ⌝ }
+    ensures { λ r. ⌜ Rows-solved sixteen laws16 (plan-of plan) (now (rows .entry)) (now (values .entry)) count r (now (unknowns .exit)) ⌝ }
 {
     let n = plan.threshold as usize;
     let blocks = plan.blocks as usize;
     let columns = the_columns();
-    let alpha = solve::weights(rows, &columns, n);
-    let beta = solve::weights(&columns, rows, n);
-    let unknowns = solve::solve(rows, &columns, &alpha, &beta, values, n);
-    let first = solve::misfit(rows, &columns, values, &unknowns, n, n, count, blocks);
+    solve::solve(rows, &columns, values, n, needed(plan, count), unknowns);
+    let first = solve::misfit(rows, &columns, values, unknowns, n, n, count, blocks);
     if first == count {
-        return Solved {
-            unknowns,
+        return Misfits {
             first,
             second: first,
         };
     }
     let next = first + 1;
-    let second = solve::misfit(rows, &columns, values, &unknowns, n, next, count, blocks);
-    Solved {
-        unknowns,
-        first,
-        second,
-    }
+    let second = solve::misfit(rows, &columns, values, unknowns, n, next, count, blocks);
+    Misfits { first, second }
 }
 
 // Where a row of the next turn stood: the last n rows come first and are solved, and the others go behind them and are compared, so that the
@@ -159,30 +170,24 @@ fn turned(rows: &[u32; USERS], n: usize, count: usize) -> [u32; USERS]
     out
 }
 
-// 0, the user set aside, 0 if none, and what explains the other replies; or 16.
-struct Explained {
+// A refusal's number, or 0 and the user set aside, 0 if none.
+struct Numbers {
     number: u32,
     aside: u32,
-    unknowns: [u16; CELLS],
 }
 
-fn unexplained() -> Explained
-    ensures { λ r. ⌜ (r .number ≡ 16) × (r .aside ≡ 0) ⌝ }
+fn refused(number: u32) -> Numbers
+    ensures { λ r. ⌜ (r .number ≡ number) × (r .aside ≡ 0) ⌝ }
 {
-    let unknowns = solve::no_cells();
-    Explained {
-        number: 16,
-        aside: 0,
-        unknowns,
-    }
+    Numbers { number, aside: 0 }
 }
 
 // The sums and noise of each block that explain the replies of a set, or those of all of its users but one. A further row that alone does
 // not fit is set aside; where two do not, none of the further rows is the one, and the next turn has others. Nothing explains a reply that
 // is no element; no state that calls make has one.
-fn explain(plan: Plan, set: u32, reply: &[u16; CELLS]) -> Explained
+fn explain(plan: Plan, set: u32, reply: &[u16; CELLS], unknowns: &mut [u16; CELLS]) -> Numbers
     requires { ⌜ Good (plan-of plan) × (plan .threshold ≤ ones (plan .users) set) ⌝ }
-    ensures { λ r. ⌜ Explained-right sixteen laws16 (plan-of plan) set (now (reply .entry)) r ⌝ }
+    ensures { λ r. ⌜ Explained-right sixteen laws16 (plan-of plan) set (now (reply .entry)) r (now (unknowns .exit)) ⌝ }
 {
     let users = users_of(plan, set);
     let count = users.count;
@@ -191,35 +196,32 @@ fn explain(plan: Plan, set: u32, reply: &[u16; CELLS]) -> Explained
     let mut rows = users.list;
     let mut values = gather(reply, &rows, count, blocks);
     if !element::all_elements(&values) {
-        return unexplained();
+        return refused(16);
     }
     let mut cleared = 0;
     while cleared < count {
-        let solved = solve_rows(plan, &rows, &values, count);
-        let unknowns = solved.unknowns;
-        let odd = solved.first;
+        let misfits = solve_rows(plan, &rows, &values, count, unknowns);
+        let odd = misfits.first;
         if odd == count {
-            return Explained {
+            return Numbers {
                 number: 0,
                 aside: 0,
-                unknowns,
             };
         }
         if count - n < 2 {
-            return unexplained();
+            return refused(16);
         }
-        if solved.second == count {
-            return Explained {
+        if misfits.second == count {
+            return Numbers {
                 number: 0,
                 aside: rows[odd],
-                unknowns,
             };
         }
         rows = turned(&rows, n, count);
         values = gather(reply, &rows, count, blocks);
         cleared += count - n;
     }
-    unexplained()
+    refused(16)
 }
 
 // Adds a user's first elements, which stand from `from` on.
@@ -313,12 +315,6 @@ fn put_all_totals(
     }
 }
 
-// A refusal's number, or 0 and the user set aside, 0 if none.
-struct Numbers {
-    number: u32,
-    aside: u32,
-}
-
 // From a set of at least U complete replies: 0, the user set aside and the totals, or 16.
 fn put_explained_totals<'a>(
     plan: Plan,
@@ -331,25 +327,19 @@ fn put_explained_totals<'a>(
     requires { ⌜ Good (plan-of plan) × (plan .threshold ≤ ones (plan .users) set) × (now out ≡ replicate most-places 0) ⌝ }
     ensures { λ r. ⌜ Totalled sixteen laws16 (plan-of plan) set survivors (now (first .entry)) (now (reply .entry)) r (now (out .exit)) ⌝ }
 {
-    let explained = explain(plan, set, reply);
+    let mut unknowns = solve::no_cells();
+    let explained = explain(plan, set, reply, &mut unknowns);
     let number = explained.number;
     let aside = explained.aside;
     if number != 0 {
         return Numbers { number, aside };
     }
-    let unknowns = explained.unknowns;
     let users = users_of(plan, survivors);
     let rows = users.list;
     let sums = first_sums(first, &rows, users.count, plan::places_of(plan));
     let items = (plan.threshold - plan.collusion) as usize;
     put_all_totals(&sums, &unknowns, items, plan.blocks as usize, out);
     Numbers { number, aside }
-}
-
-fn refused(number: u32) -> Numbers
-    ensures { λ r. ⌜ (r .number ≡ number) × (r .aside ≡ 0) ⌝ }
-{
-    Numbers { number, aside: 0 }
 }
 
 // What finish answers of a state whose arrays are lent. The plan's test never acts on a state that calls make.

@@ -8,7 +8,7 @@
 --   row-weight .. column-weights                the weights of algebra's closed solution
 --   Weighted                   a system with its weights
 --   unknown-at, solution-of    algebra's closed solution
---   unknowns-of                the unknowns of every block
+--   unknowns-of                the first k unknowns of every block
 -- Modulo q, as code computes it:
 --   gap-between, gap-entry     1 / (x - y), and 1 where they are the same; by most-threshold + x - y
 --   inverse-at                 what the value of a row counts for an unknown
@@ -101,8 +101,8 @@ module _ (A : Arithmetic) (L : Laws A most-users most-threshold) where
   unfoldable pub solution-of : (rows columns values : List ℕ) → (n : ℕ) → List ℕ
   solution-of rs cs vs n = filled most-users n (unknown-at rs cs vs n)
 
-  unfoldable pub unknowns-of : (rows columns values : List ℕ) → (n : ℕ) → List ℕ
-  unknowns-of rs cs vs n = grid n (λ i b. unknown-at rs cs (block vs b) n i)
+  unfoldable pub unknowns-of : (rows columns values : List ℕ) → (n k : ℕ) → List ℕ
+  unknowns-of rs cs vs n k = grid k (λ i b. unknown-at rs cs (block vs b) n i)
 
 -- ---- MODULO q, AS CODE COMPUTES IT
 unfoldable pub gap-between : (q x y : ℕ) → ℕ

@@ -17,7 +17,7 @@ ghost use Rattle.scheme.specs.Limits.{most-users, most-threshold, most-blocks, 
 ghost use Rattle.scheme.specs.Lists.{span, all-of, filled};
 ghost use Rattle.scheme.specs.Scheme.{q, sixteen};
 ghost use Rattle.scheme.specs.Weighed.{weighed, Unreduced};
-ghost use Rattle.scheme.specs.Solve.{Points, Weighted, cell, row-weight, row-weights, column-weights, unknowns-of, row-fits, First-misfit, gap-between, gap-entry, inverse-at, Sums-low, Factors};
+ghost use Rattle.scheme.specs.Solve.{Points, Square, cell, row-weight, row-weights, column-weights, unknowns-of, row-fits, First-misfit, gap-between, gap-entry, inverse-at, Sums-low, Factors};
 ghost use Rattle.element.specs.Fold.{most-folded};
 ghost use Rattle.solve.specs.Solve.{laws16};
 use plan::BLOCKS;
@@ -79,7 +79,7 @@ fn weight_of(own: &[u32; USERS], other: &[u32; USERS], n: usize, at: usize) -> u
 }
 
 // The weights of the rows, `own`; those of the columns, where `other` are the rows: modulo q both have their number as point.
-pub fn weights(own: &[u32; USERS], other: &[u32; USERS], n: usize) -> [u16; USERS]
+fn weights(own: &[u32; USERS], other: &[u32; USERS], n: usize) -> [u16; USERS]
     requires { ⌜ (n ≤ most-users) × Points most-users n (now own) × Points most-users n (now other) ⌝ }
     ensures { λ r. ⌜ (r ≡ row-weights sixteen laws16 (now (own .entry)) (now (other .entry)) n)
         × (r ≡ column-weights sixteen laws16 (now (other .entry)) (now (own .entry)) n) ⌝ }
@@ -179,28 +179,30 @@ pub fn no_cells() -> [u16; CELLS]
     [0; CELLS]
 }
 
-// Unknown i of a block is beta[i] Σ alpha[a] values[a] / (rows[a] + columns[i]); the rows behind the n that count are 0.
+// Of the n unknowns those that are needed: unknown i of a block is beta[i] Σ alpha[a] values[a] / (rows[a] + columns[i]). The rows
+// behind them are 0.
 pub fn solve(
     rows: &[u32; USERS],
     columns: &[u32; USERS],
-    alpha: &[u16; USERS],
-    beta: &[u16; USERS],
     values: &[u16; CELLS],
     n: usize,
-) -> [u16; CELLS]
-    requires { ⌜ Weighted sixteen laws16 (now rows) (now columns) (now alpha) (now beta) n ⌝ }
-    ensures { λ r. ⌜ r ≡ unknowns-of sixteen laws16 (now (rows .entry)) (now (columns .entry)) (now (values .entry)) n ⌝ }
+    needed: usize,
+    out: &mut [u16; CELLS],
+)
+    requires { ⌜ Square (now rows) (now columns) n × (needed ≤ n) ⌝ }
+    ensures { λ r. ⌜ now (out .exit) ≡ unknowns-of sixteen laws16 (now (rows .entry)) (now (columns .entry)) (now (values .entry)) n needed ⌝ }
 {
-    let mut out = no_cells();
+    let alpha = weights(rows, columns, n);
+    let beta = weights(columns, rows, n);
+    *out = no_cells();
     let mut at = 0;
     let mut i = 0;
-    while i < n {
-        let list = inverse_row(columns[i], rows, alpha, beta[i], n);
-        put_row(&mut out, at, &list, values, n);
+    while i < needed {
+        let list = inverse_row(columns[i], rows, &alpha, beta[i], n);
+        put_row(out, at, &list, values, n);
         at += BLOCKS;
         i += 1;
     }
-    out
 }
 
 // Whether the values from `at` on are a row times the numbers of each block. Without an early end many are compared at a time.

@@ -17,13 +17,13 @@ use Rattle.finish.proofs.explain.Statement.{statement}
 use Rattle.finish.proofs.explain.Tie as tie
 
 abbrev Inv-loop : tie.InvT-loop
-Inv-loop plan set reply count n blocks rows₀ values₀ cleared₀ rows values cleared =
+Inv-loop plan set reply unknowns₀ count n blocks rows₀ values₀ cleared₀ unknowns rows values cleared =
     (n ≡ plan .threshold) × (blocks ≡ plan .blocks)
     × ((good : Good (plan-of plan)) (many : plan .threshold ≤ ones (plan .users) set)
     → Searching sixteen laws16 (plan-of plan) good set many reply count rows values cleared)
 
 abbrev μ-loop : tie.MeasureT-loop
-μ-loop plan set reply count n blocks rows₀ values₀ cleared₀ rows values cleared = count - cleared
+μ-loop plan set reply unknowns₀ count n blocks rows₀ values₀ cleared₀ unknowns rows values cleared = count - cleared
 
 -- ---- the places where the facts stand
 abbrev listed : tie.After-gather Inv-loop μ-loop → tie.After-users-of Inv-loop μ-loop
@@ -33,10 +33,10 @@ abbrev gathered : tie.Else1 Inv-loop μ-loop → tie.After-gather Inv-loop μ-lo
 gathered c = c .before .before .before
 
 abbrev entered : tie.After-solve-rows Inv-loop μ-loop → tie.Else1 Inv-loop μ-loop
-entered c = let looped = c .before .before .before .before in looped .before
+entered c = let looped = c .before .before .before .before .before in looped .before
 
 abbrev solved : tie.Else2 Inv-loop μ-loop → tie.After-solve-rows Inv-loop μ-loop
-solved c = c .before .before
+solved c = c .before
 
 abbrev tried : tie.Else4 Inv-loop μ-loop → tie.Else2 Inv-loop μ-loop
 tried c = let more = c .before .before in more .before
@@ -46,10 +46,10 @@ moved c = let turned = c .before .before in turned .before .before
 
 -- the search as it stands before a turn, for the plan and the set that came
 searching : (c : tie.After-solve-rows Inv-loop μ-loop) → let e = entered c in let u = listed (gathered e) in let a = u .before .args in
-    let l = c .before .before .before .before .loop in
+    let l = c .before .before .before .before .before .loop in
     Searching sixteen laws16 (plan-of (a .plan)) (u .before .pre .0) (a .set) (u .before .pre .1) (a .reply .now) (u .users-of .result .count)
     (l .rows) (l .values) (l .cleared)
-searching c = let s = listed (gathered (entered c)) .before .pre in c .before .before .before .before .loop .inv .2 (s .0) (s .1)
+searching c = let s = listed (gathered (entered c)) .before .pre in c .before .before .before .before .before .loop .inv .2 (s .0) (s .1)
 
 users-of-requires : tie.Need-users-of-requires Inv-loop μ-loop
 users-of-requires c κs = c .pre .0 .users-high
@@ -74,8 +74,8 @@ slice-aggregate-all-elements c = search needs
 all-elements-requires : tie.Need-all-elements-requires Inv-loop μ-loop
 all-elements-requires c κs = search needs
 
-unexplained-requires : tie.Need-unexplained-requires Inv-loop μ-loop
-unexplained-requires c κs = search needs
+refused-requires : tie.Need-refused-requires Inv-loop μ-loop
+refused-requires c κs = search needs
 
 returns : tie.Need-returns Inv-loop μ-loop
 returns c =
@@ -84,7 +84,7 @@ returns c =
     let u = listed v in
     let s = u .before .pre in
     not-elements sixteen laws16 _ (s .0) _ (s .1) _ _ (u .users-of .ensures) _ (v .gather .ensures)
-    (sym (t .all-elements .ensures) ∙ not-true _ (c .before .if1 .taken)) _ (c .unexplained .ensures)
+    (sym (t .all-elements .ensures) ∙ not-true _ (c .before .if1 .taken)) _ _ (c .refused .ensures)
 
 loop-holds : tie.Need-loop-holds Inv-loop μ-loop
 loop-holds c =
@@ -99,7 +99,7 @@ loop-holds c =
 
 solve-rows-requires : tie.Need-solve-rows-requires Inv-loop μ-loop
 solve-rows-requires c κs =
-    let l = c .before .before .before in
+    let l = c .before .before .before .before in
     let u = listed (gathered (l .before)) in
     let s = u .before .pre in
     let h = l .loop .inv .2 (s .0) (s .1) in
@@ -107,30 +107,30 @@ solve-rows-requires c κs =
 
 returns-2 : tie.Need-returns-2 Inv-loop μ-loop
 returns-2 c =
-    let t = c .before .before in
-    turn-agreed sixteen laws16 _ _ _ _ _ _ _ _ _ (searching t) _ (t .solve-rows .ensures) (c .if2 .taken)
+    let t = c .before in
+    turn-agreed sixteen laws16 _ _ _ _ _ _ _ _ _ (searching t) _ _ (t .solve-rows .ensures) (c .if2 .taken)
 
 sub-if3 : tie.Need-sub-if3 Inv-loop μ-loop
 sub-if3 c = searching (solved c) .enough
 
-unexplained-requires-2 : tie.Need-unexplained-requires-2 Inv-loop μ-loop
-unexplained-requires-2 c κs = search needs
+refused-requires-2 : tie.Need-refused-requires-2 Inv-loop μ-loop
+refused-requires-2 c κs = search needs
 
 returns-3 : tie.Need-returns-3 Inv-loop μ-loop
 returns-3 c =
     let f = c .before in
     let e = f .before in
     let t = solved e in
-    turn-left sixteen laws16 _ _ _ _ _ _ _ _ _ (searching t) _ (t .solve-rows .ensures) (e .if2 .left) (omega (arith, f .if3 .taken)) _
-    (c .unexplained2 .ensures)
+    turn-left sixteen laws16 _ _ _ _ _ _ _ _ _ (searching t) _ _ (t .solve-rows .ensures) (e .if2 .left) (omega (arith, f .if3 .taken)) _
+    (c .refused2 .ensures)
 
-mul-t24 : tie.Need-mul-t24 Inv-loop μ-loop
-mul-t24 c =
-    let t = c .before .before .before .before .before in
+mul-t25 : tie.Need-mul-t25 Inv-loop μ-loop
+mul-t25 c =
+    let t = c .before .before .before .before in
     omega (arith, t .solve-rows .ensures .first-right .high, searching t .few)
 
-array-read-t27 : tie.Need-array-read-t27 Inv-loop μ-loop
-array-read-t27 c =
+array-read-t28 : tie.Need-array-read-t28 Inv-loop μ-loop
+array-read-t28 c =
     let m = c .before .before in
     let e = m .before in
     let t = solved e in
@@ -141,7 +141,7 @@ returns-4 c =
     let m = c .before .before in
     let e = m .before in
     let t = solved e in
-    turn-one sixteen laws16 _ _ _ _ _ _ _ _ _ (searching t) _ (t .solve-rows .ensures) (e .if2 .left) (omega (arith, m .if3 .left)) (c .if4 .taken)
+    turn-one sixteen laws16 _ _ _ _ _ _ _ _ _ (searching t) _ _ (t .solve-rows .ensures) (e .if2 .left) (omega (arith, m .if3 .left)) (c .if4 .taken)
 
 turned-requires : tie.Need-turned-requires Inv-loop μ-loop
 turned-requires c κs = let h = searching (solved (tried (c .before))) in (h .enough, h .few)
@@ -160,12 +160,12 @@ sub-cleared c = searching (solved (tried (moved c))) .enough
 add-cleared : tie.Need-add-cleared Inv-loop μ-loop
 add-cleared c =
     let t = solved (tried (moved c)) in
-    omega (arith, searching t .few, t .before .before .before .loop-test .taken)
+    omega (arith, searching t .few, t .before .before .before .before .loop-test .taken)
 
 loop-less : tie.Need-loop-less Inv-loop μ-loop
 loop-less c =
     let e = moved c in
-    omega (arith, e .before .before .if3 .left, solved (tried e) .before .before .before .loop-test .taken)
+    omega (arith, e .before .before .if3 .left, solved (tried e) .before .before .before .before .loop-test .taken)
 
 loop-again : tie.Need-loop-again Inv-loop μ-loop
 loop-again c =
@@ -174,19 +174,19 @@ loop-again c =
       refl,
       refl,
       λ good many.
-          let h = t .before .before .before .before .loop .inv .2 good many in
-          searching-more sixteen laws16 _ good _ many _ _ _ _ _ h _ (t .solve-rows .ensures) (tried e .if2 .left) (omega (arith, e .before .before .if3 .left))
+          let h = t .before .before .before .before .before .loop .inv .2 good many in
+          searching-more sixteen laws16 _ good _ many _ _ _ _ _ h _ _ (t .solve-rows .ensures) (tried e .if2 .left) (omega (arith, e .before .before .if3 .left))
           (e .if4 .left) _ _ (turned-right _ _ _ _ (h .enough) (c .before .before .turned .ensures)) (c .gather2 .ensures),
     )
 
-unexplained-requires-3 : tie.Need-unexplained-requires-3 Inv-loop μ-loop
-unexplained-requires-3 c κs = search needs
+refused-requires-3 : tie.Need-refused-requires-3 Inv-loop μ-loop
+refused-requires-3 c κs = search needs
 
 returns-5 : tie.Need-returns-5 Inv-loop μ-loop
 returns-5 c =
     let l = c .before .before in
     let s = listed (gathered (l .before)) .before .pre in
-    turns-over sixteen laws16 _ (s .0) _ (s .1) _ _ _ _ _ (l .loop .inv .2 (s .0) (s .1)) (c .before .loop-test .left) _ (c .unexplained3 .ensures)
+    turns-over sixteen laws16 _ (s .0) _ (s .1) _ _ _ _ _ (l .loop .inv .2 (s .0) (s .1)) (c .before .loop-test .left) _ _ (c .refused3 .ensures)
 
 pub explain-spec : {M : Type 1} → statement M
 explain-spec =
@@ -200,16 +200,16 @@ explain-spec =
     gather-requires
     slice-aggregate-all-elements
     all-elements-requires
-    unexplained-requires
+    refused-requires
     returns
     loop-holds
     solve-rows-requires
     returns-2
     sub-if3
-    unexplained-requires-2
+    refused-requires-2
     returns-3
-    mul-t24
-    array-read-t27
+    mul-t25
+    array-read-t28
     returns-4
     turned-requires
     gather-requires-2
@@ -217,5 +217,5 @@ explain-spec =
     add-cleared
     loop-less
     loop-again
-    unexplained-requires-3
+    refused-requires-3
     returns-5)

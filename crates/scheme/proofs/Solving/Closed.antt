@@ -167,9 +167,9 @@ module _ (A : Arithmetic) (L : Laws A most-users most-threshold) where
       unknown-same ws i e = ap (λ u. val (β i ⊗ u)) (field-sum-same K (span n 0) _ _ (λ a m.
           ap (λ (v : ℕ). inv (row-points A L rs a ⊕ column-points A L cs i) ⊗ (α a ⊗ el v)) (e a (below n a m))))
 
-      pub unknowns-at : (i b : ℕ) → i < n → b < most-blocks → cell (unknowns-of A L rs cs vs n) i b ≡ unknown-at A L rs cs (block vs b) n i
+      pub unknowns-at : (k i b : ℕ) → i < k → b < most-blocks → cell (unknowns-of A L rs cs vs n k) i b ≡ unknown-at A L rs cs (block vs b) n i
       unfolding unknowns-of
-      unknowns-at i b h l = grid-at (λ a b. unknown-at A L rs cs (block vs b) n a) n i b h l
+      unknowns-at k i b h l = grid-at (λ a b. unknown-at A L rs cs (block vs b) n a) k i b h l
 
   -- ---- A WEIGHT, FACTOR BY FACTOR
   module _ (x y : ℕ → F) (n a : ℕ) where
