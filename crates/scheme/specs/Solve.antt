@@ -1,19 +1,17 @@
 -- Square Cauchy systems on lists of numbers, over an arithmetic with its laws, everything by position: row a has the point of the
 -- number rows[a], column i that of columns[i], and the coefficient is 1 / (row + column).
 --   Points, Square             the first n numbers are in range and different; such rows and columns
---   value-of                   the value of a row
+--   value-of, scaled-on        the value of a row; a sum and one product more
 --   cell, grid, block          a grid: the number of a row and a block; n rows by a rule; the numbers of a block
 --   row-fits, First-misfit     whether a row of several blocks has the values that follow; the first row of some that fails a test
 --   row-points, column-points, right-side       the points of rows and columns, and values, as elements of the field
---   row-weight .. column-weights                the weights of algebra's closed solution
---   Weighted                   a system with its weights
+--   row-weight, column-weight                   the weights of algebra's closed solution
+--   weighed-values             values, each row times its weight
 --   unknown-at, solution-of    algebra's closed solution
 --   unknowns-of                the first k unknowns of every block
 -- Modulo q, as code computes it:
 --   gap-between, gap-entry     1 / (x - y), and 1 where they are the same; by most-threshold + x - y
---   inverse-at                 what the value of a row counts for an unknown
 --   Sums-low                   sums with the first n points are below the bound of all
---   Factors                    n factors, and 0 behind them
 -- Assumes nothing: these are definitions.
 use mathlib.Core.Path.{_≡_}
 use mathlib.Core.Logic.{_≢_}
@@ -43,6 +41,10 @@ pub record Square (rows columns : List ℕ) (n : ℕ) : Type 0 where
 -- ---- THE VALUE OF A ROW
 abbrev pub value-of : Arithmetic → (x : ℕ) → (points values : List ℕ) → (n : ℕ) → ℕ
 value-of A x ps vs n = weighed-by A (λ i. A .coefficient x (getD ps i 0)) n (λ i. getD vs i 0)
+
+-- a sum of a block, with what stands in a row of a grid from `at` on, times a factor
+abbrev pub scaled-on : Arithmetic → (sums : List ℕ) → (factor : ℕ) → (grid : List ℕ) → (at b : ℕ) → ℕ
+scaled-on A xs c g at b = A .add (getD xs b 0) (A .multiply c (getD g (at + b) 0))
 
 -- ---- GRIDS: a row for each user, in it a number for each block
 abbrev pub cell : (grid : List ℕ) → (a b : ℕ) → ℕ
@@ -84,16 +86,8 @@ module _ (A : Arithmetic) (L : Laws A most-users most-threshold) where
   unfoldable pub column-weight : (rows columns : List ℕ) → (n at : ℕ) → ℕ
   column-weight rs cs n i = val (weight K (column-points cs) (row-points rs) (span n 0) (span n 0) i)
 
-  unfoldable pub row-weights : (rows columns : List ℕ) → (n : ℕ) → List ℕ
-  row-weights rs cs n = filled most-users n (row-weight rs cs n)
-
-  unfoldable pub column-weights : (rows columns : List ℕ) → (n : ℕ) → List ℕ
-  column-weights rs cs n = filled most-users n (column-weight rs cs n)
-
-  pub record Weighted (rows columns alpha beta : List ℕ) (n : ℕ) : Type 0 where
-    pub square : Square rows columns n
-    pub alpha-right : alpha ≡ row-weights rows columns n
-    pub beta-right : beta ≡ column-weights rows columns n
+  unfoldable pub weighed-values : (rows columns values : List ℕ) → (n : ℕ) → List ℕ
+  weighed-values rs cs vs n = grid n (λ a b. A .add 0 (A .multiply (row-weight rs cs n a) (cell vs a b)))
 
   unfoldable pub unknown-at : (rows columns values : List ℕ) → (n at : ℕ) → ℕ
   unknown-at rs cs vs n i = val (solution K (row-points rs) (column-points cs) (span n 0) (span n 0) (right-side vs) i)
@@ -112,13 +106,5 @@ gap-between q x y = cond (eqb x y) 1 (inverse q (modular q .subtract x y))
 unfoldable pub gap-entry : (q d : ℕ) → ℕ
 gap-entry q d = cond (eqb d most-threshold) 1 (inverse q ((d + (q - most-threshold)) % q))
 
--- in the row of the unknown with the point x and the weight w
-unfoldable pub inverse-at : (q x : ℕ) → (rows alpha : List ℕ) → (w a : ℕ) → ℕ
-inverse-at q x rs ws w a = w * (getD ws a 0 * modular q .coefficient (getD rs a 0) x % q) % q
-
 pub record Sums-low (x n : ℕ) (ps : List ℕ) : Type 0 where
   pub low : (i : ℕ) → i < n → x + getD ps i 0 < points
-
-pub record Factors (n : ℕ) (cs : List ℕ) : Type 0 where
-  pub few : n ≤ most-users
-  pub behind : (i : ℕ) → n ≤ i → getD cs i 0 ≡ 0

@@ -1,13 +1,13 @@
 // Square Cauchy systems modulo 65521 by their closed solution, the systems of all blocks side by side.
-//   gap_between, gap_entry, weights     what depends on the points alone
-//   factors, inverse_row                a row of the system, and a row of its inverse
-//   two_products, all_products          a row times the numbers of a block
-//   put_row, solve                      the unknowns of every block
-//   same_row, misfit                    whether a further row has the values that follow; the first that has not
+//   gap_between, gap_entry, factor, weight_of     what depends on the points alone
+//   factors, add_row, dots, put_scaled            rows of numbers, one for each block: sums of them over points, one times a factor
+//   no_cells, weigh, solve                        the unknowns of every block, from weighed values
+//   same_row, misfit                              whether a further row has the values that follow; the first that has not
 // Everything goes by position: row a has the point rows[a], 1 to MOST_USERS, column i the point columns[i], 1 to MOST_THRESHOLD, and
 // of each array the first n entries count. A grid has a row for each user, in it a number for each block. The functions are for points
 // that the caller knows to be in range and different. What they compute is defined in Solve of crate scheme.
 ghost use mathlib.Core.Path.{_≡_};
+ghost use mathlib.Core.Bool.{true};
 ghost use mathlib.Core.List.{map};
 ghost use Prim.Native.Nat.{_+_, _*_, _-_, _%_, _≤_, _<_};
 ghost use lib.Dec.{eqb};
@@ -15,10 +15,8 @@ ghost use lib.ListN.{length, getD, replicate};
 ghost use lib.Seq.{sets};
 ghost use Rattle.scheme.specs.Limits.{most-users, most-threshold, most-blocks, cells};
 ghost use Rattle.scheme.specs.Lists.{span, all-of, filled};
-ghost use Rattle.scheme.specs.Scheme.{q, sixteen};
-ghost use Rattle.scheme.specs.Weighed.{weighed, Unreduced};
-ghost use Rattle.scheme.specs.Solve.{Points, Square, cell, row-weight, row-weights, column-weights, unknowns-of, row-fits, First-misfit, gap-between, gap-entry, inverse-at, Sums-low, Factors};
-ghost use Rattle.element.specs.Fold.{most-folded};
+ghost use Rattle.scheme.specs.Scheme.{q, sixteen, elements};
+ghost use Rattle.scheme.specs.Solve.{Points, Square, Sums-low, value-of, block, scaled-on, row-weight, weighed-values, unknowns-of, row-fits, First-misfit, gap-between, gap-entry};
 ghost use Rattle.solve.specs.Solve.{laws16};
 use plan::BLOCKS;
 use plan::CELLS;
@@ -78,22 +76,20 @@ fn weight_of(own: &[u32; USERS], other: &[u32; USERS], n: usize, at: usize) -> u
     weight
 }
 
-// The weights of the rows, `own`; those of the columns, where `other` are the rows: modulo q both have their number as point.
-fn weights(own: &[u32; USERS], other: &[u32; USERS], n: usize) -> [u16; USERS]
-    requires { ⌜ (n ≤ most-users) × Points most-users n (now own) × Points most-users n (now other) ⌝ }
-    ensures { λ r. ⌜ (r ≡ row-weights sixteen laws16 (now (own .entry)) (now (other .entry)) n)
-        × (r ≡ column-weights sixteen laws16 (now (other .entry)) (now (own .entry)) n) ⌝ }
+// Adds a row of a grid, which stands from `at` on, times a factor.
+fn add_row(sums: &mut [u16; BLOCKS], grid: &[u16; CELLS], at: usize, factor: u16)
+    requires { ⌜ (at + most-blocks ≤ cells) × (length (now sums) ≡ most-blocks) × (elements sixteen (now sums) ≡ true) ⌝ }
+    ensures { λ r. ⌜ now (sums .exit) ≡ map (scaled-on sixteen (now (sums .entry)) factor (now (grid .entry)) at) (span most-blocks 0) ⌝ }
 {
-    let mut out = [0u16; USERS];
-    let mut i = 0;
-    while i < n {
-        out[i] = weight_of(own, other, n, i);
-        i += 1;
+    let scale = element::scale_of(factor);
+    let mut b = 0;
+    while b < BLOCKS {
+        sums[b] = element::add_scaled(sums[b], grid[at + b], scale);
+        b += 1;
     }
-    out
 }
 
-// The row with the point x: 1 / (x + points[i]).
+// The row with the point x: 1 / (x + points[i]). A compiler that reads them from memory knows that they have 16 bits.
 fn factors(x: u32, points: &[u32; USERS], n: usize) -> [u16; USERS]
     requires { ⌜ (n ≤ most-users) × Sums-low x n (now points) ⌝ }
     ensures { λ r. ⌜ r ≡ filled most-users n (λ i. sixteen .coefficient x (getD (now (points .entry)) i 0)) ⌝ }
@@ -107,68 +103,33 @@ fn factors(x: u32, points: &[u32; USERS], n: usize) -> [u16; USERS]
     out
 }
 
-// The row of the inverse for the unknown with the point x: weight * alpha[a] / (rows[a] + x).
-fn inverse_row(
-    x: u32,
-    rows: &[u32; USERS],
-    alpha: &[u16; USERS],
-    weight: u16,
-    n: usize,
-) -> [u16; USERS]
-    requires { ⌜ (n ≤ most-users) × Sums-low x n (now rows) ⌝ }
-    ensures { λ r. ⌜ r ≡ filled most-users n (inverse-at q x (now (rows .entry)) (now (alpha .entry)) weight) ⌝ }
+// For each block the sum of the rows of a grid, row i over x + points[i].
+fn dots(x: u32, points: &[u32; USERS], n: usize, grid: &[u16; CELLS]) -> [u16; BLOCKS]
+    requires { ⌜ (n ≤ most-users) × Sums-low x n (now points) ⌝ }
+    ensures { λ r. ⌜ r ≡ map (λ b. value-of sixteen x (now (points .entry)) (block (now (grid .entry)) b) n) (span most-blocks 0) ⌝ }
 {
-    let mut out = [0u16; USERS];
+    let list = factors(x, points, n);
+    let mut sums = [0u16; BLOCKS];
+    let mut at = 0;
     let mut i = 0;
     while i < n {
-        let c = element::coefficient(rows[i], x);
-        out[i] = element::multiply(weight, element::multiply(alpha[i], c));
+        add_row(&mut sums, grid, at, list[i]);
+        at += BLOCKS;
         i += 1;
     }
-    out
+    sums
 }
 
-// Two products of a row and the numbers of a block, from position i on, not reduced.
-fn two_products(list: &[u16; USERS], grid: &[u16; CELLS], i: usize, b: usize) -> u32
-    requires { ⌜ (i + 2 ≤ most-users) × (b < most-blocks) ⌝ }
-    ensures { λ r. ⌜ Unreduced q most-folded (λ k. getD (now (list .entry)) k 0 * cell (now (grid .entry)) k b) i 2 r ⌝ }
-{
-    let at = i * BLOCKS + b;
-    let s = element::folded(list[i], grid[at]);
-    let t = element::folded(list[i + 1], grid[at + BLOCKS]);
-    s + t
-}
-
-// The products of all positions that count; the others are 0. Two more users take the step behind the test, which costs nothing.
-fn all_products(list: &[u16; USERS], grid: &[u16; CELLS], n: usize, b: usize) -> u32
-    requires { ⌜ Factors n (now list) × (b < most-blocks) ⌝ }
-    ensures { λ r. ⌜ (r ≤ most-users * most-folded)
-        × (r % q ≡ weighed sixteen (now (list .entry)) n (λ i. cell (now (grid .entry)) i b)) ⌝ }
-{
-    let low = two_products(list, grid, 0, b);
-    if n <= 2 {
-        return low;
-    }
-    let four = low + two_products(list, grid, 2, b);
-    if n <= 4 {
-        return four;
-    }
-    let eight = four + (two_products(list, grid, 4, b) + two_products(list, grid, 6, b));
-    if USERS <= 8 {
-        return eight;
-    }
-    eight + two_products(list, grid, 8, b)
-}
-
-// A row times the numbers of each block, written from `at` on.
-fn put_row(out: &mut [u16; CELLS], at: usize, list: &[u16; USERS], grid: &[u16; CELLS], n: usize)
-    requires { ⌜ (at + most-blocks ≤ cells) × (length (now out) ≡ cells) × Factors n (now list) ⌝ }
+// A number for each block, which stand from `from` on, times a factor, written from `at` on.
+fn put_scaled(out: &mut [u16; CELLS], at: usize, list: &[u16], from: usize, factor: u16)
+    requires { ⌜ (at + most-blocks ≤ cells) × (length (now out) ≡ cells) × (from + most-blocks ≤ length (now list)) ⌝ }
     ensures { λ r. ⌜ now (out .exit) ≡ sets (now (out .entry)) at
-        (map (λ b. weighed sixteen (now (list .entry)) n (λ i. cell (now (grid .entry)) i b)) (span most-blocks 0)) ⌝ }
+        (map (λ b. sixteen .add 0 (sixteen .multiply factor (getD (now (list .entry)) (from + b) 0))) (span most-blocks 0)) ⌝ }
 {
+    let scale = element::scale_of(factor);
     let mut b = 0;
     while b < BLOCKS {
-        out[at + b] = element::reduce(all_products(list, grid, n, b));
+        out[at + b] = element::add_scaled(0, list[from + b], scale);
         b += 1;
     }
 }
@@ -179,8 +140,29 @@ pub fn no_cells() -> [u16; CELLS]
     [0; CELLS]
 }
 
-// Of the n unknowns those that are needed: unknown i of a block is beta[i] Σ alpha[a] values[a] / (rows[a] + columns[i]). The rows
-// behind them are 0.
+// The values, each row times its weight.
+fn weigh(
+    rows: &[u32; USERS],
+    columns: &[u32; USERS],
+    values: &[u16; CELLS],
+    n: usize,
+) -> [u16; CELLS]
+    requires { ⌜ Square (now rows) (now columns) n ⌝ }
+    ensures { λ r. ⌜ r ≡ weighed-values sixteen laws16 (now (rows .entry)) (now (columns .entry)) (now (values .entry)) n ⌝ }
+{
+    let mut out = no_cells();
+    let mut at = 0;
+    let mut a = 0;
+    while a < n {
+        put_scaled(&mut out, at, values, at, weight_of(rows, columns, n, a));
+        at += BLOCKS;
+        a += 1;
+    }
+    out
+}
+
+// Of the n unknowns those that are needed: unknown i of a block is beta[i] Σ alpha[a] values[a] / (rows[a] + columns[i]), where alpha and
+// beta are the weights of the rows and the columns. The rows behind them are 0.
 pub fn solve(
     rows: &[u32; USERS],
     columns: &[u32; USERS],
@@ -192,37 +174,27 @@ pub fn solve(
     requires { ⌜ Square (now rows) (now columns) n × (needed ≤ n) ⌝ }
     ensures { λ r. ⌜ now (out .exit) ≡ unknowns-of sixteen laws16 (now (rows .entry)) (now (columns .entry)) (now (values .entry)) n needed ⌝ }
 {
-    let alpha = weights(rows, columns, n);
-    let beta = weights(columns, rows, n);
+    let weighed = weigh(rows, columns, values, n);
     *out = no_cells();
     let mut at = 0;
     let mut i = 0;
     while i < needed {
-        let list = inverse_row(columns[i], rows, &alpha, beta[i], n);
-        put_row(out, at, &list, values, n);
+        let row = dots(columns[i], rows, n, &weighed);
+        put_scaled(out, at, &row, 0, weight_of(columns, rows, n, i));
         at += BLOCKS;
         i += 1;
     }
 }
 
-// Whether the values from `at` on are a row times the numbers of each block. Without an early end many are compared at a time.
-fn same_row(
-    list: &[u16; USERS],
-    grid: &[u16; CELLS],
-    n: usize,
-    values: &[u16; CELLS],
-    at: usize,
-    blocks: usize,
-) -> bool
-    requires { ⌜ (blocks ≤ most-blocks) × (at + most-blocks ≤ cells) × Factors n (now list) ⌝ }
-    ensures { λ r. ⌜ r ≡ all-of
-        (λ b. eqb (weighed sixteen (now (list .entry)) n (λ i. cell (now (grid .entry)) i b)) (getD (now (values .entry)) (at + b) 0))
-        (span blocks 0) ⌝ }
+// Whether the values from `at` on are a row's. Without an early end many are compared at a time.
+fn same_row(row: &[u16; BLOCKS], values: &[u16; CELLS], at: usize, blocks: usize) -> bool
+    requires { ⌜ (blocks ≤ most-blocks) × (at + most-blocks ≤ cells) ⌝ }
+    ensures { λ r. ⌜ r ≡ all-of (λ b. eqb (getD (now (row .entry)) b 0) (getD (now (values .entry)) (at + b) 0)) (span blocks 0) ⌝ }
 {
     let mut good = true;
     let mut b = 0;
     while b < blocks {
-        if element::reduce(all_products(list, grid, n, b)) != values[at + b] {
+        if row[b] != values[at + b] {
             good = false;
         }
         b += 1;
@@ -249,8 +221,8 @@ pub fn misfit(
     let mut at = from * BLOCKS;
     let mut a = from;
     while a < m {
-        let list = factors(rows[a], columns, n);
-        if !same_row(&list, unknowns, n, values, at, blocks) {
+        let row = dots(rows[a], columns, n, unknowns);
+        if !same_row(&row, values, at, blocks) {
             return a;
         }
         at += BLOCKS;

@@ -1,38 +1,40 @@
 -- The closed solution on lists of numbers, over an arithmetic with its laws.
 --   below, points-some                  the positions of n entries; fewer points, in a wider range
---   sums-low, filled-factors            points in range have small sums; n entries by a rule are n factors
+--   sums-low                            points in range have small sums
 --   value-row                           the value of a row in the words of the scheme, where the columns are 1 to n
---   row-same                            a row of the system times the unknowns, as code has it, is the value of the row
---   sum-short                           summands that are 0 do not count
---   α, β, row-weight-el, column-weight-el       weights in the field
+--   row-same                            a row of values, compared as code does it
+--   Dotting, dotting-start, dotting-small, dotting-more, dotting-end     a loop that makes the values of a row for all blocks
+--   α, β, val-of                        weights in the field; an element by its residue
 --   solve-right                         the unknowns solve the system
---   unknown-right                       a row of the inverse times values is an unknown
 --   unknown-same                        an unknown goes by the first n values alone
 --   unknowns-at                         an unknown of a block, in the grid of all
 --   Weighing, weighing-start, weighing-more, weighing-end     a loop that makes a weight, factor by factor
 -- Assumes nothing.
 use mathlib.Core.Path.{_≡_, refl, sym, ap, ap₂, _∙_}
-use mathlib.Core.List.{List}
-use Prim.Native.Nat.{ℕ, zero, suc, _+_, _*_, _-_, _≤_, _<_}
+use mathlib.Core.Bool.{true}
+use mathlib.Core.List.{List, [], _∷_, _++_, map}
+use Prim.Native.Nat.{ℕ, _+_, _*_, _-_, _≤_, _<_}
+use native.Mathlib.Nat.{zero-add}
 use native.Mathlib.Omega.{arith}
 use lib.Dec.{eqb}
-use lib.ListN.{getD}
+use lib.ListN.{getD, replicate}
 use Rattle.algebra.specs.Field.{Field}
 use Rattle.algebra.specs.Sums.{In, sum as field-sum}
 use Rattle.algebra.specs.Cauchy.{System, gap, weight, solution}
 use Rattle.algebra.proofs.Field.{expand, one-mul}
-use Rattle.algebra.proofs.Sums.{sum-same as field-sum-same, sum-scale as field-sum-scale}
+use Rattle.algebra.proofs.Sums.{sum-same as field-sum-same}
 use Rattle.algebra.proofs.Cauchy.{solves}
 use Rattle.scheme.specs.Limits.{most-users, most-threshold, most-blocks, points}
 use Rattle.scheme.specs.Lists.{span, all-of, filled}
-use Rattle.scheme.specs.Scheme.{Arithmetic, sum, row-value}
+use Rattle.scheme.specs.Scheme.{Arithmetic, elements, sum, row-value}
 use Rattle.scheme.specs.Laws.{Laws}
-use Rattle.scheme.specs.Weighed.{weighed-by, weighed}
-use Rattle.scheme.specs.Solve.{Points, Square, Sums-low, Factors, value-of, cell, block, row-fits, row-points, column-points, right-side, row-weight, column-weight, row-weights, column-weights, unknown-at, solution-of, unknowns-of}
-use Rattle.scheme.proofs.Lists.{span-in, in-span, span-once, span-start, span-more, span-end}
-use Rattle.scheme.proofs.Sums.{sum-same, sum-shift, el-same, zero-small, add-none, sum-el, sum-small, coefficient-el}
-use Rattle.scheme.proofs.Weighed.{weighed-as}
-use Rattle.scheme.proofs.Padded.{filled-at, filled-behind}
+use Rattle.scheme.specs.Weighed.{weighed-by}
+use Rattle.scheme.specs.Solve.{Points, Square, Sums-low, value-of, scaled-on, cell, block, row-fits, row-points, column-points, right-side, unknown-at, solution-of, unknowns-of}
+use Rattle.scheme.proofs.Lists.{span-append, span-in, in-span, span-once, span-start, span-more, span-end, map-same, map-below-at, all-of-same}
+use Rattle.scheme.proofs.Sums.{sum-same, sum-more, sum-shift, el-same, sum-el, sum-small, coefficient-el}
+use Rattle.scheme.proofs.Keys.{elements-map}
+use Rattle.scheme.proofs.Weighed.{weighed-small}
+use Rattle.scheme.proofs.Padded.{filled-at}
 use Rattle.scheme.proofs.Solving.Grids.{block-at, grid-at}
 
 pub below : (n i : ℕ) → In i (span n 0) → i < n
@@ -48,9 +50,6 @@ points-some p h l = record {
 pub sums-low : {x most n : ℕ} {ps : List ℕ} → Points most n ps → x + most < points → Sums-low x n ps
 sums-low p h = record { low = λ i l. omega (arith, p .inside i l) }
 
-pub filled-factors : (f : ℕ → ℕ) (n : ℕ) (cs : List ℕ) → n ≤ most-users → cs ≡ filled most-users n f → Factors n cs
-filled-factors f n cs h e = record { few = h; behind = λ i l. ap (λ (c : List ℕ). getD c i 0) e ∙ filled-behind most-users f n i l }
-
 -- ---- THE VALUE OF A ROW
 module _ (A : Arithmetic) where
   pub value-row : (x : ℕ) (cs vs : List ℕ) (n : ℕ) → ((i : ℕ) → i < n → getD cs i 0 ≡ i + 1)
@@ -62,17 +61,55 @@ module _ (A : Arithmetic) where
       ap₂ (λ (c k : ℕ). A .multiply (A .coefficient x c) (getD vs k 0)) e f)
       ∙ sym (sum-shift A n 1 0 (λ j. A .multiply (A .coefficient x j) (getD vs (j - 1) 0)))
 
-  weighed-value : (x : ℕ) (ps cs g : List ℕ) (n b : ℕ) → n ≤ most-users → cs ≡ filled most-users n (λ i. A .coefficient x (getD ps i 0))
-      → weighed A cs n (λ i. cell g i b) ≡ value-of A x ps (block g b) n
-  weighed-value x ps cs g n b h e =
-      weighed-as A n (λ i l. ap (λ (c : List ℕ). getD c i 0) e ∙ filled-at most-users _ n i l) (λ i l. sym (block-at g b i (omega arith)))
+  -- the values of a row for all blocks
+  abbrev values-for : (x : ℕ) → (ps g : List ℕ) → (n : ℕ) → List ℕ
+  values-for x ps g n = map (λ b. value-of A x ps (block g b) n) (span most-blocks 0)
 
-  pub row-same : (rs cs vs ws list : List ℕ) (n m a at : ℕ) → n ≤ most-users
-      → list ≡ filled most-users n (λ i. A .coefficient (getD rs a 0) (getD cs i 0)) → at ≡ a * most-blocks
-      → all-of (λ b. eqb (weighed A list n (λ i. cell ws i b)) (getD vs (at + b) 0)) (span m 0) ≡ row-fits A rs cs vs ws n m a
+  pub row-same : (rs cs vs ws row : List ℕ) (n m a at : ℕ) → m ≤ most-blocks → row ≡ map (λ b. value-of A (getD rs a 0) cs (block ws b) n) (span most-blocks 0)
+      → at ≡ a * most-blocks → all-of (λ b. eqb (getD row b 0) (getD vs (at + b) 0)) (span m 0) ≡ row-fits A rs cs vs ws n m a
   unfolding row-fits
-  row-same rs cs vs ws list n m a at h e d = λ t.
-      all-of (λ b. eqb (weighed-value (getD rs a 0) cs list ws n b h e t) (getD vs (d t + b) 0)) (span m 0)
+  row-same rs cs vs ws row n m a at h e d = all-of-same _ _ (span m 0) (λ b k.
+      let l : b < most-blocks = omega (arith, below m b k) in
+      ap₂ eqb (ap (λ (r : List ℕ). getD r b 0) e ∙ map-below-at (λ c. value-of A (getD rs a 0) cs (block ws c) n) most-blocks b l) (ap (λ (i : ℕ). getD vs (i + b) 0) d))
+
+  -- ---- i of n rows of a grid are added; the next starts at `at`
+  pub record Dotting (x : ℕ) (ps g : List ℕ) (n i at : ℕ) (sums : List ℕ) : Type 0 where
+    pub inside : i ≤ n
+    pub place : at ≡ i * most-blocks
+    pub done : sums ≡ map (λ b. value-of A x ps (block g b) i) (span most-blocks 0)
+
+  module _ (x : ℕ) (ps g : List ℕ) (n : ℕ) where
+    pub dotting-start : Dotting x ps g n 0 0 (replicate most-blocks 0)
+    unfolding weighed-by sum
+    dotting-start = record { inside = omega arith; place = refl; done = refl }
+
+    pub dotting-end : (i at : ℕ) (sums : List ℕ) → n ≤ i → Dotting x ps g n i at sums
+        → sums ≡ map (λ b. value-of A x ps (block g b) n) (span most-blocks 0)
+    dotting-end i at sums h s = let e : i ≡ n = omega (arith, s .inside) in s .done ∙ ap (values-for x ps g) e
+
+    module _ (L : Laws A most-users most-threshold) (i at : ℕ) (sums : List ℕ) (s : Dotting x ps g n i at sums) where
+      pub dotting-small : elements A sums ≡ true
+      dotting-small = ap (elements A) (s .done) ∙ elements-map A (λ b. value-of A x ps (block g b) i) (span most-blocks 0) (λ b k. weighed-small L _ i _)
+
+      value-more : (b : ℕ) → i < most-users → value-of A x ps (block g b) (i + 1)
+          ≡ A .add (value-of A x ps (block g b) i) (A .multiply (A .coefficient x (getD ps i 0)) (cell g i b))
+      unfolding weighed-by
+      value-more b l = ap (λ (k : List ℕ). sum A k (λ a. A .multiply (A .coefficient x (getD ps a 0)) (getD (block g b) a 0)))
+          (span-append i 1 0 ∙ ap (λ (k : ℕ). span i 0 ++ (k ∷ [])) (zero-add i))
+          ∙ sum-more A _ _ L (span i 0) i _
+          ∙ ap (λ (v : ℕ). A .add (value-of A x ps (block g b) i) (A .multiply (A .coefficient x (getD ps i 0)) v)) (block-at g b i l)
+
+      pub dotting-more : (new : List ℕ) (c : ℕ) → n ≤ most-users → i < n → c ≡ A .coefficient x (getD ps i 0)
+          → new ≡ map (scaled-on A sums c g at) (span most-blocks 0)
+          → Dotting x ps g n (i + 1) (at + most-blocks) new
+      dotting-more new c few l d e = record {
+        inside = omega arith;
+        place = omega (arith, s .place);
+        done = e ∙ map-same _ _ (span most-blocks 0) (λ b k.
+            let h = below most-blocks b k in
+            ap₂ (A .add) (ap (λ (r : List ℕ). getD r b 0) (s .done) ∙ map-below-at (λ c. value-of A x ps (block g c) i) most-blocks b h)
+            (ap₂ (λ (f j : ℕ). A .multiply f (getD g (j + b) 0)) d (s .place)) ∙ sym (value-more b (omega arith)));
+      }
 
 -- ---- IN THE FIELD
 module _ (A : Arithmetic) (L : Laws A most-users most-threshold) where
@@ -81,21 +118,8 @@ module _ (A : Arithmetic) (L : Laws A most-users most-threshold) where
 
   infixl 65 _⊕_
   infixl 70 _⊗_
-  val-of : (a : ℕ) (x : F) → a < A .size → el a ≡ x → a ≡ val x
+  pub val-of : (a : ℕ) (x : F) → a < A .size → el a ≡ x → a ≡ val x
   val-of a x h e = sym (L .val-el a h) ∙ ap val e
-
-  -- summands that are 0 do not count
-  sum-none : (n k : ℕ) (f : ℕ → ℕ) → ((i : ℕ) → k ≤ i → f i ≡ 0) → sum A (span n k) f ≡ 0
-  unfolding sum
-  sum-none zero k f z = refl
-  sum-none (suc n) k f z = ap₂ (A .add) (z k (omega arith)) (sum-none n (suc k) f (λ i h. z i (omega arith)))
-      ∙ add-none A _ _ L 0 0 (zero-small A _ _ L) (L .el-zero)
-
-  pub sum-short : (m n k : ℕ) (f : ℕ → ℕ) → n ≤ m → ((i : ℕ) → k + n ≤ i → f i ≡ 0) → sum A (span m k) f ≡ sum A (span n k) f
-  unfolding sum
-  sum-short m zero k f h z = sum-none m k f (λ i l. z i (omega arith))
-  sum-short zero (suc n) k f h z = absurd (omega arith)
-  sum-short (suc m) (suc n) k f h z = ap (A .add (f k)) (sum-short m n (suc k) f (omega arith) (λ i l. z i (omega arith)))
 
   value-el : (x : ℕ) (ps vs : List ℕ) (n : ℕ) → (1 ≤ x) × (x ≤ most-users) → Points most-threshold n ps
       → el (value-of A x ps vs n) ≡ field-sum K (span n 0) (λ i. inv (row x ⊕ column-points A L ps i) ⊗ right-side A L vs i)
@@ -110,14 +134,6 @@ module _ (A : Arithmetic) (L : Laws A most-users most-threshold) where
 
     abbrev pub β : (i : ℕ) → F
     β i = weight K (column-points A L cs) (row-points A L rs) (span n 0) (span n 0) i
-
-    pub row-weight-el : (a : ℕ) → a < n → el (getD (row-weights A L rs cs n) a 0) ≡ α a
-    unfolding row-weights row-weight
-    row-weight-el a h = ap el (filled-at most-users _ n a h) ∙ L .el-val _
-
-    pub column-weight-el : (i : ℕ) → i < n → el (getD (column-weights A L rs cs n) i 0) ≡ β i
-    unfolding column-weights column-weight
-    column-weight-el i h = ap el (filled-at most-users _ n i h) ∙ L .el-val _
 
     -- good points are a Cauchy system
     system : Square rs cs n → System K (row-points A L rs) (column-points A L cs) (span n 0) (span n 0)
@@ -149,18 +165,6 @@ module _ (A : Arithmetic) (L : Laws A most-users most-threshold) where
           (value-el (getD rs a 0) cs (solution-of A L rs cs vs n) n (square .rows-good .inside a h) (square .columns-good)
           ∙ field-sum-same K (span n 0) _ _ (λ i m. ap (λ u. inv (row-points A L rs a ⊕ column-points A L cs i) ⊗ u) (solution-el i (below n i m)))
           ∙ solves (system square) (right-side A L vs) a (in-span n 0 a (omega arith) (omega arith)))
-
-      regroup : (a b c v : F) → a ⊗ (b ⊗ c) ⊗ v ≡ a ⊗ (c ⊗ (b ⊗ v))
-      regroup a b c v = simp expand
-
-      pub unknown-right : (list : List ℕ) (i b : ℕ) → n ≤ most-users
-          → ((a : ℕ) → a < n → el (getD list a 0) ≡ β i ⊗ (α a ⊗ inv (row-points A L rs a ⊕ column-points A L cs i)))
-          → weighed A list n (λ a. cell vs a b) ≡ unknown-at A L rs cs (block vs b) n i
-      unfolding weighed-by unknown-at
-      unknown-right list i b few e = val-of _ _ (sum-small A _ _ L (span n 0) _)
-          (sum-el A _ _ L (span n 0) _ ∙ field-sum-same K (span n 0) _ _ (λ a m.
-          let l = below n a m in
-          L .el-multiply _ _ ∙ ap₂ _⊗_ (e a l) (ap el (sym (block-at vs b a (omega arith)))) ∙ regroup _ _ _ _) ∙ field-sum-scale K _ (span n 0) _)
 
       pub unknown-same : (ws : List ℕ) (i : ℕ) → ((a : ℕ) → a < n → getD vs a 0 ≡ getD ws a 0) → unknown-at A L rs cs vs n i ≡ unknown-at A L rs cs ws n i
       unfolding unknown-at

@@ -1,15 +1,14 @@
 -- The solver's numbers modulo a prime, as code computes them.
---   weights-exchanged               weights of rows are weights of columns with both exchanged: their points are the same residues
+--   weight-exchanged                weights of rows are weights of columns with both exchanged: their points are the same residues
 --   gap-shift                       1 / (x - y) by most-threshold + x - y
 --   Factoring, factoring-start, factoring-more, factoring-end     a loop that makes a weight, factor by factor
---   inverse-row-right               a row of the inverse times values is an unknown
---   unreduced-weighed               factors that are 0 do not count
+--   unknown-by                      an unknown from values that are weighed already
 -- Assumes nothing.
 use mathlib.Core.Path.{_≡_, refl, sym, ap, ap₂, _∙_}
 use mathlib.Core.Bool.{Bool, true, false, cond}
 use mathlib.Core.List.{List}
 use Prim.Native.Nat.{ℕ, _+_, _*_, _-_, _%_, _≤_, _<_}
-use native.Mathlib.Nat.{zero-mul, mod-lt, mod-eq-of-lt}
+use native.Mathlib.Nat.{add-comm, zero-add, mod-lt, mod-eq-of-lt}
 use native.Mathlib.Decide.{ℕ-discrete}
 use native.Mathlib.Omega.{arith}
 use lib.Dec.{eqb}
@@ -18,17 +17,18 @@ use borrow.Author.Tests.{eq-eqb, ne-eqb}
 use Rattle.algebra.specs.Field.{Field, sub}
 use Rattle.algebra.specs.Residue.{Prime, inverse}
 use Rattle.algebra.specs.Cauchy.{gap}
+use Rattle.algebra.proofs.Sums.{sum-same as field-sum-same}
 use Rattle.algebra.proofs.Residue.{mods, el-path, prime-positive, residue}
-use Rattle.scheme.specs.Limits.{most-users, most-threshold}
-use Rattle.scheme.specs.Lists.{filled}
+use Rattle.scheme.specs.Limits.{most-users, most-threshold, most-blocks}
+use Rattle.scheme.specs.Lists.{span}
 use Rattle.scheme.specs.Scheme.{Arithmetic, modular}
 use Rattle.scheme.specs.Laws.{Laws}
 use Rattle.scheme.specs.Modular.{modular-laws}
-use Rattle.scheme.specs.Weighed.{weighed-by, weighed, Unreduced}
-use Rattle.scheme.specs.Solve.{Points, cell, block, row-points, column-points, row-weight, column-weight, row-weights, column-weights, Weighted, unknown-at, gap-between, gap-entry, inverse-at, Factors}
-use Rattle.scheme.proofs.Sums.{coefficient-el}
-use Rattle.scheme.proofs.Padded.{filled-at}
-use Rattle.scheme.proofs.Solving.Closed.{α, β, row-weight-el, column-weight-el, sum-short, unknown-right, Weighing, weighing-start, weighing-more, weighing-end}
+use Rattle.scheme.specs.Weighed.{weighed-by}
+use Rattle.scheme.specs.Solve.{Points, Square, value-of, cell, block, row-points, column-points, row-weight, column-weight, weighed-values, unknown-at, gap-between, gap-entry}
+use Rattle.scheme.proofs.Sums.{sum-el, coefficient-el}
+use Rattle.scheme.proofs.Solving.Grids.{block-at, grid-at}
+use Rattle.scheme.proofs.Solving.Closed.{below, α, val-of, Weighing, weighing-start, weighing-more, weighing-end}
 
 module _ {q : ℕ} (prime : Prime q) (large : most-users + most-threshold < q) where
   abbrev A : Arithmetic
@@ -60,9 +60,9 @@ module _ {q : ℕ} (prime : Prime q) (large : most-users + most-threshold < q) w
   points-sum x y = el-path (simp mods)
 
   -- ---- weights
-  pub weights-exchanged : (own other : List ℕ) (n : ℕ) → row-weights (modular q) L own other n ≡ column-weights (modular q) L other own n
-  unfolding modular-laws row-weights row-weight column-weights column-weight
-  weights-exchanged own other n = refl
+  pub weight-exchanged : (own other : List ℕ) (n i : ℕ) → row-weight (modular q) L own other n i ≡ column-weight (modular q) L other own n i
+  unfolding modular-laws row-weight column-weight
+  weight-exchanged own other n i = refl
 
   gap-el : (x y : ℕ) → el (gap-between q x y) ≡ cond (eqb x y) 𝟙 (inv (sub K (row x) (row y)))
   unfolding gap-between modular-laws
@@ -113,27 +113,30 @@ module _ {q : ℕ} (prime : Prime q) (large : most-users + most-threshold < q) w
     unfolding Factoring row-weight
     factoring-end i w h s = weighing-end A L _ _ n a i w h s
 
-  -- ---- a row of the inverse times the values
-  module _ (rs cs vs alpha beta : List ℕ) (n i : ℕ) (weighted : Weighted A L rs cs alpha beta n) (h : i < n) where
-    inverse-el : (a : ℕ) → a < n → el (inverse-at q (getD cs i 0) rs alpha (getD beta i 0) a)
-        ≡ β A L rs cs n i ⊗ (α A L rs cs n a ⊗ inv (row-points A L rs a ⊕ column-points A L cs i))
-    unfolding inverse-at
-    inverse-el a l =
-        let s = weighted .square in
-        el-times _ _
-        ∙ ap₂ _⊗_ (ap (λ (ws : List ℕ). el (getD ws i 0)) (weighted .beta-right) ∙ column-weight-el A L rs cs n i h)
-        (el-times _ _
-        ∙ ap₂ _⊗_ (ap (λ (ws : List ℕ). el (getD ws a 0)) (weighted .alpha-right) ∙ row-weight-el A L rs cs n a l)
-        (coefficient-el A _ _ L _ _ (s .rows-good .inside a l) (s .columns-good .inside i h)))
+  -- ---- an unknown from weighed values, by the points of the rows
+  module _ (rs cs vs : List ℕ) (n i : ℕ) (square : Square rs cs n) (h : i < n) where
+    -- a product, reduced
+    el-scaled : (a b : ℕ) → el (A .add 0 (a * b)) ≡ el a ⊗ el b
+    el-scaled a b = ap (λ (k : ℕ). el (k % q)) (zero-add (a * b)) ∙ el-times a b
 
-    pub inverse-row-right : (list : List ℕ) (b : ℕ) → list ≡ filled most-users n (inverse-at q (getD cs i 0) rs alpha (getD beta i 0))
-        → weighed (modular q) list n (λ a. cell vs a b) ≡ unknown-at (modular q) L rs cs (block vs b) n i
-    inverse-row-right list b e = unknown-right A L rs cs n vs list i b (weighted .square .few) (λ a l.
-        ap el (ap (λ (c : List ℕ). getD c a 0) e ∙ filled-at most-users _ n a l) ∙ inverse-el a l)
+    weighed-el : (a b : ℕ) → a < n → b < most-blocks → el (cell (weighed-values A L rs cs vs n) a b) ≡ α A L rs cs n a ⊗ el (cell vs a b)
+    unfolding weighed-values row-weight
+    weighed-el a b l k = ap el (grid-at _ n a b l k) ∙ el-scaled _ _ ∙ ap (λ u. u ⊗ el (cell vs a b)) (L .el-val _)
 
-  -- factors that are 0 do not count
-  pub unreduced-weighed : (most : ℕ) (cs : List ℕ) (f : ℕ → ℕ) (n m r : ℕ) → Factors n cs → n ≤ m
-      → Unreduced q most (λ i. getD cs i 0 * f i) 0 m r → r % q ≡ weighed (modular q) cs n f
-  unfolding weighed-by
-  unreduced-weighed most cs f n m r factors h u =
-      u .right ∙ sum-short A L m n 0 _ h (λ i l. ap (λ (c : ℕ). c * f i) (factors .behind i (omega arith)) ∙ zero-mul (f i))
+    term-el : (a b : ℕ) → a < n → b < most-blocks
+        → el (A .multiply (A .coefficient (getD cs i 0) (getD rs a 0)) (getD (block (weighed-values A L rs cs vs n) b) a 0))
+        ≡ inv (row-points A L rs a ⊕ column-points A L cs i) ⊗ (α A L rs cs n a ⊗ el (getD (block vs b) a 0))
+    term-el a b l k =
+        let few : a < most-users = omega (arith, square .few) in
+        L .el-multiply _ _
+        ∙ ap₂ _⊗_ (ap (λ (s : ℕ). el (inverse q s)) (add-comm (getD cs i 0) (getD rs a 0))
+        ∙ coefficient-el A _ _ L _ _ (square .rows-good .inside a l) (square .columns-good .inside i h))
+        (ap el (block-at _ b a few) ∙ weighed-el a b l k ∙ ap (λ (v : ℕ). α A L rs cs n a ⊗ el v) (sym (block-at vs b a few)))
+
+    pub unknown-by : (w b : ℕ) → b < most-blocks → w ≡ column-weight (modular q) L rs cs n i
+        → modular q .add 0 (modular q .multiply w (value-of (modular q) (getD cs i 0) rs (block (weighed-values (modular q) L rs cs vs n) b) n))
+        ≡ unknown-at (modular q) L rs cs (block vs b) n i
+    unfolding unknown-at column-weight weighed-by
+    unknown-by w b k e = val-of A L _ _ (mod-lt _ (prime-positive prime))
+        (el-scaled w _ ∙ ap₂ _⊗_ (ap el e ∙ L .el-val _) (sum-el A _ _ L (span n 0) _
+        ∙ field-sum-same K (span n 0) _ _ (λ a m. term-el a b (below n a m) k)))

@@ -10,7 +10,7 @@ use borrow.Author.Tests.{not-true, not-false}
 use Rattle.scheme.specs.Limits.{most-blocks}
 use Rattle.scheme.specs.Scheme.{sixteen}
 use Rattle.scheme.specs.Solve.{row-fits}
-use Rattle.scheme.proofs.Solving.Closed.{sums-low, filled-factors, row-same}
+use Rattle.scheme.proofs.Solving.Closed.{sums-low, row-same}
 use Rattle.solve.proofs.misfit.Statement.{statement}
 use Rattle.solve.proofs.misfit.Tie as tie
 
@@ -32,14 +32,14 @@ mul-at c = search needs
 loop-holds : tie.Need-loop-holds Inv-loop μ-loop
 loop-holds c = (search needs, search needs, refl, λ a l h. absurd (omega arith))
 
-mul-factors : tie.Need-mul-factors Inv-loop μ-loop
-mul-factors c = search needs
+mul-dots : tie.Need-mul-dots Inv-loop μ-loop
+mul-dots c = search needs
 
-element-copy-out-factors : tie.Need-element-copy-out-factors Inv-loop μ-loop
-element-copy-out-factors c = search needs
+element-copy-out-dots : tie.Need-element-copy-out-dots Inv-loop μ-loop
+element-copy-out-dots c = search needs
 
-factors-requires : tie.Need-factors-requires Inv-loop μ-loop
-factors-requires c κs =
+dots-requires : tie.Need-dots-requires Inv-loop μ-loop
+dots-requires c κs =
     let s = c .before .before .before in
     let a = c .before .before .loop .a in
     (omega arith, sums-low (s .pre .5) (omega (arith, s .pre .4 .inside a (c .before .loop-test .taken))))
@@ -48,14 +48,14 @@ same-row-requires : tie.Need-same-row-requires Inv-loop μ-loop
 same-row-requires c κs =
     let t = c .before .before .before in
     let l = t .before .loop in
-    (t .before .before .pre .3, omega (arith, l .inv .2, t .loop-test .taken), filled-factors _ _ _ (omega arith) (c .before .factors .ensures))
+    (t .before .before .pre .3, omega (arith, l .inv .2, t .loop-test .taken))
 
 returns : tie.Need-returns Inv-loop μ-loop
 returns c =
     let f = c .before .before .before in
     let t = f .before .before in
     let l = t .before .loop in
-    let e = row-same sixteen _ _ _ _ _ _ _ (l .a) _ (omega arith) (f .factors .ensures) (l .inv .2) in
+    let e = row-same sixteen _ _ _ _ _ _ _ (l .a) _ (t .before .before .pre .3) (f .dots .ensures) (l .inv .2) in
     record {
       low = l .inv .0;
       high = l .inv .1;
@@ -77,7 +77,7 @@ loop-again c =
     let f = c .before .before .before in
     let t = f .before .before in
     let l = t .before .loop in
-    let e = row-same sixteen _ _ _ _ _ _ _ (l .a) _ (omega arith) (f .factors .ensures) (l .inv .2) in (
+    let e = row-same sixteen _ _ _ _ _ _ _ (l .a) _ (t .before .before .pre .3) (f .dots .ensures) (l .inv .2) in (
       omega arith,
       omega arith,
       omega (arith, l .inv .2),
@@ -97,9 +97,9 @@ misfit-spec =
     μ-loop
     mul-at
     loop-holds
-    mul-factors
-    element-copy-out-factors
-    factors-requires
+    mul-dots
+    element-copy-out-dots
+    dots-requires
     same-row-requires
     returns
     add-at
