@@ -1,5 +1,5 @@
 // Square Cauchy systems modulo 65521 by their closed solution, the systems of all blocks side by side.
-//   gap_between, gap_entry, factor, weight_of     what depends on the points alone
+//   gap_between .. weight_of                      what depends on the points alone
 //   factors, add_row, dots, put_scaled            rows of numbers, one for each block: sums of them over points, one times a factor
 //   no_cells, weigh, solve                        the unknowns of every block, from weighed values
 //   same_row, misfit                              whether a further row has the values that follow; the first that has not
@@ -17,7 +17,7 @@ ghost use Rattle.scheme.specs.Limits.{most-users, most-threshold, most-blocks, 
 ghost use Rattle.scheme.specs.Lists.{span, all-of, filled};
 ghost use Rattle.scheme.specs.Scheme.{q, sixteen, elements};
 ghost use Rattle.scheme.specs.Solve.{Points, Square, Sums-low, value-of, block, scaled-on, row-weight, weighed-values, unknowns-of, row-fits, First-misfit, gap-between, gap-entry};
-ghost use Rattle.solve.specs.Solve.{laws16};
+ghost use Rattle.solve.specs.Solve.{laws16, most-factor};
 use plan::BLOCKS;
 use plan::CELLS;
 use plan::MOST_THRESHOLD;
@@ -54,12 +54,20 @@ fn gap_entry(d: u32) -> u16
     }
 }
 
-// One factor of a weight: a sum of two points, and a gap.
-fn factor(weight: u16, sum: u32, gap: u16) -> u16
-    requires { ⌜ sum ≤ 2 * most-users ⌝ }
-    ensures { λ r. ⌜ r ≡ weight * (sum * gap) % q ⌝ }
+// One factor of a weight, not reduced: the sum of the point x and one of the other side, over the gap to one of its own.
+fn factor(x: u32, other: u32, own: u32) -> u32
+    requires { ⌜ (1 ≤ x) × (x ≤ most-users) × (other ≤ most-users) × (1 ≤ own) × (own ≤ most-users) ⌝ }
+    ensures { λ r. ⌜ (r ≡ (x + other) * gap-between q x own) × (r ≤ most-factor) ⌝ }
 {
-    (weight as u64 * (sum as u64 * gap as u64) % element::Q as u64) as u16
+    (x + other) * gap_between(x, own) as u32
+}
+
+// Two factors at a time: each remainder is waited for.
+fn times_two(weight: u16, a: u32, b: u32) -> u16
+    requires { ⌜ (a ≤ most-factor) × (b ≤ most-factor) ⌝ }
+    ensures { λ r. ⌜ r ≡ weight * (a * b) % q ⌝ }
+{
+    (weight as u64 * (a as u64 * b as u64) % element::Q as u64) as u16
 }
 
 fn weight_of(own: &[u32; USERS], other: &[u32; USERS], n: usize, at: usize) -> u16
@@ -69,9 +77,13 @@ fn weight_of(own: &[u32; USERS], other: &[u32; USERS], n: usize, at: usize) -> u
     let x = own[at];
     let mut weight: u16 = 1;
     let mut i = 0;
-    while i < n {
-        weight = factor(weight, x + other[i], gap_between(x, own[i]));
-        i += 1;
+    while i + 1 < n {
+        let first = factor(x, other[i], own[i]);
+        weight = times_two(weight, first, factor(x, other[i + 1], own[i + 1]));
+        i += 2;
+    }
+    if i < n {
+        return times_two(weight, factor(x, other[i], own[i]), 1);
     }
     weight
 }
@@ -152,11 +164,11 @@ fn weigh(
 {
     let mut out = no_cells();
     let mut at = 0;
-    let mut a = 0;
-    while a < n {
-        put_scaled(&mut out, at, values, at, weight_of(rows, columns, n, a));
+    let mut i = 0;
+    while i < n {
+        put_scaled(&mut out, at, values, at, weight_of(rows, columns, n, i));
         at += BLOCKS;
-        a += 1;
+        i += 1;
     }
     out
 }

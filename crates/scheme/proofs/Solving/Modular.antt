@@ -1,14 +1,14 @@
 -- The solver's numbers modulo a prime, as code computes them.
 --   weight-exchanged                weights of rows are weights of columns with both exchanged: their points are the same residues
 --   gap-shift                       1 / (x - y) by most-threshold + x - y
---   Factoring, factoring-start, factoring-more, factoring-end     a loop that makes a weight, factor by factor
+--   Factoring, factoring-start, factoring-more, factoring-two, factoring-end     a loop that makes a weight: one factor more, or two
 --   unknown-by                      an unknown from values that are weighed already
 -- Assumes nothing.
-use mathlib.Core.Path.{_≡_, refl, sym, ap, ap₂, _∙_}
+use mathlib.Core.Path.{_≡_, refl, sym, ap, ap₂, _∙_, subst}
 use mathlib.Core.Bool.{Bool, true, false, cond}
 use mathlib.Core.List.{List}
 use Prim.Native.Nat.{ℕ, _+_, _*_, _-_, _%_, _≤_, _<_}
-use native.Mathlib.Nat.{add-comm, zero-add, mod-lt, mod-eq-of-lt}
+use native.Mathlib.Nat.{add-comm, zero-add, mul-assoc, mod-lt, mod-eq-of-lt}
 use native.Mathlib.Decide.{ℕ-discrete}
 use native.Mathlib.Omega.{arith}
 use lib.Dec.{eqb}
@@ -18,7 +18,7 @@ use Rattle.algebra.specs.Field.{Field, sub}
 use Rattle.algebra.specs.Residue.{Prime, inverse}
 use Rattle.algebra.specs.Cauchy.{gap}
 use Rattle.algebra.proofs.Sums.{sum-same as field-sum-same}
-use Rattle.algebra.proofs.Residue.{mods, el-path, prime-positive, residue}
+use Rattle.algebra.proofs.Residue.{mod-mul, mods, el-path, prime-positive, residue}
 use Rattle.scheme.specs.Limits.{most-users, most-threshold, most-blocks}
 use Rattle.scheme.specs.Lists.{span}
 use Rattle.scheme.specs.Scheme.{Arithmetic, modular}
@@ -108,6 +108,17 @@ module _ {q : ℕ} (prime : Prime q) (large : most-users + most-threshold < q) w
         → r ≡ w * ((getD own a 0 + getD other i 0) * gap-between q (getD own a 0) (getD own i 0)) % q → Factoring i w → Factoring (i + 1) r
     unfolding Factoring
     factoring-more i w r p h l e s = weighing-more A L _ _ n a i w r l (rw e (mod-lt _ (prime-positive prime))) (ap el e ∙ factor-el w i p h l) s
+
+    -- two factors at a time
+    pub factoring-two : (i w r : ℕ) → Points most-users n own → a < n → i + 1 < n
+        → r ≡ w * ((getD own a 0 + getD other i 0) * gap-between q (getD own a 0) (getD own i 0)
+        * ((getD own a 0 + getD other (i + 1) 0) * gap-between q (getD own a 0) (getD own (i + 1) 0))) % q → Factoring i w → Factoring (i + 2) r
+    factoring-two i w r p h l e s =
+        let d : i + 1 + 1 ≡ i + 2 = omega arith in
+        subst (λ (k : ℕ). Factoring k r) d (factoring-more (i + 1) _ r p h l (e ∙ twice w _ _) (factoring-more i w _ p h (omega arith) refl s))
+      where
+        twice : (w f g : ℕ) → w * (f * g) % q ≡ w * f % q * g % q
+        twice w f g = ap (λ (k : ℕ). k % q) (sym (mul-assoc w f g)) ∙ sym (mod-mul (w * f) g q)
 
     pub factoring-end : (i w : ℕ) → n ≤ i → Factoring i w → w ≡ row-weight A L own other n a
     unfolding Factoring row-weight

@@ -1,33 +1,35 @@
--- `solve::factor` meets its contract: the product of two 16-bit numbers and one of at most 2 * most-users fits 64 bits.
--- Assumes nothing.
-use Prim.Native.Nat.{_*_, _≤_}
+-- `solve::factor` meets its contract: a sum of two points times a 16-bit number. Assumes nothing.
+use mathlib.Core.Path.{_≡_, ap}
+use Prim.Native.Nat.{ℕ, _+_, _*_, _≤_}
 use native.Mathlib.Nat.{mul-le-mul}
 use native.Mathlib.Omega.{arith}
 use borrow.Author.Needs.{needs}
 use Rattle.scheme.specs.Limits.{most-users}
+use Rattle.element.specs.Fold.{most-word}
+use Rattle.solve.specs.Solve.{most-factor}
 use Rattle.solve.proofs.factor.Statement.{statement}
 use Rattle.solve.proofs.factor.Tie as tie
 
-mul-result : tie.Need-mul-result
-mul-result c = omega (arith, mul-le-mul {n₁ = c .args .sum} {m₁ = c .args .gap} {n₂ = 2 * most-users} {m₂ = 65535} (c .pre) (omega arith))
+low : (x y g : ℕ) → x ≤ most-users → y ≤ most-users → g ≤ most-word → (x + y) * g ≤ most-factor
+low x y g h l k = mul-le-mul {n₁ = x + y} {m₁ = g} {n₂ = 2 * most-users} {m₂ = most-word} (omega arith) k
 
-mul-result-2 : tie.Need-mul-result-2
-mul-result-2 c =
-    let a = c .args in
-    let h : a .sum * a .gap ≤ 2 * most-users * 65535 = mul-le-mul {m₂ = 65535} (c .pre) (omega arith) in
-    omega (arith, mul-le-mul {n₁ = a .weight} {m₁ = a .sum * a .gap} {n₂ = 65535} {m₂ = 2 * most-users * 65535} (omega arith) h)
+small : (c : tie.After-gap-between) → let a = c .before .args in (a .x + a .other) * c .gap-between .result ≤ most-factor
+small c = let p = c .before .pre in low _ _ _ (p .1) (p .2) (omega arith)
+
+add-result : tie.Need-add-result
+add-result c = search needs
+
+gap-between-requires : tie.Need-gap-between-requires
+gap-between-requires c κs = search needs
 
 cast-result : tie.Need-cast-result
 cast-result c = search needs
 
-rem-result : tie.Need-rem-result
-rem-result c = search needs
-
-cast-result-2 : tie.Need-cast-result-2
-cast-result-2 c = search needs
+mul-result : tie.Need-mul-result
+mul-result c = omega (arith, small c)
 
 returns : tie.Need-returns
-returns c = search needs
+returns c = let a = c .before .args in (ap (λ (g : ℕ). (a .x + a .other) * g) (c .gap-between .ensures), small c)
 
 pub factor-spec : {M : Type 1} → statement M
-factor-spec = tie.close (tie.spec mul-result mul-result-2 cast-result rem-result cast-result-2 returns)
+factor-spec = tie.close (tie.spec add-result gap-between-requires cast-result mul-result returns)

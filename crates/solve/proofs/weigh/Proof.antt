@@ -1,4 +1,4 @@
--- `solve::weigh` meets its contract. The loop's invariant: a rows are written. The measure is how many are left. Assumes nothing.
+-- `solve::weigh` meets its contract. The loop's invariant: i rows are written. The measure is how many are left. Assumes nothing.
 use mathlib.Core.Path.{ap, ap₂, _∙_}
 use Prim.Native.Nat.{ℕ, _+_, _*_, _-_, _%_, _≤_}
 use native.Mathlib.Omega.{arith}
@@ -14,11 +14,11 @@ use Rattle.solve.proofs.weigh.Statement.{statement}
 use Rattle.solve.proofs.weigh.Tie as tie
 
 abbrev Inv-loop : tie.InvT-loop
-Inv-loop rows columns values n out₀ at₀ a₀ out at a =
-    Rows (λ k b. sixteen .add 0 (sixteen .multiply (row-weight sixteen laws16 rows columns n k) (cell values k b))) n a at out
+Inv-loop rows columns values n out₀ at₀ i₀ out at i =
+    Rows (λ k b. sixteen .add 0 (sixteen .multiply (row-weight sixteen laws16 rows columns n k) (cell values k b))) n i at out
 
 abbrev μ-loop : tie.MeasureT-loop
-μ-loop rows columns values n out₀ at₀ a₀ out at a = n - a
+μ-loop rows columns values n out₀ at₀ i₀ out at i = n - i
 
 abbrev start : tie.In-loop Inv-loop μ-loop → tie.Start Inv-loop μ-loop
 start t = t .before .before .before
@@ -46,8 +46,8 @@ put-scaled-requires c κs =
 add-at : tie.Need-add-at Inv-loop μ-loop
 add-at c = search needs
 
-add-a : tie.Need-add-a Inv-loop μ-loop
-add-a c = search needs
+add-i : tie.Need-add-i Inv-loop μ-loop
+add-i c = search needs
 
 loop-less : tie.Need-loop-less Inv-loop μ-loop
 loop-less c = search needs
@@ -57,7 +57,7 @@ loop-again c =
     let t = c .before .before .before .before in
     let l = t .before .loop in
     let a = start t .args in
-    rows-more _ _ (l .a) _ _ _ most-blocks _ (start t .pre .few) (omega arith) (t .loop-test .taken)
+    rows-more _ _ (l .i) _ _ _ most-blocks _ (start t .pre .few) (omega arith) (t .loop-test .taken)
     (λ b k. ap₂ (λ (w i : ℕ). sixteen .add 0 (sixteen .multiply w (getD (a .values .now) (i + b) 0))) (c .before .weight-of .ensures) (l .inv .place))
     (λ b low high. absurd (omega arith)) (c .put-scaled .ensures) (l .inv)
 
@@ -76,7 +76,7 @@ weigh-spec =
     weight-of-requires
     put-scaled-requires
     add-at
-    add-a
+    add-i
     loop-less
     loop-again
     returns)
