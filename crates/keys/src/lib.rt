@@ -4,46 +4,63 @@
 //   refusal                         tests 1, 4, 2, 3
 //   copy_masks                      the user's own masks
 //   write_sets                      the shares for each usable set that holds the user
+//   is_large, members_of            whether a set is usable; its size, by halves
 //   write_shares                    the shares for one set
+//   fill_tables, fill_table         once a key: the sums of products over the sets of the first HALF users, and over those of the others
+//   at_most_half                    how many of the former there are
 //   mask_products                   once a key: the masks of each user times the first columns, reduced
+//   share_row, add_rows, put_row    in the lanes of a row: the shares with one noise element a block, a row plus another, a row written
 //   write_blocks, write_blocks_of   sums plus numbers times coefficients, block by block
 //   coefficients                    those of some columns
 //   weigh, times, reduced           numbers times coefficients; a sum reduced
-//   sum_rows, add_row, widened      the products of a set's users, row upon row, not reduced
-//   no_products, no_sums            zeros
+//   no_products, no_sums, no_row    zeros
 // Document 01's airfield is a user here, and its S of an airfield is that user's mask. The functions behind the refusals are
 // told in their contracts what the refusals have tested.
 ghost use mathlib.Core.Path.{_≡_};
 ghost use mathlib.Core.List.{map};
-ghost use Prim.Native.Nat.{ℕ, _+_, _*_, _≤_, _<_};
+ghost use Prim.Native.Nat.{ℕ, _+_, _*_, _/_, _%_, _^_, _≤_, _<_};
 ghost use lib.ListN.{length, getD, replicate};
 ghost use lib.Seq.{sets};
-ghost use Rattle.scheme.specs.Limits.{most-users, most-blocks, most-threshold, most-collusion, most-items, most-places, cells, points};
+ghost use Rattle.scheme.specs.Limits.{most-users, most-blocks, most-collusion, most-items, most-places, most-sets, cells, points};
 ghost use Rattle.scheme.specs.Lists.{span, rows};
-ghost use Rattle.scheme.specs.Scheme.{q, sixteen, places, sets-with, mask, shares, key-length, key-refusal, key-left};
+ghost use Rattle.scheme.specs.Scheme.{q, sixteen, places, usable, ones, sets-with, mask, shares, key-length, key-refusal, key-left};
+ghost use Rattle.scheme.specs.Good.{Good};
 ghost use Rattle.scheme.specs.Drawn.{list-refusal, list-left};
 ghost use Rattle.scheme.specs.Weighed.{Unreduced};
-ghost use Rattle.scheme.specs.KeyParts.{Key-input, Coefficients, block-values, Products, shares-from, Row-added, Unreduced-sums};
+ghost use Rattle.scheme.specs.KeyParts.{Key-input, Coefficients, block-values, Products, half, half-sets, table-cells, added-row, Scaled-row, Table, Tables};
 ghost use Rattle.plan.specs.Plan.{plan-of};
-ghost use Rattle.element.specs.Fold.{most-word, most-product};
+ghost use Rattle.element.specs.Fold.{word, most-product};
+ghost use Rattle.element.specs.Halves.{Scales};
 
 mod drawing;
 
 use element::Q;
+use element::Scale;
+use element::add;
+use element::add_scaled;
 use element::all_elements;
 use element::coefficient;
+use element::scale_of;
 use plan::BLOCKS;
 use plan::CELLS;
+use plan::MOST_BLOCKS;
 use plan::MOST_ITEMS;
 use plan::Plan;
 use plan::USERS;
 use plan::count_sets;
-use plan::has_enough;
 use plan::holds;
 use plan::key_of;
 use plan::list_of;
 use plan::places_of;
 use plan::start_refusal;
+
+// So many users have the first table of sums, the others the second one.
+const HALF: usize = 4;
+
+const HALF_SETS: u32 = 1 << HALF;
+
+// A row of BLOCKS sums for each set.
+const TABLE: usize = HALF_SETS as usize * BLOCKS;
 
 // Document 02, item 1, of the bytes of a noise source: "reads them as two-byte numbers, low byte first, skips each number above 65520, and
 // stops once the lent random list is full". Answers 0, or the number of the refusal, and then `list` stays as it was.
@@ -115,8 +132,12 @@ fn write_sets(plan: Plan, user: u32, list: &[u16], out: &mut [u16], row: usize)
         ≡ sets (now (out .entry)) row (rows (shares sixteen (plan-of plan) (now (list .entry)) user) (sets-with (plan-of plan) user)) ⌝ }
 {
     let products = mask_products(plan, user, list, row);
+    let mut low = no_sums();
+    let mut high = no_sums();
+    fill_tables(plan, &products, &mut low, &mut high);
     let items = plan.threshold - plan.collusion;
-    let high = coefficients(user, 1 + items, plan.collusion);
+    let factors = coefficients(user, 1 + items, plan.collusion);
+    let scale = scale_of(factors[0]);
     let blocks = plan.blocks as usize;
     let step = blocks * plan.collusion as usize;
     let mut noise = plan.users as usize * row;
@@ -124,11 +145,11 @@ fn write_sets(plan: Plan, user: u32, list: &[u16], out: &mut [u16], row: usize)
     let mut v: u32 = 0;
     let mut left = count_sets(plan);
     while 0 < left {
-        if has_enough(plan, v) {
+        if is_large(plan, v) {
             let here = noise;
             noise += step;
             if holds(v, user) {
-                write_shares(plan, &products, &high, list, v, here, out, at);
+                write_shares(plan, &low, &high, v, &factors, scale, list, here, out, at);
                 at += blocks;
             }
         }
@@ -137,26 +158,126 @@ fn write_sets(plan: Plan, user: u32, list: &[u16], out: &mut [u16], row: usize)
     }
 }
 
+// "A usable set has at least U members": counted in two halves, since the machine may lack an instruction for it.
+fn is_large(plan: Plan, set: u32) -> bool
+    requires { ⌜ (plan .users ≤ most-users) × (set < 2 ^ plan .users) × (set < most-sets) ⌝ }
+    ensures { λ r. ⌜ r ≡ usable (plan-of plan) set ⌝ }
+{
+    plan.threshold <= members_of(set % HALF_SETS) + members_of(set / HALF_SETS)
+}
+
+// How many users a set of at most HALF users has. The compiler makes a table of the arms.
+fn members_of(set: u32) -> u32
+    requires { ⌜ set < half-sets ⌝ }
+    ensures { λ r. ⌜ (r ≡ ones half set) × (r ≤ half) ⌝ }
+{
+    match set {
+        0 => 0,
+        1 => 1,
+        2 => 1,
+        3 => 2,
+        4 => 1,
+        5 => 2,
+        6 => 2,
+        7 => 3,
+        8 => 1,
+        9 => 2,
+        10 => 2,
+        11 => 3,
+        12 => 2,
+        13 => 3,
+        14 => 3,
+        _ => 4,
+    }
+}
+
 // "Columns 1 to U − T times the sums over V of S in that block, plus columns U − T + 1 to U times the T noise elements."
 // The columns are multiplied first and the sums over V taken of the products, which comes to the same. The noise lies from `noise` on.
 fn write_shares(
     plan: Plan,
-    products: &[u16; CELLS],
-    high: &[u16; USERS],
-    list: &[u16],
+    low: &[u16; TABLE],
+    high: &[u16; TABLE],
     set: u32,
+    factors: &[u16; USERS],
+    scale: Scale,
+    list: &[u16],
     noise: usize,
     out: &mut [u16],
     at: usize,
 )
-    requires { ⌜ (plan .users ≤ most-users) × (plan .collusion ≤ most-collusion) × (plan .blocks ≤ most-blocks) ⌝ }
+    requires { ⌜ (plan .collusion ≤ most-collusion) × (plan .blocks ≤ most-blocks) × (set < most-sets) ⌝ }
+    requires { ⌜ ((b : ℕ) → b < most-blocks → getD (now low) (set % half-sets * most-blocks + b) 0 < q) ⌝ }
+    requires { ⌜ ((b : ℕ) → b < most-blocks → getD (now high) (set / half-sets * most-blocks + b) 0 < q) ⌝ }
+    requires { ⌜ Scales word q (getD (now factors) 0 0) (scale .by) (scale .key) ⌝ }
     requires { ⌜ (noise + plan .blocks * plan .collusion ≤ length (now list)) × (at + plan .blocks ≤ length (now out)) ⌝ }
     ensures { λ r. ⌜ now (out .exit)
-        ≡ sets (now (out .entry)) at (shares-from sixteen (plan-of plan) (now (products .entry)) (now (high .entry)) (now (list .entry)) set noise) ⌝ }
+        ≡ sets (now (out .entry)) at (block-values sixteen
+        (added-row sixteen (now (low .entry)) (set % half-sets * most-blocks) (now (high .entry)) (set / half-sets * most-blocks))
+        (now (factors .entry)) (plan .collusion) (now (list .entry)) noise (plan .blocks)) ⌝ }
 {
-    let blocks = plan.blocks as usize;
-    let sums = sum_rows(products, set, plan.users);
-    write_blocks(&sums, high, plan.collusion, list, noise, out, at, blocks);
+    let i = (set % HALF_SETS) as usize * BLOCKS;
+    let j = (set / HALF_SETS) as usize * BLOCKS;
+    if plan.collusion == 1 {
+        if plan.blocks == MOST_BLOCKS {
+            let row = share_row(low, i, high, j, scale, list, noise);
+            put_row(&row, out, at);
+            return;
+        }
+    }
+    let sums = add_rows(low, i, high, j);
+    write_blocks(
+        &sums,
+        factors,
+        plan.collusion,
+        list,
+        noise,
+        out,
+        at,
+        plan.blocks as usize,
+    );
+}
+
+// The sums over every set of the first HALF users, and over every set of the others.
+fn fill_tables(plan: Plan, products: &[u16; CELLS], low: &mut [u16; TABLE], high: &mut [u16; TABLE])
+    requires { ⌜ Good (plan-of plan) × (now low ≡ replicate table-cells 0) × (now high ≡ replicate table-cells 0) ⌝ }
+    requires { ⌜ ((i : ℕ) → getD (now products) i 0 < q) ⌝ }
+    ensures { λ r. ⌜ Tables sixteen (now (products .entry)) (plan .users) (now (low .exit)) (now (high .exit)) ⌝ }
+{
+    let sets = count_sets(plan);
+    fill_table(products, 0, at_most_half(sets), low);
+    fill_table(products, HALF, (sets - 1) / HALF_SETS + 1, high);
+}
+
+fn at_most_half(sets: u32) -> u32
+    requires { ⌜ 1 ≤ sets ⌝ }
+    ensures { λ r. ⌜ (1 ≤ r) × (r ≤ half-sets) × ((v : ℕ) → v < sets → v % half-sets < r) ⌝ }
+{
+    if sets < HALF_SETS {
+        return sets;
+    }
+    HALF_SETS
+}
+
+// A row for each of the first sets of HALF users behind the first ones: the row of the set without its last user, plus that user's products,
+// which lie from `with` on. The set of that user alone has the row from `top` on.
+fn fill_table(products: &[u16; CELLS], first: usize, sets: u32, sums: &mut [u16; TABLE])
+    requires { ⌜ (first + half ≤ most-users) × (1 ≤ sets) × (sets ≤ half-sets) × (now sums ≡ replicate table-cells 0) ⌝ }
+    requires { ⌜ ((i : ℕ) → getD (now products) i 0 < q) ⌝ }
+    ensures { λ r. ⌜ Table sixteen (now (products .entry)) first sets (now (sums .exit)) ⌝ }
+{
+    let end = sets as usize * BLOCKS;
+    let mut with = first * BLOCKS;
+    let mut top = BLOCKS;
+    let mut at = BLOCKS;
+    while at < end {
+        let sum = add_rows(sums, at - top, products, with);
+        put_row(&sum, sums, at);
+        at += BLOCKS;
+        if at == top + top {
+            top = at;
+            with += BLOCKS;
+        }
+    }
 }
 
 // For each user a row of BLOCKS numbers: "columns 1 to U − T times" that user's masks, block by block.
@@ -168,7 +289,7 @@ fn mask_products(plan: Plan, user: u32, list: &[u16], row: usize) -> [u16; CELLS
     let items = plan.threshold - plan.collusion;
     let low = coefficients(user, 1, items);
     let blocks = plan.blocks as usize;
-    let zeros = no_sums();
+    let zeros = no_row();
     let mut products = no_products();
     let mut from = 0;
     let mut at = 0;
@@ -182,10 +303,63 @@ fn mask_products(plan: Plan, user: u32, list: &[u16], row: usize) -> [u16; CELLS
     products
 }
 
-// Block by block, from `at` on: a sum plus n numbers of the list, which lie from `start` on, times the coefficients, reduced.
+// All blocks of a set at once, with one noise element each: a row of each table, plus the numbers of the list times the factor of the scale.
+fn share_row(
+    low: &[u16; TABLE],
+    i: usize,
+    high: &[u16; TABLE],
+    j: usize,
+    scale: Scale,
+    list: &[u16],
+    noise: usize,
+) -> [u16; BLOCKS]
+    requires { ⌜ (i + most-blocks ≤ table-cells) × (j + most-blocks ≤ table-cells) × (noise + most-blocks ≤ length (now list)) × (scale .by < q) ⌝ }
+    requires { ⌜ ((b : ℕ) → b < most-blocks → getD (now low) (i + b) 0 < q) ⌝ }
+    requires { ⌜ ((b : ℕ) → b < most-blocks → getD (now high) (j + b) 0 < q) ⌝ }
+    ensures { λ r. ⌜ ((a : ℕ) → Scales word q a (scale .by) (scale .key) → Scaled-row sixteen (now (low .entry)) i (now (high .entry)) j a
+        (now (list .entry)) noise most-blocks r) ⌝ }
+{
+    let mut row = no_row();
+    let mut b = 0;
+    while b < BLOCKS {
+        let sum = add(low[i + b], high[j + b]);
+        row[b] = add_scaled(sum, list[noise + b], scale);
+        b += 1;
+    }
+    row
+}
+
+// A row of each, lane by lane, into a row of its own: nothing tells the compiler that lent lists do not overlap.
+fn add_rows(a: &[u16], i: usize, c: &[u16], j: usize) -> [u16; BLOCKS]
+    requires { ⌜ (i + most-blocks ≤ length (now a)) × (j + most-blocks ≤ length (now c)) ⌝ }
+    requires { ⌜ ((b : ℕ) → b < most-blocks → getD (now a) (i + b) 0 < q) ⌝ }
+    requires { ⌜ ((b : ℕ) → b < most-blocks → getD (now c) (j + b) 0 < q) ⌝ }
+    ensures { λ r. ⌜ r ≡ added-row sixteen (now (a .entry)) i (now (c .entry)) j ⌝ }
+{
+    let mut row = no_row();
+    let mut b = 0;
+    while b < BLOCKS {
+        row[b] = add(a[i + b], c[j + b]);
+        b += 1;
+    }
+    row
+}
+
+fn put_row(row: &[u16; BLOCKS], out: &mut [u16], at: usize)
+    requires { ⌜ at + most-blocks ≤ length (now out) ⌝ }
+    ensures { λ r. ⌜ now (out .exit) ≡ sets (now (out .entry)) at (map (λ b. getD (now (row .entry)) b 0) (span most-blocks 0)) ⌝ }
+{
+    let mut b = 0;
+    while b < BLOCKS {
+        out[at + b] = row[b];
+        b += 1;
+    }
+}
+
+// Block by block, from `at` on: a sum plus n numbers of the list, which lie from `start` on, times the factors, reduced.
 // One call for each n of a plan, so that the compiler knows the length of the inner loop.
 fn write_blocks(
-    sums: &[u32; BLOCKS],
+    sums: &[u16; BLOCKS],
     row: &[u16; USERS],
     n: u32,
     list: &[u16],
@@ -210,7 +384,7 @@ fn write_blocks(
 }
 
 fn write_blocks_of(
-    sums: &[u32; BLOCKS],
+    sums: &[u16; BLOCKS],
     row: &[u16; USERS],
     n: usize,
     list: &[u16],
@@ -268,48 +442,11 @@ fn times(a: u16, b: u16) -> u64
     a as u64 * b as u64
 }
 
-fn reduced(a: u32, b: u64) -> u16
+fn reduced(a: u16, b: u64) -> u16
     requires { ⌜ b ≤ most-items * most-product ⌝ }
     ensures { λ r. ⌜ r ≡ sixteen .add a b ⌝ }
 {
     ((a as u64 + b) % Q as u64) as u16
-}
-
-// "The sums over V", of products.
-fn sum_rows(products: &[u16; CELLS], set: u32, users: u32) -> [u32; BLOCKS]
-    requires { ⌜ users ≤ most-users ⌝ }
-    ensures { λ r. ⌜ Unreduced-sums q most-word (now (products .entry)) set users r ⌝ }
-{
-    let mut sums = no_sums();
-    let mut from = 0;
-    let mut k: u32 = 0;
-    while k < users {
-        if holds(set, k + 1) {
-            add_row(&mut sums, products, from);
-        }
-        from += BLOCKS;
-        k += 1;
-    }
-    sums
-}
-
-// Adds a row of products, from `from` on, to the sums, which have room for one more.
-fn add_row(sums: &mut [u32; BLOCKS], products: &[u16; CELLS], from: usize)
-    requires { ⌜ (from + most-blocks ≤ cells) × (length (now sums) ≡ most-blocks) ⌝ }
-    requires { ⌜ ((b : ℕ) → b < most-blocks → getD (now sums) b 0 ≤ most-threshold * most-word) ⌝ }
-    ensures { λ r. ⌜ Row-added most-word (now (products .entry)) from most-blocks (now (sums .entry)) (now (sums .exit)) ⌝ }
-{
-    let mut i = 0;
-    while i < BLOCKS {
-        sums[i] = sums[i] + widened(products[from + i]);
-        i += 1;
-    }
-}
-
-fn widened(a: u16) -> u32
-    ensures { λ r. ⌜ (r ≡ a) × (r ≤ most-word) ⌝ }
-{
-    a as u32
 }
 
 fn no_products() -> [u16; CELLS]
@@ -318,8 +455,14 @@ fn no_products() -> [u16; CELLS]
     [0u16; CELLS]
 }
 
-fn no_sums() -> [u32; BLOCKS]
+fn no_sums() -> [u16; TABLE]
+    ensures { λ r. ⌜ r ≡ replicate table-cells 0 ⌝ }
+{
+    [0u16; TABLE]
+}
+
+fn no_row() -> [u16; BLOCKS]
     ensures { λ r. ⌜ r ≡ replicate most-blocks 0 ⌝ }
 {
-    [0u32; BLOCKS]
+    [0u16; BLOCKS]
 }

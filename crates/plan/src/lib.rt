@@ -195,7 +195,7 @@ pub fn is_usable(p: Plan, set: u32) -> bool
 }
 
 // Of a set with no member above K.
-pub fn has_enough(p: Plan, set: u32) -> bool
+fn has_enough(p: Plan, set: u32) -> bool
     requires { ⌜ set < 2 ^ p .users ⌝ }
     ensures { λ r. ⌜ r ≡ usable (plan-of p) set ⌝ }
 {

@@ -4,4 +4,5 @@ pub mod Rows
 pub mod Places
 pub mod Shares
 pub mod Sums
+pub mod Tables
 pub mod Writing

@@ -37,14 +37,14 @@ coefficients-requires c κs = search needs
 cast-blocks : tie.Need-cast-blocks Inv-loop μ-loop
 cast-blocks c = search needs
 
-no-sums-requires : tie.Need-no-sums-requires Inv-loop μ-loop
-no-sums-requires c κs = search needs
+no-row-requires : tie.Need-no-row-requires Inv-loop μ-loop
+no-row-requires c κs = search needs
 
 no-products-requires : tie.Need-no-products-requires Inv-loop μ-loop
 no-products-requires c κs = search needs
 
 loop-holds : tie.Need-loop-holds Inv-loop μ-loop
-loop-holds c = (search needs, sym (zero-mul _), refl, rw (c .no-products .ensures) (products-start _ _ _ _))
+loop-holds c = (search needs, sym (zero-mul _), refl, rw (c .no-products .ensures) (products-start sixteen-sums _ _ _))
 
 -- in a turn: the user's masks lie in the list
 inside : (c : tie.Then1 Inv-loop μ-loop) → let l = c .before .before in let a = begun l .args in l .loop .from + a .row ≤ length (a .list .now)
@@ -95,7 +95,7 @@ loop-again c =
       omega (arith, t .if1 .taken),
       ap (λ (n : ℕ). n + s .args .row) (i .inv .1) ∙ row-next (i .k) (s .args .row),
       omega (arith, i .inv .2),
-      rw (c .before .write-blocks .ensures, l .before .before .no-sums .ensures)
+      rw (c .before .write-blocks .ensures, l .before .before .no-row .ensures)
           (products-more sixteen-sums (i .inv .3) (weighing l .coefficients .ensures) few (omega (arith, t .if1 .taken)) _ _
           (i .inv .1 ∙ ap (λ (n : ℕ). i .k * n) (s .pre .1 .0)) (i .inv .2)),
     )
@@ -116,7 +116,7 @@ mask-products-spec =
     sub-items
     coefficients-requires
     cast-blocks
-    no-sums-requires
+    no-row-requires
     no-products-requires
     loop-holds
     slice-aggregate-write-blocks

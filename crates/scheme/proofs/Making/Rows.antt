@@ -2,24 +2,22 @@
 --   below-more                             what holds of every number below i, of one more
 --   members-take, members-skip             the numbers that pass a test, of one number more: it passes, or not
 --   rows-take, rows-skip                   rows of them
---   sum-take, sum-skip                     sums over them, from 1 on
 --   row-more, row-other, row-at            a row put into a list: one number more, what lies elsewhere, its numbers
+--   row-all                                what holds of every number then
 -- Assumes nothing.
 use mathlib.Core.Path.{_≡_, refl, sym, ap, ap₂, _∙_, subst}
 use mathlib.Core.Logic.{_≢_, ⊎-elim}
 use mathlib.Core.Bool.{Bool, true, false}
 use mathlib.Core.List.{List, [], _∷_, _++_, map, append-nil}
-use Prim.Native.Nat.{ℕ, zero, suc, _+_, _≤_, _<_}
-use native.Mathlib.Nat.{eq-or-lt-of-le, add-comm, add-zero, zero-add}
+use Prim.Native.Nat.{ℕ, zero, suc, _+_, _-_, _≤_, _<_}
+use native.Mathlib.Nat.{eq-or-lt-of-le, add-zero, zero-add}
+use native.Mathlib.Decide.{decLt}
 use native.Mathlib.Omega.{arith}
 use lib.ListN.{length, getD, set, length-set}
 use lib.Seq.{sets, getD-set-same, getD-set-other}
 use Rattle.scheme.specs.Lists.{span, keep, members, rows}
-use Rattle.scheme.specs.Scheme.{Arithmetic, sum}
-use Rattle.scheme.specs.Laws.{Laws}
 use Rattle.scheme.proofs.Tests.{none-below}
 use Rattle.scheme.proofs.Lists.{map-span-length, map-below-at, members-append, rows-append, sets-more}
-use Rattle.scheme.proofs.Sums.{sum-more}
 
 pub below-more : (P : ℕ → Type 0) {i : ℕ} → ((j : ℕ) → j < i → P j) → P i → (j : ℕ) → j < i + 1 → P j
 below-more P {i} h x j l = ⊎-elim (λ (d : j ≡ i). subst P (sym d) x) (λ (d : j < i). h j d) (eq-or-lt-of-le (omega arith))
@@ -41,13 +39,6 @@ module _ (t : ℕ → Bool) (f : ℕ → List ℕ) (v : ℕ) where
 
   pub rows-skip : t v ≡ false → rows f (members t (v + 1) 0) ≡ rows f (members t v 0)
   rows-skip e = ap (rows f) (members-skip t v 0 v (zero-add v) e)
-
-module _ {A : Arithmetic} {n m : ℕ} (L : Laws A n m) (t : ℕ → Bool) (k : ℕ) (f : ℕ → ℕ) where
-  pub sum-take : t (k + 1) ≡ true → sum A (members t (k + 1) 1) f ≡ A .add (sum A (members t k 1) f) (f (k + 1))
-  sum-take e = ap (λ (l : List ℕ). sum A l f) (members-take t k 1 (k + 1) (add-comm 1 k) e) ∙ sum-more _ _ _ L (members t k 1) (k + 1) f
-
-  pub sum-skip : t (k + 1) ≡ false → sum A (members t (k + 1) 1) f ≡ sum A (members t k 1) f
-  sum-skip e = ap (λ (l : List ℕ). sum A l f) (members-skip t k 1 (k + 1) (add-comm 1 k) e)
 
 -- ---- a row put into a list
 sets-other : (vs l : List ℕ) (i j : ℕ) → ((b : ℕ) → b < length vs → j ≢ i + b) → _≡_ {A = ℕ} (getD (sets l i vs) j 0) (getD l j 0)
@@ -74,3 +65,13 @@ module _ (old : List ℕ) (at : ℕ) (f : ℕ → ℕ) (n : ℕ) {new : List ℕ
   row-at b j d h m =
       let l = map-span-length f n 0 in
       ap₂ (λ (r : List ℕ) (i : ℕ). getD r i 0) e d ∙ sets-at (map f (span n 0)) old at b (omega (arith, l)) (omega (arith, l)) ∙ map-below-at f n b h
+
+  -- what holds of every number
+  pub row-all : (P : ℕ → Type 0) → at + n ≤ length old → ((b : ℕ) → P (f b)) → ((j : ℕ) → P (getD old j 0)) → (j : ℕ) → P (getD new j 0)
+  row-all P m h o j = elim (decLt j at) [
+    | yes before ↦ subst P (sym (row-other j (λ b l d. omega arith))) (o j)
+    | no from ↦ elim (decLt j (at + n)) [
+      | yes in-row ↦ subst P (sym (row-at (j - at) j (omega arith) (omega arith) m)) (h (j - at))
+      | no behind ↦ subst P (sym (row-other j (λ b l d. omega arith))) (o j)
+    ]
+  ]

@@ -5,7 +5,7 @@
 use mathlib.Core.Path.{_≡_, sym, ap, ap₂, _∙_}
 use mathlib.Core.List.{List}
 use Prim.Native.Nat.{ℕ, suc, _+_, _*_, _-_, _≤_, _<_}
-use native.Mathlib.Nat.{add-zero}
+use native.Mathlib.Nat.{add-zero, zero-add}
 use native.Mathlib.Omega.{arith}
 use lib.ListN.{getD}
 use borrow.Author.Tests.{le-leb, lt-leb}
@@ -17,7 +17,7 @@ use Rattle.scheme.specs.Lists.{span, members}
 use Rattle.scheme.specs.Scheme.{Arithmetic, sum, Plan, items, places, in-set, users-in, mask, noise, noise-start, column, row-value, share, shares}
 use Rattle.scheme.specs.Laws.{Laws}
 use Rattle.scheme.specs.Weighed.{weighed-by, weighed}
-use Rattle.scheme.specs.KeyParts.{columns-value, Coefficients, block-item, Products, set-sum, share-from, shares-from}
+use Rattle.scheme.specs.KeyParts.{columns-value, Coefficients, block-item, Products, sum-from, set-sum, share-from, shares-from}
 use Rattle.scheme.proofs.Lists.{span-append, map-below-same, members-in}
 use Rattle.scheme.proofs.Sums.{el-same, sum-el, sum-small, sum-same, sum-append, sum-shift}
 use Rattle.scheme.proofs.Weighed.{weighed-as, weighed-same}
@@ -74,13 +74,14 @@ module _ (A : Arithmetic) (p : Plan) (xs : List ℕ) (v b : ℕ) where
 module _ {A : Arithmetic} {n m : ℕ} (L : Laws A n m) (p : Plan) (xs : List ℕ) (k : ℕ) (zs cs : List ℕ) (z : Products A p k xs (p .users) zs) where
   -- columns 1 to U - T: the sums over the set of the products of its users
   first-columns : (v b : ℕ) → b < p .blocks → set-sum A zs (p .users) v b ≡ columns-value A k 1 (items p) (λ i. column A p xs v b (1 + i))
-  unfolding mask users-in set-sum
+  unfolding mask users-in set-sum sum-from
   first-columns v b h =
       let w : ℕ = items p in
       let f : ℕ → ℕ → ℕ = λ j. block-item xs ((j - 1) * places p) w b in
       let l : List ℕ = members (in-set v) (p .users) 1 in
-      sum-same A l (λ j. getD zs ((j - 1) * most-blocks + b) 0) (λ j. columns-value A k 1 w (f j)) (λ j i.
-      let s = members-in (in-set v) (p .users) 1 j i in z .each (j - 1) (omega arith) b h) ∙ sym (columns-sum L k 1 w l f)
+      sum-same A l (λ j. getD zs ((0 + (j - 1)) * most-blocks + b) 0) (λ j. columns-value A k 1 w (f j)) (λ j i.
+      let s = members-in (in-set v) (p .users) 1 j i in
+      ap (λ (x : ℕ). getD zs (x * most-blocks + b) 0) (zero-add (j - 1)) ∙ z .each (j - 1) (omega arith) b h) ∙ sym (columns-sum L k 1 w l f)
       ∙ weighed-same A _ w (λ i s. sym (column-sum A p xs v b i s))
 
   module _ (more : p .collusion ≤ p .threshold) (c : Coefficients A k (1 + items p) (p .collusion) cs) where

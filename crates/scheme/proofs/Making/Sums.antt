@@ -1,28 +1,26 @@
--- Totals modulo q that a loop builds up, one summand a turn, and reduces once.
---   weight-end                               numbers times factors, with a sum, are the value of a block
---   added-start, added-more                  a row of numbers added to sums, one place a turn
---   added-long, added-rest, added-at         the length and the next sum stay; those so far
---   sums-start, sums-more-in, sums-more-out         sums over the users of a set
---   sums-end                                 reduced with the noise they are the shares
+-- Blocks of shares from sums and noise.
+--   weight-end, weight-one     numbers times factors, with a sum, are the value of a block; of one number, without a remainder of its own
+--   added-at, added-copy       a number of the sum of two rows; its numbers one by one
+--   scaled-start, scaled-more, scaled-end     the same plus numbers times a factor, one lane a turn; the shares with one noise element a block
+--   sums-end                   with the noise the sums from both tables are the shares
 -- Assumes nothing.
-use mathlib.Core.Path.{_≡_, refl, sym, ap, ap₂, _∙_}
-use mathlib.Core.Bool.{true, false}
-use mathlib.Core.List.{List}
-use Prim.Native.Nat.{ℕ, _+_, _*_, _-_, _%_, _≤_, _<_}
-use native.Mathlib.Nat.{zero-add, zero-mod, mod-add-mod, add-mod-mod}
+use mathlib.Core.Path.{_≡_, sym, ap, _∙_}
+use mathlib.Core.List.{List, map}
+use Prim.Native.Nat.{ℕ, _+_, _*_, _/_, _%_, _^_, _≤_, _<_}
+use native.Mathlib.Nat.{add-zero, add-mod-mod, le-refl}
 use native.Mathlib.Omega.{arith}
-use lib.ListN.{length, getD, set, replicate, length-replicate}
-use lib.Seq.{length-sets}
+use lib.ListN.{length, getD, set}
+use lib.Seq.{getD-set-same, getD-set-other}
 use Rattle.scheme.specs.Limits.{most-blocks}
-use Rattle.scheme.specs.Scheme.{modular, sum, Plan, in-set}
+use Rattle.scheme.specs.Lists.{span}
+use Rattle.scheme.specs.Scheme.{Arithmetic, modular, Plan}
 use Rattle.scheme.specs.Laws.{Laws}
 use Rattle.scheme.specs.Weighed.{weighed-by, weighed, Unreduced}
-use Rattle.scheme.specs.KeyParts.{block-item, block-value, block-values, set-sum, share-from, shares-from, Row-added, Unreduced-sums}
+use Rattle.scheme.specs.KeyParts.{block-item, block-value, block-values, share-from, shares-from, half-sets, added-row, Scaled-row, Tables}
+use Rattle.scheme.proofs.Lists.{map-below-same, map-below-at}
 use Rattle.scheme.proofs.Tests.{none-below}
-use Rattle.scheme.proofs.Lists.{map-below-same, zeros-at}
-use Rattle.scheme.proofs.Weighed.{weighed-same}
-use Rattle.scheme.proofs.Making.Rows.{below-more, sum-take, sum-skip, row-more, row-at, row-other}
-use Rattle.scheme.proofs.Making.Places.{row-next}
+use Rattle.scheme.proofs.Weighed.{weighed-same, unreduced-one}
+use Rattle.scheme.proofs.Making.Rows.{below-more}
 
 -- ---- numbers times factors
 pub weight-end : {q most : ℕ} (sums cs : List ℕ) (n : ℕ) (xs : List ℕ) (start from b total : ℕ) → from ≡ start + b * n
@@ -32,62 +30,53 @@ weight-end {q} sums cs n xs start from b total e d = sym (add-mod-mod (getD sums
     ∙ ap (λ (x : ℕ). (getD sums b 0 + x) % q) (d .right ∙ weighed-same (modular q) _ n (λ i h.
     let same : from + i ≡ start + (b * n + i) = omega arith in ap (λ (j : ℕ). getD xs j 0) same))
 
--- ---- a row added to sums
-pub added-start : (most : ℕ) (zs : List ℕ) (from : ℕ) (old : List ℕ) → Row-added most zs from 0 old old
-added-start most zs from old = record { small = λ b h. absurd (none-below b h); right = refl }
+-- one number times the first factor, as it is
+pub weight-one : {q n m : ℕ} → Laws (modular q) n m → (sums cs xs : List ℕ) (start b : ℕ)
+    → (getD sums b 0 + getD cs 0 0 * getD xs (start + b) 0) % q ≡ block-value (modular q) sums cs 1 xs start b
+weight-one {q} L sums cs xs start b =
+    weight-end sums cs 1 xs start (start + b) b _ (omega arith)
+    (unreduced-one L 0 (getD cs 0 0 * getD xs (start + b) 0) (ap (λ (x : ℕ). getD cs 0 0 * getD xs x 0 % q) (sym (add-zero (start + b)))) (le-refl _))
 
-module _ {most : ℕ} {zs : List ℕ} {from n : ℕ} {old new : List ℕ} (a : Row-added most zs from n old new) where
-  pub added-long : length new ≡ length old
-  added-long = ap length (a .right) ∙ simp length-sets
+-- ---- sums over a set, of its two halves
+pub added-at : (A : Arithmetic) (xs : List ℕ) (i : ℕ) (ys : List ℕ) (j b : ℕ) → b < most-blocks
+    → getD (added-row A xs i ys j) b 0 ≡ A .add (getD xs (i + b) 0) (getD ys (j + b) 0)
+unfolding added-row
+added-at A xs i ys j b h = map-below-at (λ b. A .add (getD xs (i + b) 0) (getD ys (j + b) 0)) most-blocks b h
 
-  pub added-rest : getD new n 0 ≡ getD old n 0
-  added-rest = row-other old 0 _ n (a .right) n (λ b h e. omega arith)
+pub added-copy : (A : Arithmetic) (xs : List ℕ) (i : ℕ) (ys : List ℕ) (j : ℕ)
+    → map (λ b. getD (added-row A xs i ys j) b 0) (span most-blocks 0) ≡ added-row A xs i ys j
+unfolding added-row
+added-copy A xs i ys j =
+    map-below-same (λ b. getD (added-row A xs i ys j) b 0) (λ b. A .add (getD xs (i + b) 0) (getD ys (j + b) 0)) most-blocks (added-at A xs i ys j)
 
-  pub added-at : n ≤ length old → (b : ℕ) → b < n → getD new b 0 ≡ getD old b 0 + getD zs (from + b) 0
-  added-at l b h = row-at old 0 _ n (a .right) b b (sym (zero-add b)) h (omega arith)
+pub scaled-start : {A : Arithmetic} {xs : List ℕ} {i : ℕ} {ys : List ℕ} {j c : ℕ} {zs : List ℕ} {k : ℕ} {row : List ℕ} → Scaled-row A xs i ys j c zs k 0 row
+scaled-start = record { each = λ b h. absurd (none-below b h) }
 
-  pub added-more : (x : ℕ) → (x ≡ getD zs (from + n) 0) × (x ≤ most) → Row-added most zs from (n + 1) old (set new n (getD new n 0 + x))
-  added-more x h = record {
-    small = below-more (λ b. getD zs (from + b) 0 ≤ most) (a .small) (omega arith);
-    right = row-more old 0 _ n (a .right) (sym (zero-add n)) (ap₂ _+_ added-rest (h .0));
-  }
+pub scaled-more : {A : Arithmetic} {xs : List ℕ} {i : ℕ} {ys : List ℕ} {j c : ℕ} {zs : List ℕ} {k n : ℕ} {row : List ℕ} → Scaled-row A xs i ys j c zs k n row →
+    n < length row → (x : ℕ) → x ≡ A .add (A .add (getD xs (i + n) 0) (getD ys (j + n) 0)) (A .multiply c (getD zs (k + n) 0)) →
+    Scaled-row A xs i ys j c zs k (n + 1) (set row n x)
+scaled-more {A} {xs} {i} {ys} {j} {c} {zs} {k} {n} {row} s h x e =
+    record {
+      each = below-more (λ b. getD (set row n x) b 0 ≡ A .add (A .add (getD xs (i + b) 0) (getD ys (j + b) 0)) (A .multiply c (getD zs (k + b) 0)))
+          (λ b l. getD-set-other row n b x 0 (λ d. omega arith) ∙ s .each b l) (getD-set-same row n x 0 h ∙ e);
+    }
 
--- ---- sums over a set
-pub sums-start : (q most : ℕ) (zs : List ℕ) (v : ℕ) → Unreduced-sums q most zs v 0 (replicate most-blocks 0)
-unfolding sum set-sum
-sums-start q most zs v = record {
-  long = length-replicate {A = ℕ} most-blocks 0;
-  small = λ b h. omega (arith, zeros-at most-blocks b);
-  right = λ b h. ap (λ (x : ℕ). x % q) (zeros-at most-blocks b) ∙ zero-mod q;
-}
+-- with one number a block, and the first factor, they are the values of all blocks
+pub scaled-end : {q n m : ℕ} → Laws (modular q) n m → {xs ys zs row : List ℕ} {i j k : ℕ} (cs : List ℕ)
+    → Scaled-row (modular q) xs i ys j (getD cs 0 0) zs k most-blocks row
+    → map (λ b. getD row b 0) (span most-blocks 0) ≡ block-values (modular q) (added-row (modular q) xs i ys j) cs 1 zs k most-blocks
+unfolding block-values
+scaled-end {q} L {xs} {ys} {zs} {row} {i} {j} {k} cs s =
+    map-below-same (λ b. getD row b 0) (block-value (modular q) (added-row (modular q) xs i ys j) cs 1 zs k) most-blocks (λ b h.
+    s .each b h ∙ ap (λ (x : ℕ). (x + getD cs 0 0 * getD zs (k + b) 0) % q) (sym (added-at (modular q) xs i ys j b h))
+    ∙ weight-one L (added-row (modular q) xs i ys j) cs zs k b)
 
-module _ {q n m : ℕ} (L : Laws (modular q) n m) {most : ℕ} {zs : List ℕ} {v k : ℕ} {sums : List ℕ} (s : Unreduced-sums q most zs v k sums) where
-  pub sums-more-in : in-set v (k + 1) ≡ true → (from : ℕ) → from ≡ k * most-blocks → (new : List ℕ) → Row-added most zs from most-blocks sums new
-      → Unreduced-sums q most zs v (k + 1) new
-  unfolding set-sum
-  sums-more-in e from f new a =
-      let added = added-at a (omega arith) in
-      record {
-        long = added-long a ∙ s .long;
-        small = λ b h. omega (arith, added b h, s .small b h, a .small b h, row-next k most);
-        right = λ b h.
-            let d : from + b ≡ (k + 1 - 1) * most-blocks + b = omega arith in
-            ap (λ (x : ℕ). x % q) (added b h ∙ ap (λ (i : ℕ). getD sums b 0 + getD zs i 0) d)
-            ∙ sym (sum-take L (in-set v) k (λ j. getD zs ((j - 1) * most-blocks + b) 0) e ∙ rw (← s .right b h, mod-add-mod));
-      }
-
-  pub sums-more-out : in-set v (k + 1) ≡ false → Unreduced-sums q most zs v (k + 1) sums
-  unfolding set-sum
-  sums-more-out e = record {
-    long = s .long;
-    small = λ b h. omega (arith, s .small b h, row-next k most);
-    right = λ b h. s .right b h ∙ sym (sum-skip L (in-set v) k _ e);
-  }
-
-pub sums-end : {q most : ℕ} (p : Plan) (zs sums cs xs : List ℕ) (v from : ℕ) → p .blocks ≤ most-blocks → Unreduced-sums q most zs v (p .users) sums
-    → block-values (modular q) sums cs (p .collusion) xs from (p .blocks) ≡ shares-from (modular q) p zs cs xs v from
+pub sums-end : {A : Arithmetic} (p : Plan) {zs low high : List ℕ} (cs xs : List ℕ) (v from : ℕ) → p .blocks ≤ most-blocks → Tables A zs (p .users) low high
+    → v < 2 ^ p .users
+    → block-values A (added-row A low (v % half-sets * most-blocks) high (v / half-sets * most-blocks)) cs (p .collusion) xs from (p .blocks)
+    ≡ shares-from A p zs cs xs v from
 unfolding block-values block-value shares-from share-from
-sums-end {q} p zs sums cs xs v from few s =
-    map-below-same (block-value (modular q) sums cs (p .collusion) xs from) (share-from (modular q) p zs cs xs v from) (p .blocks) (λ b h.
-    let w : ℕ = weighed (modular q) cs (p .collusion) (block-item xs from (p .collusion) b) in
-    sym (mod-add-mod (getD sums b 0) q w) ∙ ap (λ (x : ℕ). (x + w) % q) (s .right b (omega arith)))
+sums-end {A} p {zs} {low} {high} cs xs v from few t lt =
+    map-below-same _ (share-from A p zs cs xs v from) (p .blocks) (λ b h.
+    ap (λ (x : ℕ). A .add x (weighed A cs (p .collusion) (block-item xs from (p .collusion) b)))
+    (added-at A low _ high _ b (omega arith) ∙ t .right v lt b (omega arith)))

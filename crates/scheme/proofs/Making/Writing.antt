@@ -26,10 +26,10 @@ use Rattle.scheme.specs.KeyParts.{Key-input, columns-value, Coefficients
 use Rattle.scheme.proofs.Tests.{and-both, and-joined, none-below}
 use Rattle.scheme.proofs.Lists.{map-span-length, rows-length, sets-append, sets-whole, zeros-at}
 use Rattle.scheme.proofs.Refusals.{then-zero, unless-zero, start-taken}
-use Rattle.scheme.proofs.Sums.{el-same}
+use Rattle.scheme.proofs.Sums.{el-same, zero-small}
 use Rattle.scheme.proofs.Keys.{shares-length, key-is-long}
 use Rattle.scheme.proofs.Weighed.{weighed-as, weighed-small}
-use Rattle.scheme.proofs.Making.Rows.{below-more, rows-take, rows-skip, row-other, row-at}
+use Rattle.scheme.proofs.Making.Rows.{below-more, rows-take, rows-skip, row-other, row-at, row-all}
 use Rattle.scheme.proofs.Making.Places.{noise-next, reply-next}
 
 pub key-accepted : (A : Arithmetic) (p : Plan) (k : ℕ) (xs : List ℕ) (out : ℕ) → key-refusal A p k xs out ≡ 0 → Key-input p k xs × (out ≡ key-length p k)
@@ -41,8 +41,12 @@ key-accepted A p k xs out e =
     (record { good = g .0; user-low = g .1; user-high = g .2; long = eqb-true _ _ (l .0) }, eqb-true _ _ (l .1))
 
 -- ---- products
-pub products-start : (A : Arithmetic) (p : Plan) (u : ℕ) (xs : List ℕ) → Products A p u xs 0 (replicate cells 0)
-products-start A p u xs = record { long = length-replicate {A = ℕ} cells 0; each = λ i h. absurd (none-below i h) }
+pub products-start : {A : Arithmetic} {n m : ℕ} → Laws A n m → (p : Plan) (u : ℕ) (xs : List ℕ) → Products A p u xs 0 (replicate cells 0)
+products-start {A} {n} {m} L p u xs = record {
+  long = length-replicate {A = ℕ} cells 0;
+  small = λ i. rw (zeros-at cells i) (zero-small A n m L);
+  each = λ i h. absurd (none-below i h);
+}
 
 module _ {A : Arithmetic} {n m : ℕ} (L : Laws A n m) where
   open Laws L using (K, el)
@@ -64,13 +68,14 @@ module _ {A : Arithmetic} {n m : ℕ} (L : Laws A n m) where
   pub products-more : {p : Plan} {u : ℕ} {xs : List ℕ} {k : ℕ} {old cs : List ℕ} → Products A p u xs k old → Coefficients A u 1 (items p) cs →
       p .blocks ≤ most-blocks → k < most-users → (from at : ℕ) → from ≡ k * places p → at ≡ k * most-blocks →
       Products A p u xs (k + 1) (sets old at (block-values A (replicate most-blocks 0) cs (items p) xs from (p .blocks)))
-  unfolding block-values
+  unfolding block-values block-value
   products-more {p} {u} {xs} {k} {old} {cs} z c few h from at e d =
       let f : ℕ → ℕ = block-value A (replicate most-blocks 0) cs (items p) xs from in
       let new : List ℕ = sets old at (map f (span (p .blocks) 0)) in
       let value : ℕ → ℕ → ℕ = λ i b. columns-value A u 1 (items p) (block-item xs (i * places p) (items p) b) in
       record {
         long = length-sets old at (map f (span (p .blocks) 0)) ∙ z .long;
+        small = row-all old at f (p .blocks) refl (λ x. x < A .size) (omega arith) (λ b. L .add-small _ _) (z .small);
         each = below-more (λ i. (b : ℕ) → b < p .blocks → getD new (i * most-blocks + b) 0 ≡ value i b)
             (λ i l b s. row-other old at f (p .blocks) refl (i * most-blocks + b) (λ a m same. omega arith) ∙ z .each i l b s) (λ b s.
             row-at old at f (p .blocks) refl b _ (ap (λ (a : ℕ). a + b) (sym d)) s (omega arith) ∙ alone c xs from b
