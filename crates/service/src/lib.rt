@@ -181,7 +181,7 @@ pub fn element_of(held: u16) -> u16
 }
 
 // What a place holds once an element has come, both as they are held: what it held, or else the new one.
-pub fn left_in(held: u16, new: u16) -> u16
+fn left_in(held: u16, new: u16) -> u16
     ensures { λ r. ⌜ r ≡ left-in held new ⌝ }
 {
     if 0 < held {

@@ -1,16 +1,17 @@
 -- Element records that are taken in silence, one upon another.
 --   silent-at                     one record, by what its call says
 --   element-passes                an element that fits is refused by none of the tests that both kinds share
+--   free-or-same                  what is left in a place that takes an element
 --   Row, row-new, row-kept, row-inside     the first two bytes of an element record, and where its user's elements start
 --   Comes, comes                  an element record that is to be taken, and what is left where its element belongs
 --   first-silent, reply-silent    it is taken in silence: a first element, and a reply element
 --   first-accepted, reply-accepted     what an accepted element tells of the head
 -- Assumes nothing.
-use mathlib.Core.Path.{_≡_, sym, ap, ap₂, _∙_}
+use mathlib.Core.Path.{_≡_, refl, sym, ap, ap₂, _∙_}
 use mathlib.Core.Bool.{true}
 use mathlib.Core.List.{List}
-use Prim.Native.Nat.{ℕ, _+_, _-_, _/_, _%_, _≤_, _<_}
-use native.Mathlib.Nat.{mul-le-mul-right}
+use Prim.Native.Nat.{ℕ, zero, suc, _+_, _*_, _-_, _/_, _%_, _≤_, _<_}
+use native.Mathlib.Nat.{mul-le-mul-right, eq-of-mul-eq-mul-left}
 use native.Mathlib.Omega.{arith}
 use lib.ListN.{length, getD, set}
 use borrow.Author.Tests.{lt-ltb, le-leb}
@@ -42,6 +43,12 @@ element-passes : {A : Arithmetic} {n l k i x : ℕ} → Fits A n l k i x → ele
 unfolding element-refusal unless _then_
 element-passes f = simp (le-leb _ _ (f .low), le-leb _ _ (f .high), lt-ltb _ _ (f .place), lt-ltb _ _ (f .small))
 
+-- of a place that holds nothing or the same
+pub free-or-same : (held new : ℕ) → held * held ≡ held * new → left-in held new ≡ new
+unfolding left-in
+free-or-same zero new e = refl
+free-or-same (suc h) new e = eq-of-mul-eq-mul-left (suc h) (omega arith) (suc h) new e
+
 -- the first two bytes of an element record, and where the elements of its user start
 pub record Row (kind stride users tag row : ℕ) : Type 0 where
   pub own : tag % 256 ≡ kind
@@ -64,59 +71,57 @@ row-inside {stride = w} {users} {tag} r h l =
     let d : tag / 256 - 1 ≤ users - 1 = omega (arith, r .high) in
     omega (arith, r .found, mul-le-mul-right w d)
 
--- the record at a place carries the element x of user k for i, and `left` is what is left where the code has found its place
-pub record Comes (A : Arithmetic) (b : List ℕ) (at kind size users limit stride : ℕ) (xs : List ℕ) (k i x place new left : ℕ) : Type 0 where
+-- the record at a place carries the element x of user k for i, and that is what is left where the code has found its place
+pub record Comes (A : Arithmetic) (b : List ℕ) (at kind size users limit stride : ℕ) (xs : List ℕ) (k i x place new : ℕ) : Type 0 where
   pub own : getD b at 0 ≡ kind
   pub whole : at + size ≤ length b
   pub fits : Fits A users limit k i x
-  pub behind : Behind xs (slot stride k i) x place new left
-  pub taken : left ≡ new
+  pub behind : Behind xs (slot stride k i) x place new new
 
-pub comes : {A : Arithmetic} {b xs : List ℕ} {at kind size users limit stride tag row k i x place element new left : ℕ}
+pub comes : {A : Arithmetic} {b xs : List ℕ} {at kind size users limit stride tag row k i x place element new : ℕ}
     → Row kind stride users tag row → tag % 256 ≡ getD b at 0 → tag / 256 ≡ k → place ≡ i → element ≡ x → at + size ≤ length b
-    → place < limit → element < A .size → new ≡ held-as element → left ≡ left-in (getD xs (row + place) 0) new → left ≡ new
-    → Comes A b at kind size users limit stride xs k i x (row + place) new left
-comes {stride = w} r kind user d e whole l s made stays taken =
+    → place < limit → element < A .size → new ≡ held-as element → left-in (getD xs (row + place) 0) new ≡ new
+    → Comes A b at kind size users limit stride xs k i x (row + place) new
+comes {stride = w} r kind user d e whole l s made stays =
     record {
       own = sym kind ∙ r .own;
       whole = whole;
       fits = record { low = omega (arith, r .low, user); high = omega (arith, r .high, user); place = omega (arith, d, l); small = omega (arith, e, s) };
-      behind = record { found = ap₂ (λ (n m : ℕ). n + m) (r .found ∙ ap (row-start w) user) d; made = made ∙ ap held-as e; stays = stays };
-      taken = taken;
+      behind = record { found = ap₂ (λ (n m : ℕ). n + m) (r .found ∙ ap (row-start w) user) d; made = made ∙ ap held-as e; stays = sym stays };
     }
 
 -- ---- a first element
-pub first-silent : {h : Head} → not-gathering (phase-of (h .phase)) ≡ 0 → {b xs : List ℕ} {at place new left : ℕ}
-    → Comes sixteen b at 3 6 (h .plan .users) (h .places) most-places xs (getD b (at + 1) 0) (two-bytes b (at + 2)) (two-bytes b (at + 4)) place new left
+pub first-silent : {h : Head} → not-gathering (phase-of (h .phase)) ≡ 0 → {b xs : List ℕ} {at place new : ℕ}
+    → Comes sixteen b at 3 6 (h .plan .users) (h .places) most-places xs (getD b (at + 1) 0) (two-bytes b (at + 2)) (two-bytes b (at + 4)) place new
     → place < firsts
-    → (reply : List ℕ) → Silent-at b at (at + 6) (lent h xs reply) (lent h (set xs place left) reply)
+    → (reply : List ℕ) → Silent-at b at (at + 6) (lent h xs reply) (lent h (set xs place new) reply)
 unfolding record-length record-at step first-step first-refusal first-left
-first-silent {h} phase {b} {xs} {at} {place} {new} {left} c inside reply =
+first-silent {h} phase {b} {xs} {at} {place} {new} c inside reply =
     let k = getD b (at + 1) 0 in
     let i = two-bytes b (at + 2) in
     let x = two-bytes b (at + 4) in
     let e : first-refusal sixteen h xs k i x ≡ 0 =
     sym (both-passed phase (element-passes (c .fits)) _)
-    ∙ sym (test-passed (within (c .behind .found) inside) 8 _) ∙ unless-held (behind-takes (c .behind) (c .taken)) 13 in
-    let left : first-left sixteen h xs k i x ≡ set xs place left = after-taken e _ xs ∙ sym (behind-put (c .behind) (c .taken)) in
+    ∙ sym (test-passed (within (c .behind .found) inside) 8 _) ∙ unless-held (behind-takes (c .behind) refl) 13 in
+    let left : first-left sixteen h xs k i x ≡ set xs place new = after-taken e _ xs ∙ sym (behind-put (c .behind) refl) in
     silent-at (ap record-length (c .own)) (omega arith) (c .whole)
     (rw (c .own) (ap (λ (l : List ℕ). outcome (first-refusal sixteen h xs k i x) silent (lent h l reply)) left)) e
 
 -- ---- a reply element
-pub reply-silent : {h : Head} → not-replying (phase-of (h .phase)) ≡ 0 → {b ys : List ℕ} {at place new left : ℕ}
-    → Comes sixteen b at 5 5 (h .plan .users) (h .plan .blocks) most-blocks ys (getD b (at + 1) 0) (getD b (at + 2) 0) (two-bytes b (at + 3)) place new left
+pub reply-silent : {h : Head} → not-replying (phase-of (h .phase)) ≡ 0 → {b ys : List ℕ} {at place new : ℕ}
+    → Comes sixteen b at 5 5 (h .plan .users) (h .plan .blocks) most-blocks ys (getD b (at + 1) 0) (getD b (at + 2) 0) (two-bytes b (at + 3)) place new
     → place < cells → in-set (h .survivors) (getD b (at + 1) 0) ≡ true
-    → (first : List ℕ) → Silent-at b at (at + 5) (lent h first ys) (lent h first (set ys place left))
+    → (first : List ℕ) → Silent-at b at (at + 5) (lent h first ys) (lent h first (set ys place new))
 unfolding record-length record-at step reply-step reply-refusal reply-left
-reply-silent {h} phase {b} {ys} {at} {place} {new} {left} c inside member first =
+reply-silent {h} phase {b} {ys} {at} {place} {new} c inside member first =
     let k = getD b (at + 1) 0 in
     let i = getD b (at + 2) 0 in
     let x = two-bytes b (at + 3) in
     let e : reply-refusal sixteen h ys k i x ≡ 0 =
     sym (both-passed phase (element-passes (c .fits)) _)
     ∙ sym (test-passed (within (c .behind .found) inside) 8 _) ∙ sym (test-passed member 14 _)
-    ∙ unless-held (behind-takes (c .behind) (c .taken)) 13 in
-    let left : reply-left sixteen h ys k i x ≡ set ys place left = after-taken e _ ys ∙ sym (behind-put (c .behind) (c .taken)) in
+    ∙ unless-held (behind-takes (c .behind) refl) 13 in
+    let left : reply-left sixteen h ys k i x ≡ set ys place new = after-taken e _ ys ∙ sym (behind-put (c .behind) refl) in
     silent-at (ap record-length (c .own)) (omega arith) (c .whole)
     (rw (c .own) (ap (λ (l : List ℕ). outcome (reply-refusal sixteen h ys k i x) silent (lent h first l)) left)) e
 

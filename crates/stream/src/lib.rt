@@ -3,19 +3,20 @@
 //   record_length, byte_at .. four_at, plan_at    a record's bytes
 //   Turned, take_plan .. take_other            one record other than an element: the head behind it, and how far out is written
 //   early_refusal                              what the head alone refuses
-//   sender, run_first, run_reply               the elements of a kind that follow and are accepted: where their run ends
+//   sender, free_or_same, run_first, run_reply     the elements of a kind that follow and are accepted: where their run ends
 //   Reached, take_first, take_reply            one element, and behind an accepted one a run: how far the input is taken and out is written
 //   stop_at, halt                              why no record is taken at a place, and what is then handed back
 //   feed, feed_records                         takes the whole records of a chunk in order; the same where no offset passes 64 bits
 //   cut                                        the line of refusal 7, for an unknown kind or a record that the end of the input cuts short
 ghost use mathlib.Core.Path.{_≡_};
+ghost use mathlib.Core.Bool.{true};
 ghost use mathlib.Core.List.{List};
 ghost use Prim.Native.Nat.{ℕ, _+_, _*_, _/_, _%_, _^_, _≤_, _<_};
 ghost use lib.ListN.{length, getD, take};
 ghost use lib.Seq.{sets};
 ghost use Rattle.scheme.specs.Service.{not-gathering, not-replying, plan-record, open-record, close-record, finish-record};
 ghost use Rattle.plan.specs.Plan.{plan-of};
-ghost use Rattle.service.specs.View.{phase-of};
+ghost use Rattle.service.specs.View.{phase-of, left-in};
 ghost use Rattle.service.specs.Calls.{lent};
 ghost use Rattle.lines.specs.Put.{room};
 ghost use Rattle.stream.specs.Stream.{record-length, two-bytes, four-bytes, plan-at, record-at, Whole, Other, lines, stop-at, halt, fed, early-refusal, Turns, Silent-run, Takes, cut-length, cut-left};
@@ -270,7 +271,7 @@ fn take_other(
     }
 }
 
-// Of a tag, the first two bytes of a record, that no record has.
+// A tag is the number that the first two bytes of a record make; no record has this one.
 const NO_TAG: u32 = 1 << 16;
 
 // The user whose element of a kind has this tag; 0 where that is another record's, or of no user of the plan.
@@ -282,6 +283,14 @@ fn sender(kind: u32, users: u32, tag: u32) -> u32
         return 0;
     }
     user
+}
+
+// Whether a place takes an element, both as they are held: nothing is held, or the same. Where repeats come by chance, two tests would often
+// be predicted wrongly.
+fn free_or_same(held: u16, new: u16) -> bool
+    ensures { λ r. ⌜ (r ≡ true → left-in held new ≡ new) ⌝ }
+{
+    held as u32 * held as u32 == held as u32 * new as u32
 }
 
 // Takes first elements while one follows that is accepted, behind one that was: new or a repeat. Any other record is left to `take_first`
@@ -316,11 +325,10 @@ fn run_first(head: Head, first: &mut [u16; FIRSTS], b: &[u8], start: usize) -> u
         }
         let i = row + place as usize;
         let new = service::held_as(element as u16);
-        let left = service::left_in(first[i], new);
-        if left != new {
+        if !free_or_same(first[i], new) {
             return at;
         }
-        first[i] = left;
+        first[i] = new;
         at += 6;
     }
     at
@@ -357,16 +365,16 @@ fn run_reply(head: Head, reply: &mut [u16; CELLS], b: &[u8], start: usize) -> us
         }
         let i = row + block as usize;
         let new = service::held_as(element as u16);
-        let left = service::left_in(reply[i], new);
-        if left != new {
+        if !free_or_same(reply[i], new) {
             return at;
         }
-        reply[i] = left;
+        reply[i] = new;
         at += 5;
     }
     at
 }
 
+// How far the input is taken, and how far out is written.
 pub struct Reached {
     pub at: usize,
     pub wrote: usize,

@@ -36,7 +36,7 @@ turn c = c .before .before
 abbrev at-loop : tie.Joined2 Inv-loop μ-loop → tie.At-loop Inv-loop μ-loop
 at-loop c = c .before .before .before
 
-abbrev tested : tie.After-left-in Inv-loop μ-loop → tie.Else6 Inv-loop μ-loop
+abbrev tested : tie.After-free-or-same Inv-loop μ-loop → tie.Else6 Inv-loop μ-loop
 tested c = c .before .before .before .before
 
 -- the row at hand is that of the record at hand
@@ -128,14 +128,14 @@ cast-held-as c = omega (arith, small (c .before))
 held-as-requires : tie.Need-held-as-requires Inv-loop μ-loop
 held-as-requires c κs = small (c .before)
 
-mul-left-in : tie.Need-mul-left-in Inv-loop μ-loop
-mul-left-in c = omega (arith, inside (c .before .before .before))
+mul-free-or-same : tie.Need-mul-free-or-same Inv-loop μ-loop
+mul-free-or-same c = omega (arith, inside (c .before .before .before))
 
-element-copy-out-left-in : tie.Need-element-copy-out-left-in Inv-loop μ-loop
-element-copy-out-left-in c = inside (c .before .before .before)
+element-copy-out-free-or-same : tie.Need-element-copy-out-free-or-same Inv-loop μ-loop
+element-copy-out-free-or-same c = inside (c .before .before .before)
 
-left-in-requires : tie.Need-left-in-requires Inv-loop μ-loop
-left-in-requires c κs = search needs
+free-or-same-requires : tie.Need-free-or-same-requires Inv-loop μ-loop
+free-or-same-requires c κs = search needs
 
 returns-4 : tie.Need-returns-4 Inv-loop μ-loop
 returns-4 c first = at-loop (turn (tested (c .before) .before .before)) .loop .inv .2 first
@@ -164,7 +164,7 @@ loop-again c =
     let member = ap (in-set (start l .args .head .survivors)) (sym (read .3)) ∙ row t .1 in
     let new =
     comes (row t .0) (read .2) (read .3) (place .byte-at .ensures) (test .before .before .two-at2 .ensures .0) whole (test .before .if5 .left) (small test)
-    (left .before .before .held-as .ensures) (left .left-in .ensures) (c .if7 .left) in (
+    (left .before .before .held-as .ensures) (left .free-or-same .ensures (not-false _ (c .if7 .left))) in (
       whole,
       λ h. rw (same-tag t) (row t),
       λ first. goes-on _ _ _ _ _ _ (l .loop .inv .2 first) (reply-silent (start l .pre .1) new (inside (test .before)) member first),
@@ -199,9 +199,9 @@ run-reply-spec =
     add-i
     cast-held-as
     held-as-requires
-    mul-left-in
-    element-copy-out-left-in
-    left-in-requires
+    mul-free-or-same
+    element-copy-out-free-or-same
+    free-or-same-requires
     returns-4
     mul-reply
     element-write-reply
