@@ -50,7 +50,8 @@ module _ (A : Arithmetic) (L : Laws A most-users most-threshold) (p : Plan) (goo
     unknowns-right = λ _ i b l k. c i b l k ∙ ap (λ (w : List ℕ). getD w i 0) (choice-known A L p g y r many _ f h b k);
   }
 
-  lost : (e : Numbers) (ws : List ℕ) → (all-elements A p r y && is-settled A L p r y) ≡ false → (e .number ≡ 16) × (e .aside ≡ 0) → Explained-right A L p r ys e ws
+  lost : (e : Numbers) (ws : List ℕ) → (all-elements A p r y && is-settled A L p r y) ≡ false → (e .number ≡ 16) × (e .aside ≡ 0)
+      → Explained-right A L p r ys e ws
   lost e ws bad told =
       let some : e .number ≡ 0 → ⊥ = λ z. omega (arith, told .0) in
       record {

@@ -1,6 +1,6 @@
 // Square Cauchy systems modulo 65521 by their closed solution, the systems of all blocks side by side.
 //   gap_between .. weight_of                      what depends on the points alone
-//   factors, add_row, dots, put_scaled            rows of numbers, one for each block: sums of them over points, one times a factor
+//   add_row, dots, put_scaled                     rows of numbers, one for each block: sums of them over points, one times a factor
 //   no_cells, weigh, solve                        the unknowns of every block, from weighed values
 //   same_row, misfit                              whether a further row has the values that follow; the first that has not
 // Everything goes by position: row a has the point rows[a], 1 to MOST_USERS, column i the point columns[i], 1 to MOST_THRESHOLD, and
@@ -14,7 +14,7 @@ ghost use lib.Dec.{eqb};
 ghost use lib.ListN.{length, getD, replicate};
 ghost use lib.Seq.{sets};
 ghost use Rattle.scheme.specs.Limits.{most-users, most-threshold, most-blocks, cells};
-ghost use Rattle.scheme.specs.Lists.{span, all-of, filled};
+ghost use Rattle.scheme.specs.Lists.{span, all-of};
 ghost use Rattle.scheme.specs.Scheme.{q, sixteen, elements};
 ghost use Rattle.scheme.specs.Solve.{Points, Square, Sums-low, value-of, block, scaled-on, row-weight, weighed-values, unknowns-of, row-fits, First-misfit, gap-between, gap-entry};
 ghost use Rattle.solve.specs.Solve.{laws16, most-factor};
@@ -101,31 +101,16 @@ fn add_row(sums: &mut [u16; BLOCKS], grid: &[u16; CELLS], at: usize, factor: u16
     }
 }
 
-// The row with the point x: 1 / (x + points[i]). A compiler that reads them from memory knows that they have 16 bits.
-fn factors(x: u32, points: &[u32; USERS], n: usize) -> [u16; USERS]
-    requires { ⌜ (n ≤ most-users) × Sums-low x n (now points) ⌝ }
-    ensures { λ r. ⌜ r ≡ filled most-users n (λ i. sixteen .coefficient x (getD (now (points .entry)) i 0)) ⌝ }
-{
-    let mut out = [0u16; USERS];
-    let mut i = 0;
-    while i < n {
-        out[i] = element::coefficient(x, points[i]);
-        i += 1;
-    }
-    out
-}
-
 // For each block the sum of the rows of a grid, row i over x + points[i].
 fn dots(x: u32, points: &[u32; USERS], n: usize, grid: &[u16; CELLS]) -> [u16; BLOCKS]
     requires { ⌜ (n ≤ most-users) × Sums-low x n (now points) ⌝ }
     ensures { λ r. ⌜ r ≡ map (λ b. value-of sixteen x (now (points .entry)) (block (now (grid .entry)) b) n) (span most-blocks 0) ⌝ }
 {
-    let list = factors(x, points, n);
     let mut sums = [0u16; BLOCKS];
     let mut at = 0;
     let mut i = 0;
     while i < n {
-        add_row(&mut sums, grid, at, list[i]);
+        add_row(&mut sums, grid, at, element::coefficient(x, points[i]));
         at += BLOCKS;
         i += 1;
     }

@@ -175,8 +175,8 @@ loop-again c =
       refl,
       λ good many.
           let h = t .before .before .before .before .before .loop .inv .2 good many in
-          searching-more sixteen laws16 _ good _ many _ _ _ _ _ h _ _ (t .solve-rows .ensures) (tried e .if2 .left) (omega (arith, e .before .before .if3 .left))
-          (e .if4 .left) _ _ (turned-right _ _ _ _ (h .enough) (c .before .before .turned .ensures)) (c .gather2 .ensures),
+          searching-more sixteen laws16 _ good _ many _ _ _ _ _ h _ _ (t .solve-rows .ensures) (tried e .if2 .left)
+          (omega (arith, e .before .before .if3 .left)) (e .if4 .left) _ _ (turned-right _ _ _ _ (h .enough) (c .before .before .turned .ensures)) (c .gather2 .ensures),
     )
 
 refused-requires-3 : tie.Need-refused-requires-3 Inv-loop μ-loop

@@ -4,7 +4,7 @@
 --   value-row                           the value of a row in the words of the scheme, where the columns are 1 to n
 --   row-same                            a row of values, compared as code does it
 --   Dotting, dotting-start, dotting-small, dotting-more, dotting-end     a loop that makes the values of a row for all blocks
---   α, β, val-of                        weights in the field; an element by its residue
+--   α, val-of                           the weight of a row in the field; an element by its residue
 --   solve-right                         the unknowns solve the system
 --   unknown-same                        an unknown goes by the first n values alone
 --   unknowns-at                         an unknown of a block, in the grid of all
@@ -70,7 +70,8 @@ module _ (A : Arithmetic) where
   unfolding row-fits
   row-same rs cs vs ws row n m a at h e d = all-of-same _ _ (span m 0) (λ b k.
       let l : b < most-blocks = omega (arith, below m b k) in
-      ap₂ eqb (ap (λ (r : List ℕ). getD r b 0) e ∙ map-below-at (λ c. value-of A (getD rs a 0) cs (block ws c) n) most-blocks b l) (ap (λ (i : ℕ). getD vs (i + b) 0) d))
+      ap₂ eqb (ap (λ (r : List ℕ). getD r b 0) e ∙ map-below-at (λ c. value-of A (getD rs a 0) cs (block ws c) n) most-blocks b l)
+      (ap (λ (i : ℕ). getD vs (i + b) 0) d))
 
   -- ---- i of n rows of a grid are added; the next starts at `at`
   pub record Dotting (x : ℕ) (ps g : List ℕ) (n i at : ℕ) (sums : List ℕ) : Type 0 where
@@ -132,7 +133,7 @@ module _ (A : Arithmetic) (L : Laws A most-users most-threshold) where
     abbrev pub α : (a : ℕ) → F
     α a = weight K (row-points A L rs) (column-points A L cs) (span n 0) (span n 0) a
 
-    abbrev pub β : (i : ℕ) → F
+    abbrev β : (i : ℕ) → F
     β i = weight K (column-points A L cs) (row-points A L rs) (span n 0) (span n 0) i
 
     -- good points are a Cauchy system

@@ -1,43 +1,44 @@
 -- `solve::dots` meets its contract. The loop's invariant: i rows are added. The measure is how many are left. Assumes nothing.
 use mathlib.Core.Path.{ap, _∙_}
-use mathlib.Core.List.{List, map}
-use Prim.Native.Nat.{ℕ, _+_, _-_}
+use mathlib.Core.List.{map}
+use Prim.Native.Nat.{_+_, _-_}
 use native.Mathlib.Omega.{arith}
-use lib.ListN.{length, getD}
+use lib.ListN.{length}
 use borrow.Author.Needs.{needs}
-use Rattle.scheme.specs.Limits.{most-users, most-blocks}
+use Rattle.scheme.specs.Limits.{most-blocks}
 use Rattle.scheme.specs.Scheme.{sixteen}
 use Rattle.scheme.specs.Solve.{value-of, block}
 use Rattle.scheme.proofs.Lists.{map-span-length}
-use Rattle.scheme.proofs.Padded.{filled-at}
 use Rattle.scheme.proofs.Solving.Closed.{Dotting, dotting-start, dotting-small, dotting-more, dotting-end}
 use Rattle.solve.specs.Solve.{laws16}
 use Rattle.solve.proofs.dots.Statement.{statement}
 use Rattle.solve.proofs.dots.Tie as tie
 
 abbrev Inv-loop : tie.InvT-loop
-Inv-loop x points n grid list sums₀ at₀ i₀ sums at i = Dotting sixteen x points grid n i at sums
+Inv-loop x points n grid sums₀ at₀ i₀ sums at i = Dotting sixteen x points grid n i at sums
 
 abbrev μ-loop : tie.MeasureT-loop
-μ-loop x points n grid list sums₀ at₀ i₀ sums at i = n - i
-
-factors-requires : tie.Need-factors-requires Inv-loop μ-loop
-factors-requires c κs = c .pre
+μ-loop x points n grid sums₀ at₀ i₀ sums at i = n - i
 
 loop-holds : tie.Need-loop-holds Inv-loop μ-loop
 loop-holds c = dotting-start sixteen _ _ _ _
 
-mul-add-row : tie.Need-mul-add-row Inv-loop μ-loop
-mul-add-row c = search needs
+mul-coefficient : tie.Need-mul-coefficient Inv-loop μ-loop
+mul-coefficient c = search needs
 
-array-read-add-row : tie.Need-array-read-add-row Inv-loop μ-loop
-array-read-add-row c = search needs
+element-copy-out-coefficient : tie.Need-element-copy-out-coefficient Inv-loop μ-loop
+element-copy-out-coefficient c = search needs
+
+coefficient-requires : tie.Need-coefficient-requires Inv-loop μ-loop
+coefficient-requires c κs =
+    let t = c .before .before in
+    t .before .before .pre .1 .low (t .before .loop .i) (t .loop-test .taken)
 
 add-row-requires : tie.Need-add-row-requires Inv-loop μ-loop
 add-row-requires c κs =
-    let t = c .before in
+    let t = c .before .before .before in
     let l = t .before .loop in
-    let s = t .before .before .before in
+    let s = t .before .before in
     let a = s .args in (
       omega (arith, l .inv .place, t .loop-test .taken, s .pre .0),
       ap length (l .inv .done) ∙ map-span-length (λ b. value-of sixteen (a .x) (a .points .now) (block (a .grid .now) b) (l .i)) most-blocks 0,
@@ -55,12 +56,10 @@ loop-less c = search needs
 
 loop-again : tie.Need-loop-again Inv-loop μ-loop
 loop-again c =
-    let t = c .before .before in
+    let t = c .before .before .before .before in
     let l = t .before .loop in
-    let f = t .before .before in
-    let h = t .loop-test .taken in
-    dotting-more sixteen _ _ _ _ laws16 (l .i) _ _ (l .inv) _ _ (f .before .pre .0) h
-    (ap (λ (u : List ℕ). getD u (l .i) 0) (f .factors .ensures) ∙ filled-at most-users _ _ (l .i) h) (c .add-row .ensures)
+    let s = t .before .before in
+    dotting-more sixteen _ _ _ _ laws16 (l .i) _ _ (l .inv) _ _ (s .pre .0) (t .loop-test .taken) (c .before .coefficient .ensures) (c .add-row .ensures)
 
 returns : tie.Need-returns Inv-loop μ-loop
 returns c = dotting-end sixteen _ _ _ _ _ _ _ (c .loop-test .left) (c .before .loop .inv)
@@ -71,10 +70,10 @@ dots-spec =
     (tie.spec
     Inv-loop
     μ-loop
-    factors-requires
     loop-holds
-    mul-add-row
-    array-read-add-row
+    mul-coefficient
+    element-copy-out-coefficient
+    coefficient-requires
     add-row-requires
     add-at
     add-i
