@@ -5,7 +5,7 @@
 --   Along, along-start, along-more          the bytes used so far are whole records, and state and length written are theirs
 --   fed-far, fed-within, fed-more, fed-end    what fed is: offsets that pass 64 bits or do not, one record more, no more
 --   Going, going-start, going-more, going-end     what holds at each turn of feed
---   turn-silent, going-run, going-takes     the same behind records that are taken in silence
+--   turn-silent, going-silent, going-run, going-takes     the same behind records that are taken in silence
 --   run-onward, takes-onward                they lead onward
 -- Assumes nothing.
 use mathlib.Core.Path.{_≡_, refl, sym, ap, _∙_}
@@ -178,7 +178,7 @@ going-silent : {s : Service} {b : List ℕ} {o : ℕ} {out₀ : List ℕ} {t : S
 going-silent {s} {b} {o} {out₀} {out = out} g fits {next} {u} r =
     rw (r .long) (going-more g (record { known = r .known; whole = r .whole; fits = fits }) refl (turn-silent r _ out _))
 
-pub going-run : {s : Service} {b : List ℕ} {o : ℕ} {out₀ : List ℕ} {wrote : ℕ} {out : List ℕ} → room ≤ length out - wrote
+going-run : {s : Service} {b : List ℕ} {o : ℕ} {out₀ : List ℕ} {wrote : ℕ} {out : List ℕ} → room ≤ length out - wrote
     → {at next : ℕ} {t u : Service} → Silent-run b at next t u → Going s b o out₀ t at wrote out → Going s b o out₀ u next wrote out
 going-run fits (stays at s) g = g
 going-run fits (goes-on start at next s t u run r) g = going-silent (going-run fits run g) fits r

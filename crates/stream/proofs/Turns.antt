@@ -55,7 +55,7 @@ told-refused h a = after-refused h a _
 
 -- one record that the service's call answers
 module _ {s t : Service} {r : Record} {o : ℕ} {out out′ : List ℕ} {wrote next : ℕ} (n : ℕ) (a : Answer) (said : outcome n a t ≡ step s r) where
-  pub turn-told : Put out out′ wrote next (line o (told n a)) → Turns r o s t out out′ wrote next
+  turn-told : Put out out′ wrote next (line o (told n a)) → Turns r o s t out out′ wrote next
   turn-told p = record { state = ap (λ (x : Outcome). x .service) said; put = put-as p (ap (λ (x : Outcome). line o (x .answer)) said) }
 
   pub turn-refused : n ≢ 0 → Put out out′ wrote next (line o (refused n)) → Turns r o s t out out′ wrote next
