@@ -1,4 +1,4 @@
--- Fold: the laws of remainders without a division. Halves: those of products in the halves of a word. Those of test 3 are scheme's,
+-- Word: the laws of numbers of 16 bits. Halves: those of products in the halves of a word. Those of test 3 are scheme's,
 -- proofs/Elements.antt.
-pub mod Fold
 pub mod Halves
+pub mod Word

@@ -2,7 +2,7 @@
 //   Q                         the modulus; in 16 bits Q16, one past LAST; OVER, by which WORD is more
 //   add, subtract, over_if    of two elements; OVER where a test holds
 //   multiply                  of any two 16-bit numbers, through wider integers
-//   reduce, folded            n % Q and a product without a division
+//   reduce                    n % Q without a division
 //   Scale, scale_of           a factor for many products in 16 bits
 //   add_scaled                a sum plus such a product
 //   high_half, low_half       of a product
@@ -17,7 +17,7 @@ ghost use Prim.Native.Nat.{ℕ, _+_, _-_, _*_, _/_, _%_, _≤_, _<_};
 ghost use Rattle.algebra.specs.Residue.{inverse};
 ghost use Rattle.scheme.specs.Limits.{points};
 ghost use Rattle.scheme.specs.Scheme.{q, sixteen, elements, within, is-near, near};
-ghost use Rattle.element.specs.Fold.{word, fold, most-folded, reducible};
+ghost use Rattle.element.specs.Word.{word, reducible};
 ghost use Rattle.element.specs.Halves.{Scales};
 use std::num::wrapping_add_u16;
 use std::num::wrapping_sub_u16;
@@ -80,14 +80,6 @@ pub fn reduce(n: u32) -> u16
         return once as u16;
     }
     (once - Q) as u16
-}
-
-// A product not reduced, but below 2 ^ 20, so that many are added in 32 bits.
-pub fn folded(a: u16, b: u16) -> u32
-    ensures { λ r. ⌜ (r % q ≡ a * b % q) × (r ≤ most-folded) × (r ≡ fold word q (a * b)) ⌝ }
-{
-    let n = a as u32 * b as u32;
-    n % WORD + n / WORD * OVER
 }
 
 // A factor a, prepared for many products in 16 bits: `by` is a * WORD modulo Q, and Q * key is `by` modulo WORD.

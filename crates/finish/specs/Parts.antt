@@ -25,7 +25,7 @@ use Rattle.scheme.specs.Scheme.{Arithmetic, modular, sum, Plan, items, users-in
 use Rattle.scheme.specs.Laws.{Laws}
 use Rattle.scheme.specs.Solve.{cell, grid, block, unknown-at, unknowns-of, row-fits, First-misfit}
 use Rattle.scheme.specs.Totals.{totals}
-use Rattle.element.specs.Fold.{most-word}
+use Rattle.element.specs.Word.{most-word}
 use Rattle.service.specs.declared.Service.{Service}
 use Rattle.service.specs.View.{held-in}
 use Rattle.finish.specs.declared.Users.{Users}

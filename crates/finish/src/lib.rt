@@ -24,7 +24,7 @@ ghost use Rattle.scheme.specs.Lists.{span, filled};
 ghost use Rattle.scheme.specs.Scheme.{q, sixteen, ones};
 ghost use Rattle.scheme.specs.Good.{Good};
 ghost use Rattle.scheme.specs.Solve.{Points};
-ghost use Rattle.element.specs.Fold.{most-word};
+ghost use Rattle.element.specs.Word.{most-word};
 ghost use Rattle.plan.specs.Plan.{plan-of};
 ghost use Rattle.service.specs.Calls.{lent};
 ghost use Rattle.solve.specs.Solve.{laws16};

@@ -29,7 +29,7 @@ ghost use Rattle.scheme.specs.Drawn.{list-refusal, list-left};
 ghost use Rattle.scheme.specs.Weighed.{Unreduced};
 ghost use Rattle.scheme.specs.KeyParts.{Key-input, Coefficients, block-values, Products, half, half-sets, table-cells, added-row, Scaled-row, Table, Tables};
 ghost use Rattle.plan.specs.Plan.{plan-of};
-ghost use Rattle.element.specs.Fold.{word, most-product};
+ghost use Rattle.element.specs.Word.{word, most-product};
 ghost use Rattle.element.specs.Halves.{Scales};
 
 mod drawing;

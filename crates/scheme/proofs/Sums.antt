@@ -3,7 +3,7 @@
 --   zero-small, add-none        0 is an element, and adds nothing
 --   sum-el, sum-small           a sum
 --   sum-same                    the same terms
---   sum-append, sum-shift       over two lists; over numbers that start further on
+--   sum-append, sum-more, sum-shift     over two lists; over one index more; over numbers that start further on
 --   coefficient-el              a coefficient
 --   row-value-el, row-value-small    a row times its columns
 -- Assumes nothing.
@@ -61,6 +61,12 @@ module _ (A : Arithmetic) (n m : ℕ) (L : Laws A n m) where
   pub sum-append : (l r : List ℕ) (f : ℕ → ℕ) → sum A (l ++ r) f ≡ A .add (sum A l f) (sum A r f)
   sum-append l r f = el-same (sum-small (l ++ r) f) (L .add-small (sum A l f) (sum A r f))
       (sum-el (l ++ r) f ∙ field-sum-append K l r (λ k. el (f k)) ∙ sym (L .el-add (sum A l f) (sum A r f) ∙ ap₂ _⊕_ (sum-el l f) (sum-el r f)))
+
+  -- one index more: its number is taken as it is, and reduced
+  pub sum-more : (l : List ℕ) (k : ℕ) (f : ℕ → ℕ) → sum A (l ++ (k ∷ [])) f ≡ A .add (sum A l f) (f k)
+  sum-more l k f = el-same (sum-small (l ++ (k ∷ [])) f) (L .add-small (sum A l f) (f k))
+      (sum-el (l ++ (k ∷ [])) f ∙ field-sum-append K l (k ∷ []) (λ i. el (f i))
+      ∙ ap₂ _⊕_ (sym (sum-el l f)) (K .add-zero (el (f k))) ∙ sym (L .el-add (sum A l f) (f k)))
 
   pub coefficient-el : (k j : ℕ) → (1 ≤ k) × (k ≤ n) → (1 ≤ j) × (j ≤ m) → el (A .coefficient k j) ≡ inv (row k ⊕ col j)
   coefficient-el k j h l =

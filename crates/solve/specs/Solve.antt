@@ -8,7 +8,7 @@ use Rattle.scheme.specs.Limits.{most-users, most-threshold}
 use Rattle.scheme.specs.Scheme.{sixteen}
 use Rattle.scheme.specs.Laws.{Laws}
 use Rattle.scheme.specs.Modular.{sixteen-field}
-use Rattle.element.specs.Fold.{most-word}
+use Rattle.element.specs.Word.{most-word}
 
 abbrev pub laws16 : Laws sixteen most-users most-threshold
 laws16 = sixteen-field most-users most-threshold (lit< tt)

@@ -3,7 +3,7 @@ use mathlib.Core.Path.{ap₂, _∙_}
 use Prim.Native.Nat.{ℕ, _+_, _%_}
 use native.Mathlib.Omega.{arith}
 use borrow.Author.Needs.{needs}
-use Rattle.element.specs.Fold.{word}
+use Rattle.element.specs.Word.{word}
 use Rattle.element.proofs.Halves.{add-wraps}
 use Rattle.element.proofs.add.Statement.{statement}
 use Rattle.element.proofs.add.Tie as tie

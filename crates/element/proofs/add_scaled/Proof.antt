@@ -6,7 +6,7 @@ use native.Mathlib.Omega.{arith}
 use lib.Dec.{lit<}
 use borrow.Author.Needs.{needs}
 use Rattle.scheme.specs.Scheme.{q}
-use Rattle.element.specs.Fold.{word}
+use Rattle.element.specs.Word.{word}
 use Rattle.element.proofs.Halves.{scaled, high-low}
 use Rattle.element.proofs.add_scaled.Statement.{statement}
 use Rattle.element.proofs.add_scaled.Tie as tie

@@ -1,7 +1,7 @@
 -- `element::high_half` meets its contract: a product of two 16-bit numbers fits 32 bits. Assumes nothing.
 use native.Mathlib.Omega.{arith}
 use borrow.Author.Needs.{needs}
-use Rattle.element.proofs.Fold.{product-low}
+use Rattle.element.proofs.Word.{product-low}
 use Rattle.element.proofs.high_half.Statement.{statement}
 use Rattle.element.proofs.high_half.Tie as tie
 

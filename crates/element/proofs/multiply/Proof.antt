@@ -2,7 +2,7 @@
 -- Assumes nothing.
 use native.Mathlib.Omega.{arith}
 use borrow.Author.Needs.{needs}
-use Rattle.element.proofs.Fold.{product-low}
+use Rattle.element.proofs.Word.{product-low}
 use Rattle.element.proofs.multiply.Statement.{statement}
 use Rattle.element.proofs.multiply.Tie as tie
 

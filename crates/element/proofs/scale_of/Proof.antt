@@ -6,7 +6,7 @@ use lib.Dec.{lit<}
 use borrow.Author.Needs.{needs}
 use Rattle.algebra.proofs.Residue.{mul-mod}
 use Rattle.scheme.specs.Scheme.{q}
-use Rattle.element.specs.Fold.{word}
+use Rattle.element.specs.Word.{word}
 use Rattle.element.proofs.Halves.{key-of}
 use Rattle.element.proofs.scale_of.Statement.{statement}
 use Rattle.element.proofs.scale_of.Tie as tie

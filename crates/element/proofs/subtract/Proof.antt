@@ -3,7 +3,7 @@ use mathlib.Core.Path.{sym, ap, _∙_}
 use Prim.Native.Nat.{ℕ, _+_, _%_}
 use native.Mathlib.Omega.{arith}
 use borrow.Author.Needs.{needs}
-use Rattle.element.specs.Fold.{word}
+use Rattle.element.specs.Word.{word}
 use Rattle.element.proofs.Halves.{subtract-wraps}
 use Rattle.element.proofs.subtract.Statement.{statement}
 use Rattle.element.proofs.subtract.Tie as tie

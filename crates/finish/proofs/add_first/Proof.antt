@@ -10,7 +10,7 @@ use borrow.Author.Needs.{needs}
 use Rattle.scheme.proofs.Tests.{none-below}
 use Rattle.scheme.proofs.Making.Rows.{below-more, row-other}
 use Rattle.scheme.proofs.Padded.{Setting, setting-start, setting-more, setting-end}
-use Rattle.element.specs.Fold.{most-word}
+use Rattle.element.specs.Word.{most-word}
 use Rattle.finish.specs.Parts.{raised}
 use Rattle.finish.proofs.add_first.Statement.{statement}
 use Rattle.finish.proofs.add_first.Tie as tie

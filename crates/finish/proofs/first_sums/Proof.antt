@@ -16,7 +16,7 @@ use Rattle.scheme.proofs.Lists.{zeros-at}
 use Rattle.scheme.proofs.Modular.{sixteen-sums}
 use Rattle.scheme.proofs.Weighed.{unreduced-start, unreduced-more}
 use Rattle.scheme.proofs.Making.Rows.{row-at}
-use Rattle.element.specs.Fold.{most-word}
+use Rattle.element.specs.Word.{most-word}
 use Rattle.service.specs.View.{held-in}
 use Rattle.service.proofs.View.{held-at}
 use Rattle.finish.specs.Parts.{raised, first-sum}

@@ -11,7 +11,7 @@ use Rattle.scheme.specs.Limits.{most-blocks}
 use Rattle.scheme.specs.Scheme.{q, sixteen}
 use Rattle.scheme.specs.KeyParts.{Scaled-row}
 use Rattle.scheme.proofs.Making.Sums.{scaled-start, scaled-more}
-use Rattle.element.specs.Fold.{word}
+use Rattle.element.specs.Word.{word}
 use Rattle.element.specs.Halves.{Scales}
 use Rattle.keys.proofs.share_row.Statement.{statement}
 use Rattle.keys.proofs.share_row.Tie as tie

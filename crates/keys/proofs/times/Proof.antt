@@ -2,8 +2,8 @@
 use mathlib.Core.Path.{refl}
 use Prim.Native.Nat.{_*_, _≤_}
 use native.Mathlib.Omega.{arith}
-use Rattle.element.specs.Fold.{most-product}
-use Rattle.element.proofs.Fold.{product-low}
+use Rattle.element.specs.Word.{most-product}
+use Rattle.element.proofs.Word.{product-low}
 use Rattle.keys.proofs.times.Statement.{statement}
 use Rattle.keys.proofs.times.Tie as tie
 

@@ -8,7 +8,7 @@ use Rattle.scheme.specs.Scheme.{q}
 use Rattle.scheme.specs.Weighed.{Unreduced}
 use Rattle.scheme.proofs.Modular.{sixteen-sums}
 use Rattle.scheme.proofs.Weighed.{unreduced-start, unreduced-more}
-use Rattle.element.specs.Fold.{most-product}
+use Rattle.element.specs.Word.{most-product}
 use Rattle.keys.proofs.weigh.Statement.{statement}
 use Rattle.keys.proofs.weigh.Tie as tie
 

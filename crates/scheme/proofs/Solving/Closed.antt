@@ -6,7 +6,6 @@
 --   Dotting, dotting-start, dotting-small, dotting-more, dotting-end     a loop that makes the values of a row for all blocks
 --   α, val-of                           the weight of a row in the field; an element by its residue
 --   solve-right                         the unknowns solve the system
---   unknown-same                        an unknown goes by the first n values alone
 --   unknowns-at                         an unknown of a block, in the grid of all
 --   Weighing, weighing-start, weighing-more, weighing-end     a loop that makes a weight, factor by factor
 -- Assumes nothing.
@@ -129,12 +128,9 @@ module _ (A : Arithmetic) (L : Laws A most-users most-threshold) where
       L .el-multiply _ _ ∙ ap (λ u. u ⊗ el (getD vs i 0)) (coefficient-el A _ _ L x (getD ps i 0) h (p .inside i (below n i m))))
 
   module _ (rs cs : List ℕ) (n : ℕ) where
-    -- the weights of algebra's closed solution
+    -- a row's weight of algebra's closed solution
     abbrev pub α : (a : ℕ) → F
     α a = weight K (row-points A L rs) (column-points A L cs) (span n 0) (span n 0) a
-
-    abbrev β : (i : ℕ) → F
-    β i = weight K (column-points A L cs) (row-points A L rs) (span n 0) (span n 0) i
 
     -- good points are a Cauchy system
     system : Square rs cs n → System K (row-points A L rs) (column-points A L cs) (span n 0) (span n 0)
@@ -166,11 +162,6 @@ module _ (A : Arithmetic) (L : Laws A most-users most-threshold) where
           (value-el (getD rs a 0) cs (solution-of A L rs cs vs n) n (square .rows-good .inside a h) (square .columns-good)
           ∙ field-sum-same K (span n 0) _ _ (λ i m. ap (λ u. inv (row-points A L rs a ⊕ column-points A L cs i) ⊗ u) (solution-el i (below n i m)))
           ∙ solves (system square) (right-side A L vs) a (in-span n 0 a (omega arith) (omega arith)))
-
-      pub unknown-same : (ws : List ℕ) (i : ℕ) → ((a : ℕ) → a < n → getD vs a 0 ≡ getD ws a 0) → unknown-at A L rs cs vs n i ≡ unknown-at A L rs cs ws n i
-      unfolding unknown-at
-      unknown-same ws i e = ap (λ u. val (β i ⊗ u)) (field-sum-same K (span n 0) _ _ (λ a m.
-          ap (λ (v : ℕ). inv (row-points A L rs a ⊕ column-points A L cs i) ⊗ (α a ⊗ el v)) (e a (below n a m))))
 
       pub unknowns-at : (k i b : ℕ) → i < k → b < most-blocks → cell (unknowns-of A L rs cs vs n k) i b ≡ unknown-at A L rs cs (block vs b) n i
       unfolding unknowns-of

@@ -5,7 +5,7 @@ use native.Mathlib.Nat.{mul-le-mul}
 use native.Mathlib.Omega.{arith}
 use borrow.Author.Needs.{needs}
 use Rattle.scheme.specs.Limits.{most-users}
-use Rattle.element.specs.Fold.{most-word}
+use Rattle.element.specs.Word.{most-word}
 use Rattle.solve.specs.Solve.{most-factor}
 use Rattle.solve.proofs.factor.Statement.{statement}
 use Rattle.solve.proofs.factor.Tie as tie

@@ -3,7 +3,7 @@ use Prim.Native.Nat.{_*_, _≤_}
 use native.Mathlib.Nat.{mul-le-mul}
 use native.Mathlib.Omega.{arith}
 use borrow.Author.Needs.{needs}
-use Rattle.element.specs.Fold.{most-word}
+use Rattle.element.specs.Word.{most-word}
 use Rattle.solve.specs.Solve.{most-factor}
 use Rattle.solve.proofs.times_two.Statement.{statement}
 use Rattle.solve.proofs.times_two.Tie as tie

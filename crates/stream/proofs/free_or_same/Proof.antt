@@ -2,7 +2,7 @@
 -- Assumes nothing.
 use native.Mathlib.Omega.{arith}
 use borrow.Author.Tests.{eqb-true}
-use Rattle.element.proofs.Fold.{product-low}
+use Rattle.element.proofs.Word.{product-low}
 use Rattle.stream.proofs.Runs.{free-or-same}
 use Rattle.stream.proofs.free_or_same.Statement.{statement}
 use Rattle.stream.proofs.free_or_same.Tie as tie
