@@ -735,9 +735,9 @@ fn gather(
     count
 }
 
-/// Writes the unknowns that explain the complete replies, where just enough reply the wanted ones alone, and answers with the user set aside, 0 where all agree; or with none where no
-/// single user can be. The first `size` rows are solved. If one of the further rows does not fit, it is set aside; if more do not, it is
-/// none of them, and as many of the first rows go behind them, until each has been a further one.
+/// Writes the unknowns that explain the complete replies, those wanted alone where just enough reply, and answers with the user set aside,
+/// 0 where all agree; or with none where no single user can be. The first `size` rows are solved. If one of the further rows does not fit,
+/// it is set aside; if more do not, it is none of them, and as many of the first rows go behind them, until each has been a further one.
 fn explain(
     size: usize,
     wanted: usize,
