@@ -7,15 +7,18 @@
 //   add_scaled                a sum plus such a product
 //   high_half, low_half       of a product
 //   inverse_of, coefficient   the inverses of the numbers below points
+//   POINTS, inverses          the same as an array, for loops
 //   past, all_within          how far a number is past the most; that no number of a list is
 //   excess, all_elements      the same of the last element: test 3 of document 01
 //   far, all_near             0 of an element no further than the most from zero, up or down; that all of a list are such elements
 ghost use mathlib.Core.Path.{_≡_};
 ghost use mathlib.Core.Bool.{cond};
+ghost use mathlib.Core.List.{map};
 ghost use lib.Dec.{eqb};
 ghost use Prim.Native.Nat.{ℕ, _+_, _-_, _*_, _/_, _%_, _≤_, _<_};
 ghost use Rattle.algebra.specs.Residue.{inverse};
 ghost use Rattle.scheme.specs.Limits.{points};
+ghost use Rattle.scheme.specs.Lists.{span};
 ghost use Rattle.scheme.specs.Scheme.{q, sixteen, elements, within, is-near, near};
 ghost use Rattle.element.specs.Word.{word, reducible};
 ghost use Rattle.element.specs.Halves.{Scales};
@@ -155,6 +158,33 @@ pub fn coefficient(user: u32, column: u32) -> u16
     ensures { λ r. ⌜ r ≡ sixteen .coefficient user column ⌝ }
 {
     inverse_of(user + column)
+}
+
+pub const POINTS: usize = 16;
+
+// All of them. A loop that reads its factors from an array multiplies in 16 bits: of a factor that comes from the arms the compiler prepares
+// the scales, as a table of wider numbers.
+pub fn inverses() -> [u16; POINTS]
+    ensures { λ r. ⌜ r ≡ map (inverse q) (span points 0) ⌝ }
+{
+    [
+        1,
+        1,
+        32761,
+        43681,
+        49141,
+        52417,
+        54601,
+        56161,
+        57331,
+        58241,
+        58969,
+        11913,
+        60061,
+        60481,
+        60841,
+        61153,
+    ]
 }
 
 // How far x is past the most: 0 of a number that is not above it.

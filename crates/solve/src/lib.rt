@@ -106,11 +106,12 @@ fn dots(x: u32, points: &[u32; USERS], n: usize, grid: &[u16; CELLS]) -> [u16; B
     requires { ⌜ (n ≤ most-users) × Sums-low x n (now points) ⌝ }
     ensures { λ r. ⌜ r ≡ map (λ b. value-of sixteen x (now (points .entry)) (block (now (grid .entry)) b) n) (span most-blocks 0) ⌝ }
 {
+    let inverses = element::inverses();
     let mut sums = [0u16; BLOCKS];
     let mut at = 0;
     let mut i = 0;
     while i < n {
-        add_row(&mut sums, grid, at, element::coefficient(x, points[i]));
+        add_row(&mut sums, grid, at, inverses[(x + points[i]) as usize]);
         at += BLOCKS;
         i += 1;
     }
