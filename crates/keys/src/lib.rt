@@ -9,7 +9,9 @@
 //   fill_tables, fill_table         once a key: the sums of products over the sets of the first HALF users, and over those of the others
 //   at_most_half                    how many of the former there are
 //   mask_products                   once a key: the masks of each user times the first columns, reduced
-//   share_row, add_rows, put_row    in the lanes of a row: the shares with one noise element a block, a row plus another, a row written
+//   write_products                  those of one user
+//   product_row, share_row          in the lanes of a row: the products with one mask a block, the shares with one noise element a block
+//   add_rows, put_row               a row plus another, a row written
 //   write_blocks, write_blocks_of   sums plus numbers times coefficients, block by block
 //   coefficients                    those of some columns
 //   weigh, times, reduced           numbers times coefficients; a sum reduced
@@ -17,7 +19,7 @@
 // Document 01's airfield is a user here, and its S of an airfield is that user's mask. The functions behind the refusals are
 // told in their contracts what the refusals have tested.
 ghost use mathlib.Core.Path.{_≡_};
-ghost use mathlib.Core.List.{map};
+ghost use mathlib.Core.List.{[], map};
 ghost use Prim.Native.Nat.{ℕ, _+_, _*_, _/_, _%_, _^_, _≤_, _<_};
 ghost use lib.ListN.{length, getD, replicate};
 ghost use lib.Seq.{sets};
@@ -163,7 +165,7 @@ fn is_large(plan: Plan, set: u32) -> bool
     requires { ⌜ (plan .users ≤ most-users) × (set < 2 ^ plan .users) × (set < most-sets) ⌝ }
     ensures { λ r. ⌜ r ≡ usable (plan-of plan) set ⌝ }
 {
-    plan.threshold <= members_of(set % HALF_SETS) + members_of(set / HALF_SETS)
+    plan.threshold <= members_of(set % HALF_SETS) + members_of(set / HALF_SETS % HALF_SETS)
 }
 
 // How many users a set of at most HALF users has. The compiler makes a table of the arms.
@@ -287,20 +289,61 @@ fn mask_products(plan: Plan, user: u32, list: &[u16], row: usize) -> [u16; CELLS
     ensures { λ r. ⌜ Products sixteen (plan-of plan) user (now (list .entry)) (plan .users) r ⌝ }
 {
     let items = plan.threshold - plan.collusion;
-    let low = coefficients(user, 1, items);
+    let factors = coefficients(user, 1, items);
+    let scale = scale_of(factors[0]);
     let blocks = plan.blocks as usize;
-    let zeros = no_row();
     let mut products = no_products();
     let mut from = 0;
     let mut at = 0;
     let mut k: u32 = 0;
     while k < plan.users {
-        write_blocks(&zeros, &low, items, list, from, &mut products, at, blocks);
+        write_products(&factors, scale, items, list, from, &mut products, at, blocks);
         from += row;
         at += BLOCKS;
         k += 1;
     }
     products
+}
+
+// The factors times the masks of one user, n a block, which lie from `start` on.
+fn write_products(
+    factors: &[u16; USERS],
+    scale: Scale,
+    n: u32,
+    list: &[u16],
+    start: usize,
+    out: &mut [u16],
+    at: usize,
+    blocks: usize,
+)
+    requires { ⌜ (n ≤ most-items) × (blocks ≤ most-blocks) × (start + blocks * n ≤ length (now list)) × (at + blocks ≤ length (now out)) ⌝ }
+    requires { ⌜ Scales word q (getD (now factors) 0 0) (scale .by) (scale .key) ⌝ }
+    ensures { λ r. ⌜ now (out .exit)
+        ≡ sets (now (out .entry)) at (block-values sixteen (replicate most-blocks 0) (now (factors .entry)) n (now (list .entry)) start blocks) ⌝ }
+{
+    if n == 1 {
+        if blocks == BLOCKS {
+            let row = product_row(scale, list, start);
+            put_row(&row, out, at);
+            return;
+        }
+    }
+    let zeros = no_row();
+    write_blocks(&zeros, factors, n, list, start, out, at, blocks);
+}
+
+// All blocks of a user at once, with one mask each: the numbers of the list times the factor of the scale.
+fn product_row(scale: Scale, list: &[u16], start: usize) -> [u16; BLOCKS]
+    requires { ⌜ (start + most-blocks ≤ length (now list)) × (scale .by < q) ⌝ }
+    ensures { λ r. ⌜ ((a : ℕ) → Scales word q a (scale .by) (scale .key) → Scaled-row sixteen [] 0 [] 0 a (now (list .entry)) start most-blocks r) ⌝ }
+{
+    let mut row = no_row();
+    let mut b = 0;
+    while b < BLOCKS {
+        row[b] = add_scaled(0, list[start + b], scale);
+        b += 1;
+    }
+    row
 }
 
 // All blocks of a set at once, with one noise element each: a row of each table, plus the numbers of the list times the factor of the scale.

@@ -16,11 +16,11 @@ use Rattle.keys.proofs.mask_products.Statement.{statement}
 use Rattle.keys.proofs.mask_products.Tie as tie
 
 abbrev Inv-loop : tie.InvT-loop
-Inv-loop plan user list row items low blocks zeros products₀ from₀ at₀ k₀ products from at k =
+Inv-loop plan user list row items factors scale blocks products₀ from₀ at₀ k₀ products from at k =
     (k ≤ plan .users) × (from ≡ k * row) × (at ≡ k * most-blocks) × Products sixteen (plan-of plan) user list k products
 
 abbrev μ-loop : tie.MeasureT-loop
-μ-loop plan user list row items low blocks zeros products₀ from₀ at₀ k₀ products from at k = plan .users - k
+μ-loop plan user list row items factors scale blocks products₀ from₀ at₀ k₀ products from at k = plan .users - k
 
 abbrev weighing : tie.At-loop Inv-loop μ-loop → tie.After-coefficients Inv-loop μ-loop
 weighing c = c .before .before .before .before
@@ -34,11 +34,14 @@ sub-items c = search needs
 coefficients-requires : tie.Need-coefficients-requires Inv-loop μ-loop
 coefficients-requires c κs = search needs
 
+array-read-scale-of : tie.Need-array-read-scale-of Inv-loop μ-loop
+array-read-scale-of c = search needs
+
+scale-of-requires : tie.Need-scale-of-requires Inv-loop μ-loop
+scale-of-requires c κs = search needs
+
 cast-blocks : tie.Need-cast-blocks Inv-loop μ-loop
 cast-blocks c = search needs
-
-no-row-requires : tie.Need-no-row-requires Inv-loop μ-loop
-no-row-requires c κs = search needs
 
 no-products-requires : tie.Need-no-products-requires Inv-loop μ-loop
 no-products-requires c κs = search needs
@@ -56,21 +59,23 @@ inside c =
     let k = row-in (i .k) (a .plan .users) (a .row) (c .if1 .taken) in
     omega (arith, i .inv .1, k, rows-in (plan-of (a .plan)), ap (λ (x : ℕ). a .plan .users * x) (s .pre .1 .0), s .pre .0 .long)
 
-slice-aggregate-write-blocks : tie.Need-slice-aggregate-write-blocks Inv-loop μ-loop
-slice-aggregate-write-blocks c = search needs
+slice-aggregate-write-products : tie.Need-slice-aggregate-write-products Inv-loop μ-loop
+slice-aggregate-write-products c = search needs
 
-write-blocks-requires : tie.Need-write-blocks-requires Inv-loop μ-loop
+write-products-requires : tie.Need-write-products-requires Inv-loop μ-loop
 unfolding items places
-write-blocks-requires c κs =
-    let t = c .before .before .before in
+write-products-requires c κs =
+    let t = c .before .before in
     let l = t .before .before in
     let i = l .loop in
-    let s = begun l in
-    (omega arith, omega arith, omega (arith, inside t, s .pre .1 .0), omega (arith, i .inv .2, i .inv .3 .long, t .if1 .taken))
+    let s = begun l in (
+      (omega arith, omega arith, omega (arith, inside t, s .pre .1 .0), omega (arith, i .inv .2, i .inv .3 .long, t .if1 .taken)),
+      l .before .before .before .scale-of .ensures,
+    )
 
 -- the place in a turn that a call has left
 abbrev turn : tie.After-products2 Inv-loop μ-loop → tie.Then1 Inv-loop μ-loop
-turn c = let w = c .before .before in w .before .before .before
+turn c = let w = c .before .before in w .before .before
 
 add-from : tie.Need-add-from Inv-loop μ-loop
 add-from c = omega (arith, inside (turn c), begun (turn c .before .before) .good)
@@ -95,7 +100,7 @@ loop-again c =
       omega (arith, t .if1 .taken),
       ap (λ (n : ℕ). n + s .args .row) (i .inv .1) ∙ row-next (i .k) (s .args .row),
       omega (arith, i .inv .2),
-      rw (c .before .write-blocks .ensures, l .before .before .no-row .ensures)
+      rw (c .before .write-products .ensures)
           (products-more sixteen-sums (i .inv .3) (weighing l .coefficients .ensures) few (omega (arith, t .if1 .taken)) _ _
           (i .inv .1 ∙ ap (λ (n : ℕ). i .k * n) (s .pre .1 .0)) (i .inv .2)),
     )
@@ -115,12 +120,13 @@ mask-products-spec =
     μ-loop
     sub-items
     coefficients-requires
+    array-read-scale-of
+    scale-of-requires
     cast-blocks
-    no-row-requires
     no-products-requires
     loop-holds
-    slice-aggregate-write-blocks
-    write-blocks-requires
+    slice-aggregate-write-products
+    write-products-requires
     add-from
     add-at
     add-k
