@@ -6,8 +6,8 @@
 //   Scale, scale_of           a factor for many products in 16 bits
 //   add_scaled                a sum plus such a product
 //   high_half, low_half       of a product
-//   inverse_of, coefficient   the inverses of the numbers below points
-//   POINTS, inverses          the same as an array, for loops
+//   POINTS, inverses          the inverses of the numbers below POINTS
+//   coefficient               that of a user and a column
 //   past, all_within          how far a number is past the most; that no number of a list is
 //   excess, all_elements      the same of the last element: test 3 of document 01
 //   far, all_near             0 of an element no further than the most from zero, up or down; that all of a list are such elements
@@ -126,44 +126,11 @@ fn low_half(a: u16, b: u16) -> u16
     (a as u32 * b as u32 % WORD) as u16
 }
 
-// The inverses of the numbers below points modulo Q, and at 0, which has none, the 1 that the definition gives. The compiler makes a table of the arms;
-// one written as an array would be built anew at each call.
-fn inverse_of(n: u32) -> u16
-    requires { ⌜ n < points ⌝ }
-    ensures { λ r. ⌜ r ≡ inverse q n ⌝ }
-{
-    match n {
-        0 => 1,
-        1 => 1,
-        2 => 32761,
-        3 => 43681,
-        4 => 49141,
-        5 => 52417,
-        6 => 54601,
-        7 => 56161,
-        8 => 57331,
-        9 => 58241,
-        10 => 58969,
-        11 => 11913,
-        12 => 60061,
-        13 => 60481,
-        14 => 60841,
-        _ => 61153,
-    }
-}
-
-// "The coefficient of airfield k and column j is the inverse of k + j modulo q."
-pub fn coefficient(user: u32, column: u32) -> u16
-    requires { ⌜ user + column < points ⌝ }
-    ensures { λ r. ⌜ r ≡ sixteen .coefficient user column ⌝ }
-{
-    inverse_of(user + column)
-}
-
+// One more than the most that a user and a column add up to.
 pub const POINTS: usize = 16;
 
-// All of them. A loop that reads its factors from an array multiplies in 16 bits: of a factor that comes from the arms the compiler prepares
-// the scales, as a table of wider numbers.
+// The inverses of the numbers below POINTS modulo Q, and at 0, which has none, the 1 that the definition gives. Read from an array, a factor has
+// 16 bits for the compiler too; by arms it would be prepared as a table of wider numbers.
 pub fn inverses() -> [u16; POINTS]
     ensures { λ r. ⌜ r ≡ map (inverse q) (span points 0) ⌝ }
 {
@@ -185,6 +152,15 @@ pub fn inverses() -> [u16; POINTS]
         60841,
         61153,
     ]
+}
+
+// "The coefficient of airfield k and column j is the inverse of k + j modulo q."
+pub fn coefficient(user: u32, column: u32) -> u16
+    requires { ⌜ user + column < points ⌝ }
+    ensures { λ r. ⌜ r ≡ sixteen .coefficient user column ⌝ }
+{
+    let table = inverses();
+    table[(user + column) as usize]
 }
 
 // How far x is past the most: 0 of a number that is not above it.

@@ -297,7 +297,16 @@ fn mask_products(plan: Plan, user: u32, list: &[u16], row: usize) -> [u16; CELLS
     let mut at = 0;
     let mut k: u32 = 0;
     while k < plan.users {
-        write_products(&factors, scale, items, list, from, &mut products, at, blocks);
+        write_products(
+            &factors,
+            scale,
+            items,
+            list,
+            from,
+            &mut products,
+            at,
+            blocks,
+        );
         from += row;
         at += BLOCKS;
         k += 1;

@@ -30,7 +30,7 @@ fn gap_between(x: u32, y: u32) -> u16
     gap_entry(MOST_THRESHOLD + x - y)
 }
 
-// 1 / (d - MOST_THRESHOLD), and 1 where d is that; by arms, as the inverses of `element`.
+// 1 / (d - MOST_THRESHOLD), and 1 where d is that. The compiler makes a table of the arms.
 fn gap_entry(d: u32) -> u16
     requires { ⌜ d < most-users + most-threshold ⌝ }
     ensures { λ r. ⌜ r ≡ gap-entry q d ⌝ }
