@@ -24,7 +24,7 @@ ghost use Prim.Native.Nat.{ℕ, _+_, _*_, _/_, _%_, _^_, _≤_, _<_};
 ghost use lib.ListN.{length, getD, replicate};
 ghost use lib.Seq.{sets};
 ghost use Rattle.scheme.specs.Limits.{most-users, most-blocks, most-collusion, most-items, most-places, most-sets, cells, points};
-ghost use Rattle.scheme.specs.Lists.{span, rows};
+ghost use Rattle.scheme.specs.Lists.{span, filled, rows};
 ghost use Rattle.scheme.specs.Scheme.{q, sixteen, places, usable, ones, sets-with, mask, shares, key-length, key-refusal, key-left};
 ghost use Rattle.scheme.specs.Good.{Good};
 ghost use Rattle.scheme.specs.Drawn.{list-refusal, list-left};
@@ -226,17 +226,9 @@ fn write_shares(
             return;
         }
     }
-    let sums = add_rows(low, i, high, j);
-    write_blocks(
-        &sums,
-        factors,
-        plan.collusion,
-        list,
-        noise,
-        out,
-        at,
-        plan.blocks as usize,
-    );
+    let blocks = plan.blocks as usize;
+    let sums = add_rows(low, i, high, j, blocks);
+    write_blocks(&sums, factors, plan.collusion, list, noise, out, at, blocks);
 }
 
 // The sums over every set of the first HALF users, and over every set of the others.
@@ -272,7 +264,7 @@ fn fill_table(products: &[u16; CELLS], first: usize, sets: u32, sums: &mut [u16;
     let mut top = BLOCKS;
     let mut at = BLOCKS;
     while at < end {
-        let sum = add_rows(sums, at - top, products, with);
+        let sum = add_rows(sums, at - top, products, with, BLOCKS);
         put_row(&sum, sums, at);
         at += BLOCKS;
         if at == top + top {
@@ -381,16 +373,17 @@ fn share_row(
     row
 }
 
-// A row of each, lane by lane, into a row of its own: nothing tells the compiler that lent lists do not overlap.
-fn add_rows(a: &[u16], i: usize, c: &[u16], j: usize) -> [u16; BLOCKS]
-    requires { ⌜ (i + most-blocks ≤ length (now a)) × (j + most-blocks ≤ length (now c)) ⌝ }
-    requires { ⌜ ((b : ℕ) → b < most-blocks → getD (now a) (i + b) 0 < q) ⌝ }
-    requires { ⌜ ((b : ℕ) → b < most-blocks → getD (now c) (j + b) 0 < q) ⌝ }
-    ensures { λ r. ⌜ r ≡ added-row sixteen (now (a .entry)) i (now (c .entry)) j ⌝ }
+// n numbers of each, lane by lane, into a row of its own: nothing tells the compiler that lent lists do not overlap. With n told by the caller
+// the loop is short until it is part of the caller, which alone lets the compiler take it in at both places.
+fn add_rows(a: &[u16], i: usize, c: &[u16], j: usize, n: usize) -> [u16; BLOCKS]
+    requires { ⌜ (n ≤ most-blocks) × (i + n ≤ length (now a)) × (j + n ≤ length (now c)) ⌝ }
+    requires { ⌜ ((b : ℕ) → b < n → getD (now a) (i + b) 0 < q) ⌝ }
+    requires { ⌜ ((b : ℕ) → b < n → getD (now c) (j + b) 0 < q) ⌝ }
+    ensures { λ r. ⌜ r ≡ filled most-blocks n (λ b. sixteen .add (getD (now (a .entry)) (i + b) 0) (getD (now (c .entry)) (j + b) 0)) ⌝ }
 {
     let mut row = no_row();
     let mut b = 0;
-    while b < BLOCKS {
+    while b < n {
         row[b] = add(a[i + b], c[j + b]);
         b += 1;
     }

@@ -55,7 +55,7 @@ add-rows-requires : tie.Need-add-rows-requires Inv-loop μ-loop
 add-rows-requires c κs =
     let t = c .before .before .before in
     let g = so-far t in (
-      (omega (arith, g .table .long, room t, low t, begun t .pre .0), omega (arith, g .with-is, user t, begun t .pre .0)),
+      (omega arith, omega (arith, g .table .long, room t, low t, begun t .pre .0), omega (arith, g .with-is, user t, begun t .pre .0)),
       (filling-small sixteen-sums g, λ b h. begun t .pre .1 _),
     )
 

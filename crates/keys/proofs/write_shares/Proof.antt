@@ -10,7 +10,7 @@ use Rattle.scheme.specs.Limits.{most-blocks}
 use Rattle.scheme.specs.Scheme.{sixteen}
 use Rattle.scheme.specs.KeyParts.{block-values, half-sets, added-row}
 use Rattle.scheme.proofs.Modular.{sixteen-sums}
-use Rattle.scheme.proofs.Making.Sums.{scaled-end}
+use Rattle.scheme.proofs.Making.Sums.{added-values, scaled-end}
 use Rattle.keys.proofs.write_shares.Statement.{statement}
 use Rattle.keys.proofs.write_shares.Tie as tie
 
@@ -57,11 +57,13 @@ returns c =
     ∙ ap (sets (now (a .out)) (a .at))
     (scaled-end sixteen-sums (now (a .factors)) (r .share-row .ensures _ (s .pre .1 .1 .1 .0)) ∙ ap₂ value (sym one) (sym all))
 
-add-rows-requires : tie.Need-add-rows-requires
-add-rows-requires c κs = search needs
+cast-blocks : tie.Need-cast-blocks
+cast-blocks c = search needs
 
-cast-write-blocks : tie.Need-cast-write-blocks
-cast-write-blocks c = search needs
+add-rows-requires : tie.Need-add-rows-requires
+add-rows-requires c κs =
+    let s = c .before .before .before .before .before .before .before in
+    (search needs, (λ b h. s .pre .1 .0 b (omega (arith, s .pre .0)), λ b h. s .pre .1 .1 .0 b (omega (arith, s .pre .0))))
 
 write-blocks-requires : tie.Need-write-blocks-requires
 write-blocks-requires c κs = search needs
@@ -72,10 +74,14 @@ same-length-2 c = search needs
 returns-2 : tie.Need-returns-2
 returns-2 c =
     let w = c .before .before in
-    let a = c .before .before .before .before .before .before .before .before .before .before .before .before .before .args in
+    let r = w .before .before .before in
+    let s = r .before .before .before .before .before .before .before .before in
+    let a = s .args in
     w .write-blocks .ensures
     ∙ ap (λ (r : List ℕ). sets (now (a .out)) (a .at)
-    (block-values sixteen r (now (a .factors)) (a .plan .collusion) (now (a .list)) (a .noise) (a .plan .blocks))) (w .before .before .before .before .add-rows .ensures)
+    (block-values sixteen r (now (a .factors)) (a .plan .collusion) (now (a .list)) (a .noise) (a .plan .blocks))) (r .add-rows .ensures)
+    ∙ ap (sets (now (a .out)) (a .at))
+    (added-values sixteen (now (a .low)) _ (now (a .high)) _ (now (a .factors)) (a .plan .collusion) (now (a .list)) (a .noise) (a .plan .blocks) (s .pre .0 .1))
 
 pub write-shares-spec : {M : Type 1} → statement M
 write-shares-spec =
@@ -89,8 +95,8 @@ write-shares-spec =
     put-row-requires
     same-length
     returns
+    cast-blocks
     add-rows-requires
-    cast-write-blocks
     write-blocks-requires
     same-length-2
     returns-2)

@@ -1,6 +1,7 @@
 -- Blocks of shares from sums and noise.
 --   weight-end, weight-one     numbers times factors, with a sum, are the value of a block; of one number, without a remainder of its own
---   added-at, added-copy       a number of the sum of two rows; its numbers one by one
+--   added-at                   a number of the sum of two rows
+--   added-copy, added-values   the whole sum from a row that is filled with it; from one that is filled so far as there are blocks, their values
 --   scaled-start, scaled-more, scaled-end     the same plus numbers times a factor, one lane a turn; the shares with one noise element a block
 --   sums-end                   with the noise the sums from both tables are the shares
 -- Assumes nothing.
@@ -12,12 +13,13 @@ use native.Mathlib.Omega.{arith}
 use lib.ListN.{length, getD, set}
 use lib.Seq.{getD-set-same, getD-set-other}
 use Rattle.scheme.specs.Limits.{most-blocks}
-use Rattle.scheme.specs.Lists.{span}
+use Rattle.scheme.specs.Lists.{span, filled}
 use Rattle.scheme.specs.Scheme.{Arithmetic, modular, Plan}
 use Rattle.scheme.specs.Laws.{Laws}
 use Rattle.scheme.specs.Weighed.{weighed-by, weighed, Unreduced}
 use Rattle.scheme.specs.KeyParts.{block-item, block-value, block-values, share-from, shares-from, half-sets, added-row, Scaled-row, Tables}
 use Rattle.scheme.proofs.Lists.{map-below-same, map-below-at}
+use Rattle.scheme.proofs.Padded.{filled-at}
 use Rattle.scheme.proofs.Tests.{none-below}
 use Rattle.scheme.proofs.Weighed.{weighed-same, unreduced-one}
 use Rattle.scheme.proofs.Making.Rows.{below-more}
@@ -43,11 +45,22 @@ pub added-at : (A : Arithmetic) (xs : List ℕ) (i : ℕ) (ys : List ℕ) (j b :
 unfolding added-row
 added-at A xs i ys j b h = map-below-at (λ b. A .add (getD xs (i + b) 0) (getD ys (j + b) 0)) most-blocks b h
 
-pub added-copy : (A : Arithmetic) (xs : List ℕ) (i : ℕ) (ys : List ℕ) (j : ℕ)
-    → map (λ b. getD (added-row A xs i ys j) b 0) (span most-blocks 0) ≡ added-row A xs i ys j
-unfolding added-row
-added-copy A xs i ys j =
-    map-below-same (λ b. getD (added-row A xs i ys j) b 0) (λ b. A .add (getD xs (i + b) 0) (getD ys (j + b) 0)) most-blocks (added-at A xs i ys j)
+module _ (A : Arithmetic) (xs : List ℕ) (i : ℕ) (ys : List ℕ) (j : ℕ) where
+  abbrev added : ℕ → List ℕ
+  added n = filled most-blocks n (λ b. A .add (getD xs (i + b) 0) (getD ys (j + b) 0))
+
+  pub added-copy : map (λ b. getD (added most-blocks) b 0) (span most-blocks 0) ≡ added-row A xs i ys j
+  unfolding added-row
+  added-copy = map-below-same (λ b. getD (added most-blocks) b 0) (λ b. A .add (getD xs (i + b) 0) (getD ys (j + b) 0)) most-blocks
+      (filled-at most-blocks (λ b. A .add (getD xs (i + b) 0) (getD ys (j + b) 0)) most-blocks)
+
+  pub added-values : (cs : List ℕ) (n : ℕ) (zs : List ℕ) (from blocks : ℕ) → blocks ≤ most-blocks
+      → block-values A (added blocks) cs n zs from blocks ≡ block-values A (added-row A xs i ys j) cs n zs from blocks
+  unfolding block-values block-value
+  added-values cs n zs from blocks few =
+      map-below-same (block-value A (added blocks) cs n zs from) (block-value A (added-row A xs i ys j) cs n zs from) blocks (λ b h.
+      ap (λ (x : ℕ). A .add x (weighed A cs n (block-item zs from n b)))
+      (filled-at most-blocks (λ b. A .add (getD xs (i + b) 0) (getD ys (j + b) 0)) blocks b h ∙ sym (added-at A xs i ys j b (omega arith))))
 
 pub scaled-start : {A : Arithmetic} {xs : List ℕ} {i : ℕ} {ys : List ℕ} {j c : ℕ} {zs : List ℕ} {k : ℕ} {row : List ℕ} → Scaled-row A xs i ys j c zs k 0 row
 scaled-start = record { each = λ b h. absurd (none-below b h) }
