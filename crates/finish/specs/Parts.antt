@@ -5,7 +5,8 @@
 --   Needed                               how many unknowns a turn needs: those of the totals, and where there are further rows all
 --   most-sum, At-most                    of a sum of a number of 16 bits for each user; bounds of a list
 --   raised, first-sum, First-sums        a sum and one element more; the sum of the first elements of a place; of each place, not reduced
---   block-total, place-total             a total: by its block and item, by its place
+--   place-total                          a total by its place
+--   turn-of, some-totals                 the turn of a place, item by item; the totals of the first turns
 -- Over an arithmetic with its laws:
 --   solution-fits                        whether a row has the values that follow from the closed solution of the first U rows
 --   Rows-solved                          of the closed solution of the first U rows the unknowns that are needed, and the first two further
@@ -20,7 +21,7 @@ use Prim.Native.Nat.{ℕ, _+_, _*_, _-_, _/_, _%_, _≤_, _<_}
 use lib.Dec.{ltb}
 use lib.ListN.{length, getD, replicate}
 use Rattle.scheme.specs.Limits.{most-users, most-threshold, most-blocks, most-places}
-use Rattle.scheme.specs.Lists.{span, padded}
+use Rattle.scheme.specs.Lists.{span, padded, filled}
 use Rattle.scheme.specs.Scheme.{Arithmetic, modular, sum, Plan, items, users-in, unless, after}
 use Rattle.scheme.specs.Laws.{Laws}
 use Rattle.scheme.specs.Solve.{cell, grid, block, unknown-at, unknowns-of, row-fits, First-misfit}
@@ -72,12 +73,16 @@ pub record First-sums (q : ℕ) (first rows : List ℕ) (n places : ℕ) (sums :
   pub right : (i : ℕ) → i < places → getD sums i 0 % q ≡ first-sum (modular q) first rows n i
 
 -- ---- totals
--- item j of a block whose places start at `at`
-unfoldable pub block-total : Arithmetic → (sums unknowns : List ℕ) → (block at j : ℕ) → ℕ
-block-total A xs ws b at j = A .subtract (getD xs (at + j) 0) (cell ws j b)
-
 unfoldable pub place-total : Arithmetic → (sums unknowns : List ℕ) → (items place : ℕ) → ℕ
 place-total A xs ws n i = A .subtract (getD xs i 0) (cell ws (i % n) (i / n))
+
+-- the turn of a place, where the totals are written item by item: item i % n of block i / n
+abbrev pub turn-of : (items blocks place : ℕ) → ℕ
+turn-of n m i = i % n * m + i / n
+
+-- the totals of the first t turns, and 0 in the other places
+unfoldable pub some-totals : Arithmetic → (sums unknowns : List ℕ) → (items blocks t : ℕ) → List ℕ
+some-totals A xs ws n m t = filled most-places (m * n) (λ i. cond (ltb (turn-of n m i) t) (place-total A xs ws n i) 0)
 
 -- ---- what settles the replies
 module _ (A : Arithmetic) (L : Laws A most-users most-threshold) where

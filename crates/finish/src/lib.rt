@@ -7,7 +7,7 @@
 //   Numbers, refused                          a refusal's number, and the user set aside
 //   explain                                   these, and the sums and noise that explain the replies
 //   add_first, no_sums, first_sums            the sum of the first elements of each place
-//   total, put_block_totals, put_all_totals   the totals: of a place, of a block, of all blocks
+//   total, put_item_totals, put_all_totals    the totals: of a place, of an item in all blocks, of all items
 //   put_explained_totals, put_state_totals    the numbers and the totals: of a set, 0 or 16; of a state, 11, 12, 15 too
 //   no_totals, idle                           what stands in the places before; the head after a finish
 //   FinishedHead, finish_lent                 the call on lent arrays
@@ -29,7 +29,7 @@ ghost use Rattle.plan.specs.Plan.{plan-of};
 ghost use Rattle.service.specs.Calls.{lent};
 ghost use Rattle.solve.specs.Solve.{laws16};
 ghost use Rattle.finish.specs.Finish.{columns, finished, finishing, finish-step};
-ghost use Rattle.finish.specs.Parts.{Listed, reply-grid, row-before, Needed, Rows-solved, Explained-right, most-sum, At-most, raised, First-sums, block-total, place-total, Totalled, Answered};
+ghost use Rattle.finish.specs.Parts.{Listed, reply-grid, row-before, Needed, Rows-solved, Explained-right, most-sum, At-most, raised, First-sums, place-total, some-totals, Totalled, Answered};
 use plan::BLOCKS;
 use plan::CELLS;
 use plan::FIRSTS;
@@ -273,27 +273,29 @@ fn total(sum: u32, unknown: u16) -> u16
     element::reduce(sum + (2 * element::Q - unknown as u32))
 }
 
-// The totals of a block, from place `at` on.
-fn put_block_totals(
+// The totals of an item, one in each block. They stand `items` places apart, as the unknowns of all blocks stand in one row.
+fn put_item_totals(
     sums: &[u32; MOST_PLACES],
     unknowns: &[u16; CELLS],
-    block: usize,
-    at: usize,
+    item: usize,
     items: usize,
+    blocks: usize,
     out: &mut [u16; MOST_PLACES],
 )
-    requires { ⌜ (block < most-blocks) × (items ≤ most-items) × (at + items ≤ most-places) × At-most most-sum (at + items) (now sums) ⌝ }
-    ensures { λ r. ⌜ now (out .exit)
-        ≡ sets (now (out .entry)) at (map (block-total sixteen (now (sums .entry)) (now (unknowns .entry)) block at) (span items 0)) ⌝ }
+    requires { ⌜ (item < items) × (items ≤ most-items) × (blocks ≤ most-blocks) × (blocks * items ≤ most-places) × At-most most-sum (blocks * items) (now sums) ⌝ }
+    requires { ⌜ now out ≡ some-totals sixteen (now sums) (now unknowns) items blocks (item * blocks) ⌝ }
+    ensures { λ r. ⌜ now (out .exit) ≡ some-totals sixteen (now (sums .entry)) (now (unknowns .entry)) items blocks (item * blocks + blocks) ⌝ }
 {
-    let mut j = 0;
-    while j < items {
-        out[at + j] = total(sums[at + j], unknowns[j * BLOCKS + block]);
-        j += 1;
+    let mut at = item;
+    let mut b = 0;
+    while b < blocks {
+        out[at] = total(sums[at], unknowns[item * BLOCKS + b]);
+        at += items;
+        b += 1;
     }
 }
 
-// The totals of all blocks: the sums of the first elements less those of the masks.
+// The totals of all items: the sums of the first elements less those of the masks.
 fn put_all_totals(
     sums: &[u32; MOST_PLACES],
     unknowns: &[u16; CELLS],
@@ -306,12 +308,10 @@ fn put_all_totals(
     ensures { λ r. ⌜ now (out .exit)
         ≡ filled most-places (blocks * items) (place-total sixteen (now (sums .entry)) (now (unknowns .entry)) items) ⌝ }
 {
-    let mut at = 0;
-    let mut b = 0;
-    while b < blocks {
-        put_block_totals(sums, unknowns, b, at, items, out);
-        at += items;
-        b += 1;
+    let mut item = 0;
+    while item < items {
+        put_item_totals(sums, unknowns, item, items, blocks, out);
+        item += 1;
     }
 }
 

@@ -1,36 +1,34 @@
--- `finish::put_all_totals` meets its contract. The loop's invariant: the totals of b blocks are written.
+-- `finish::put_all_totals` meets its contract. The loop's invariant: the totals of the first items are written.
 -- The measure is how many are left. Assumes nothing.
-use Prim.Native.Nat.{_+_, _*_, _-_, _≤_}
+use mathlib.Core.Path.{_≡_, sym, ap, _∙_}
+use Prim.Native.Nat.{ℕ, _+_, _*_, _-_, _≤_}
+use native.Mathlib.Nat.{zero-mul, suc-mul}
+use native.Mathlib.Numerals.{add-one}
 use native.Mathlib.Omega.{arith}
 use borrow.Author.Needs.{needs}
 use Rattle.scheme.specs.Scheme.{sixteen}
-use Rattle.finish.proofs.Totalling.{Totalling, totalling-start, totalling-room, totalling-more, totalling-end}
+use Rattle.finish.specs.Parts.{some-totals}
+use Rattle.finish.proofs.Totalling.{some-start, some-end}
 use Rattle.finish.proofs.put_all_totals.Statement.{statement}
 use Rattle.finish.proofs.put_all_totals.Tie as tie
 
 abbrev Inv-loop : tie.InvT-loop
-Inv-loop sums unknowns items blocks out₀ at₀ b₀ out at b = Totalling sixteen sums unknowns items blocks b at out
+Inv-loop sums unknowns items blocks out₀ item₀ out item = out ≡ some-totals sixteen sums unknowns items blocks (item * blocks)
 
 abbrev μ-loop : tie.MeasureT-loop
-μ-loop sums unknowns items blocks out₀ at₀ b₀ out at b = blocks - b
-
--- the block's places are among those of the totals
-room : (c : tie.In-loop Inv-loop μ-loop) → let a = c .before .before .args in c .before .loop .at + a .items ≤ a .blocks * a .items
-room c = totalling-room _ _ _ _ _ _ _ _ (c .before .loop .inv) (c .loop-test .taken)
+μ-loop sums unknowns items blocks out₀ item₀ out item = items - item
 
 loop-holds : tie.Need-loop-holds Inv-loop μ-loop
-loop-holds c = rw (c .pre .1) (totalling-start _ _ _ _ _)
+loop-holds c = let a = c .args in
+    c .pre .1 ∙ some-start sixteen (a .sums .now) (a .unknowns .now) (a .items) (a .blocks) (c .pre .0 .2) ∙ ap (some-totals sixteen (a .sums .now) (a .unknowns .now) (a .items) (a .blocks)) (sym (zero-mul (a .blocks)))
 
-put-block-totals-requires : tie.Need-put-block-totals-requires Inv-loop μ-loop
-put-block-totals-requires c κs =
-    let p = c .before .before .before .pre .0 in let r = room (c .before) in
-    (omega (arith, p .1), p .0, omega (arith, r, p .2), record { low = λ i h. p .3 .low i (omega (arith, r)) })
+put-item-totals-requires : tie.Need-put-item-totals-requires Inv-loop μ-loop
+put-item-totals-requires c κs =
+    let p = c .before .before .before .pre .0 in
+    ((c .before .loop-test .taken, p .0, p .1, p .2, p .3), c .before .before .loop .inv)
 
-add-at : tie.Need-add-at Inv-loop μ-loop
-add-at c = omega (arith, room (c .before .before))
-
-add-b : tie.Need-add-b Inv-loop μ-loop
-add-b c = search needs
+add-item : tie.Need-add-item Inv-loop μ-loop
+add-item c = search needs
 
 loop-less : tie.Need-loop-less Inv-loop μ-loop
 loop-less c = search needs
@@ -38,21 +36,13 @@ loop-less c = search needs
 loop-again : tie.Need-loop-again Inv-loop μ-loop
 loop-again c =
     let t = c .before .before in
-    totalling-more _ _ _ _ _ _ _ _ (t .before .loop .inv) _ (t .before .before .pre .0 .2) (t .loop-test .taken) (c .put-block-totals .ensures)
+    let i = t .before .loop .item in
+    let a = t .before .before .args in
+    c .put-item-totals .ensures
+    ∙ ap (some-totals sixteen (a .sums .now) (a .unknowns .now) (a .items) (a .blocks)) (sym (ap (λ (n : ℕ). n * a .blocks) (add-one i) ∙ suc-mul i (a .blocks)))
 
 returns : tie.Need-returns Inv-loop μ-loop
-returns c = totalling-end _ _ _ _ _ _ _ _ (c .before .loop .inv) (c .loop-test .left)
+returns c = c .before .loop .inv ∙ some-end sixteen _ _ _ _ (c .before .before .pre .0 .2) _ (c .loop-test .left)
 
 pub put-all-totals-spec : {M : Type 1} → statement M
-put-all-totals-spec =
-    tie.close
-    (tie.spec
-    Inv-loop
-    μ-loop
-    loop-holds
-    put-block-totals-requires
-    add-at
-    add-b
-    loop-less
-    loop-again
-    returns)
+put-all-totals-spec = tie.close (tie.spec Inv-loop μ-loop loop-holds put-item-totals-requires add-item loop-less loop-again returns)
