@@ -9,7 +9,7 @@ use mathlib.Core.Logic.{_≢_}
 use mathlib.Core.Bool.{Bool, cond}
 use mathlib.Core.List.{List}
 use Prim.Native.Nat.{ℕ, suc, _+_, _*_, _%_, _≤_, _<_, _/_}
-use native.Mathlib.Nat.{suc-mul, mul-zero, mul-le-mul-right, lt-of-mul-lt-mul-left, div-lt-iff-lt-mul, mod-lt, mod-add-mod, mod-add-div'}
+use native.Mathlib.Nat.{suc-mul, mul-zero, mul-le-mul-right, lt-of-mul-lt-mul-left, div-lt-iff-lt-mul, mod-lt, mod-add-mod, mod-add-div', zero-add}
 use native.Mathlib.Numerals.{add-one}
 use native.Mathlib.Decide.{decLt, ℕ-discrete}
 use native.Mathlib.Omega.{arith}
@@ -115,7 +115,7 @@ module _ (A : Arithmetic) (xs ws : List ℕ) (n m : ℕ) (few : m * n ≤ most-p
       ap (λ (t : Bool). cond t (place-total A xs ws n i) 0) (lt-ltb (turn-of n m i) (j * m) (omega (arith, low, mul-le-mul-right {m = n} {n = j} m h)))))
 
 pub totals-same : (q : ℕ) (p : Plan) (v : ℕ) (xs rs sums ws : List ℕ) (k : ℕ) (choice : (block : ℕ) → List ℕ)
-    → rs ≡ rows-of p v → k ≡ length (users-in p v) → First-sums q xs rs k (places p) sums
+    → rs ≡ rows-of p v → k ≡ length (users-in p v) → First-sums q xs rs k 0 (places p) sums
     → ((i b : ℕ) → i < items p → b < p .blocks → cell ws i b ≡ getD (choice b) i 0)
     → filled most-places (p .blocks * items p) (place-total (modular q) sums ws (items p))
     ≡ padded most-places (totals (modular q) p v (held-in most-places xs) choice)
@@ -124,7 +124,7 @@ totals-same q p v xs rs sums ws k choice e d s u =
     ap (padded most-places) (map-same _ _ (span (places p) 0) (λ i m.
     let l : i < p .blocks * items p = omega (arith, span-in (places p) 0 i m .1) in
     let some : 0 < items p = lt-of-mul-lt-mul-left (p .blocks) (omega (arith, mul-zero (p .blocks))) in
-    sym (mod-add-mod (getD sums i 0) q _) ∙ ap₂ (λ (x y : ℕ). modular q .subtract x y) (s .right i l
+    sym (mod-add-mod (getD sums i 0) q _) ∙ ap₂ (λ (x y : ℕ). modular q .subtract x y) (s .right i l ∙ ap (first-sum (modular q) xs rs k) (zero-add i)
     ∙ ap₂ (λ (n : ℕ) (us : List ℕ). sum (modular q) (span n 0) (λ a. held-in most-places xs (getD us a 0) i)) d e
     ∙ sym (sum-by-place (modular q) (λ j. held-in most-places xs j i) most-users (users-in p v)))
     (u (i % items p) (i / items p) (omega (arith, mod-lt i some)) (div-lt-iff-lt-mul {k = items p} {x = i} {y = p .blocks} some .1 l))))

@@ -68,9 +68,10 @@ raised ss xs from i = getD ss i 0 + (getD xs (from + i) 0 - 1)
 unfoldable pub first-sum : Arithmetic → (first rows : List ℕ) → (n place : ℕ) → ℕ
 first-sum A xs rs n i = sum A (span n 0) (λ a. held-in most-places xs (getD rs a 0) i)
 
-pub record First-sums (q : ℕ) (first rows : List ℕ) (n places : ℕ) (sums : List ℕ) : Type 0 where
+-- of so many places from `at` on
+pub record First-sums (q : ℕ) (first rows : List ℕ) (n at places : ℕ) (sums : List ℕ) : Type 0 where
   pub small : At-most most-sum places sums
-  pub right : (i : ℕ) → i < places → getD sums i 0 % q ≡ first-sum (modular q) first rows n i
+  pub right : (i : ℕ) → i < places → getD sums i 0 % q ≡ first-sum (modular q) first rows n (at + i)
 
 -- ---- totals
 unfoldable pub place-total : Arithmetic → (sums unknowns : List ℕ) → (items place : ℕ) → ℕ

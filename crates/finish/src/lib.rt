@@ -6,7 +6,8 @@
 //   row_before, turned                        the rows of the next turn
 //   Numbers, refused                          a refusal's number, and the user set aside
 //   explain                                   these, and the sums and noise that explain the replies
-//   add_first, no_sums, first_sums            the sum of the first elements of each place
+//   add_first, no_run, run_sums               the sum of the first elements of each place of a run
+//   put_run, no_sums, first_sums              the same of all places, run by run
 //   total, put_item_totals, put_all_totals    the totals: of a place, of an item in all blocks, of all items
 //   put_explained_totals, put_state_totals    the numbers and the totals: of a set, 0 or 16; of a state, 11, 12, 15 too
 //   no_totals, idle                           what stands in the places before; the head after a finish
@@ -224,17 +225,48 @@ fn explain(plan: Plan, set: u32, reply: &[u16; CELLS], unknowns: &mut [u16; CELL
     refused(16)
 }
 
-// Adds a user's first elements, which stand from `from` on.
-fn add_first(sums: &mut [u32; MOST_PLACES], first: &[u16; FIRSTS], from: usize, places: usize)
-    requires { ⌜ (places ≤ most-places) × (from + places ≤ firsts) × (length (now sums) ≡ most-places) ⌝ }
-    requires { ⌜ At-most most-sum places (now sums) ⌝ }
+// Adds a user's first elements of a run of places, which stand from `from` on.
+fn add_first(sums: &mut [u32; BLOCKS], first: &[u16; FIRSTS], from: usize)
+    requires { ⌜ (from + most-blocks ≤ firsts) × (length (now sums) ≡ most-blocks) × At-most most-sum most-blocks (now sums) ⌝ }
     ensures added { λ r. ⌜ now (sums .exit) ≡ sets (now (sums .entry)) 0
-        (map (raised (now (sums .entry)) (now (first .entry)) from) (span places 0)) ⌝ }
-    ensures small { λ r. ⌜ ((i : ℕ) → i < places → getD (now (first .entry)) (from + i) 0 - 1 ≤ most-word) ⌝ }
+        (map (raised (now (sums .entry)) (now (first .entry)) from) (span most-blocks 0)) ⌝ }
+    ensures small { λ r. ⌜ ((i : ℕ) → i < most-blocks → getD (now (first .entry)) (from + i) 0 - 1 ≤ most-word) ⌝ }
 {
     let mut i = 0;
-    while i < places {
+    while i < BLOCKS {
         sums[i] = sums[i] + service::element_of(first[from + i]) as u32;
+        i += 1;
+    }
+}
+
+fn no_run() -> [u32; BLOCKS]
+    ensures { λ r. ⌜ r ≡ replicate most-blocks 0 ⌝ }
+{
+    [0; BLOCKS]
+}
+
+// The sum of the first elements of each place of a run, not reduced.
+fn run_sums(first: &[u16; FIRSTS], rows: &[u32; USERS], count: usize, at: usize) -> [u32; BLOCKS]
+    requires { ⌜ (count ≤ most-users) × (at + most-blocks ≤ most-places) × Points most-users count (now rows) ⌝ }
+    ensures { λ r. ⌜ First-sums q (now (first .entry)) (now (rows .entry)) count at most-blocks r ⌝ }
+{
+    let mut sums = no_run();
+    let mut i = 0;
+    while i < count {
+        let from = service::row_start(rows[i], MOST_PLACES);
+        add_first(&mut sums, first, from + at);
+        i += 1;
+    }
+    sums
+}
+
+fn put_run(out: &mut [u32; MOST_PLACES], at: usize, run: &[u32; BLOCKS])
+    requires { ⌜ (at + most-blocks ≤ most-places) × (length (now out) ≡ most-places) ⌝ }
+    ensures { λ r. ⌜ now (out .exit) ≡ sets (now (out .entry)) at (map (λ i. getD (now (run .entry)) i 0) (span most-blocks 0)) ⌝ }
+{
+    let mut i = 0;
+    while i < BLOCKS {
+        out[at + i] = run[i];
         i += 1;
     }
 }
@@ -245,7 +277,7 @@ fn no_sums() -> [u32; MOST_PLACES]
     [0; MOST_PLACES]
 }
 
-// The sum of the first elements of each place, not reduced.
+// The sum of the first elements of each place, by runs whose sums stay in registers.
 fn first_sums(
     first: &[u16; FIRSTS],
     rows: &[u32; USERS],
@@ -253,14 +285,14 @@ fn first_sums(
     places: usize,
 ) -> [u32; MOST_PLACES]
     requires { ⌜ (count ≤ most-users) × (places ≤ most-places) × Points most-users count (now rows) ⌝ }
-    ensures { λ r. ⌜ First-sums q (now (first .entry)) (now (rows .entry)) count places r ⌝ }
+    ensures { λ r. ⌜ First-sums q (now (first .entry)) (now (rows .entry)) count 0 places r ⌝ }
 {
     let mut sums = no_sums();
-    let mut i = 0;
-    while i < count {
-        let from = service::row_start(rows[i], MOST_PLACES);
-        add_first(&mut sums, first, from, places);
-        i += 1;
+    let mut at = 0;
+    while at < places {
+        let run = run_sums(first, rows, count, at);
+        put_run(&mut sums, at, &run);
+        at += BLOCKS;
     }
     sums
 }

@@ -7,6 +7,7 @@ use native.Mathlib.Nat.{zero-add}
 use native.Mathlib.Omega.{arith}
 use lib.ListN.{getD, set}
 use borrow.Author.Needs.{needs}
+use Rattle.scheme.specs.Limits.{most-blocks}
 use Rattle.scheme.proofs.Tests.{none-below}
 use Rattle.scheme.proofs.Making.Rows.{below-more, row-other}
 use Rattle.scheme.proofs.Padded.{Setting, setting-start, setting-more, setting-end}
@@ -23,11 +24,11 @@ next : {f : ℕ → ℕ} {n : ℕ} {old new : List ℕ} (i : ℕ) {x : ℕ} → 
 next {f} {n} {old} {new} i {x} l e s = subst (λ (k : ℕ). Setting f n 0 old (i + 1) (set new k x)) (zero-add i) (setting-more f n 0 old i x new l e s)
 
 abbrev Inv-loop : tie.InvT-loop
-Inv-loop sums₀ first from places i₀ sums i =
-    Setting (raised sums₀ first from) places 0 sums₀ i sums × ((j : ℕ) → j < i → getD first (from + j) 0 - 1 ≤ most-word)
+Inv-loop sums₀ first from i₀ sums i =
+    Setting (raised sums₀ first from) most-blocks 0 sums₀ i sums × ((j : ℕ) → j < i → getD first (from + j) 0 - 1 ≤ most-word)
 
 abbrev μ-loop : tie.MeasureT-loop
-μ-loop sums₀ first from places i₀ sums i = places - i
+μ-loop sums₀ first from i₀ sums i = most-blocks - i
 
 loop-holds : tie.Need-loop-holds Inv-loop μ-loop
 loop-holds c = (setting-start _ _ _ _, λ j h. absurd (none-below j h))
@@ -56,7 +57,7 @@ cast-sums c = search needs
 add-sums : tie.Need-add-sums Inv-loop μ-loop
 add-sums c =
     let t = c .before .before .before in let l = t .before .loop in
-    omega (arith, old-at (l .i) (l .inv .0), t .before .before .pre .1 .low (l .i) (t .loop-test .taken))
+    omega (arith, old-at (l .i) (l .inv .0), t .before .before .pre .2 .low (l .i) (t .loop-test .taken))
 
 mul-sums-2 : tie.Need-mul-sums-2 Inv-loop μ-loop
 mul-sums-2 c = search needs

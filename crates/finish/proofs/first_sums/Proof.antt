@@ -1,112 +1,96 @@
--- `finish::first_sums` meets its contract. The loop's invariant: in each place stands the sum over the first i rows, not reduced.
+-- `finish::first_sums` meets its contract. The loop's invariant: in the places below `at` stands the sum over all rows, not reduced.
 -- The measure is how many are left. Assumes nothing.
 use mathlib.Core.Path.{_≡_, sym, ap, _∙_}
-use mathlib.Core.List.{map}
+use mathlib.Core.List.{List, map}
 use Prim.Native.Nat.{ℕ, _+_, _-_, _%_, _≤_, _<_}
 use native.Mathlib.Nat.{zero-add}
+use native.Mathlib.Decide.{decLt}
 use native.Mathlib.Omega.{arith}
 use lib.ListN.{length, getD, length-replicate}
-use lib.Seq.{length-sets}
+use lib.Seq.{sets, length-sets}
 use borrow.Author.Needs.{needs}
-use Rattle.scheme.specs.Limits.{most-users, most-places}
+use Rattle.scheme.specs.Limits.{most-users, most-blocks, most-places}
 use Rattle.scheme.specs.Lists.{span}
-use Rattle.scheme.specs.Scheme.{q}
-use Rattle.scheme.specs.Weighed.{Unreduced}
-use Rattle.scheme.proofs.Lists.{zeros-at}
-use Rattle.scheme.proofs.Modular.{sixteen-sums}
-use Rattle.scheme.proofs.Weighed.{unreduced-start, unreduced-more}
-use Rattle.scheme.proofs.Making.Rows.{row-at}
-use Rattle.element.specs.Word.{most-word}
-use Rattle.service.specs.View.{held-in}
-use Rattle.service.proofs.View.{held-at}
-use Rattle.finish.specs.Parts.{raised, first-sum}
+use Rattle.scheme.specs.Scheme.{q, modular}
+use Rattle.scheme.proofs.Tests.{none-below}
+use Rattle.scheme.proofs.Making.Rows.{row-at, row-other}
+use Rattle.finish.specs.Parts.{most-sum, At-most, first-sum, First-sums}
 use Rattle.finish.proofs.first_sums.Statement.{statement}
 use Rattle.finish.proofs.first_sums.Tie as tie
 
+-- the sums of a run behind those of the places below it
+run-more : (first rows old run new : List ℕ) (n at : ℕ) → First-sums q first rows n 0 at old → First-sums q first rows n at most-blocks run
+    → at + most-blocks ≤ length old → new ≡ sets old at (map (λ i. getD run i 0) (span most-blocks 0)) → First-sums q first rows n 0 (at + most-blocks) new
+run-more first rows old run new n at s r l e = record {
+  small = record {
+    low = λ i h. elim (decLt i at) [
+      | yes k ↦ omega (arith, before i k, s .small .low i k)
+      | no k ↦ omega (arith, here i (omega arith) h, r .small .low (i - at) (omega arith))
+    ];
+  };
+  right = λ i h. elim (decLt i at) [
+    | yes k ↦ ap (λ (x : ℕ). x % q) (before i k) ∙ s .right i k
+    | no k ↦ (let d : at + (i - at) ≡ 0 + i = omega arith in
+        ap (λ (x : ℕ). x % q) (here i (omega arith) h) ∙ r .right (i - at) (omega arith) ∙ ap (first-sum (modular q) first rows n) d)
+  ];
+}
+  where
+    before : (i : ℕ) → i < at → getD new i 0 ≡ getD old i 0
+    before i k = row-other old at (λ j. getD run j 0) most-blocks e i (λ b m d. omega arith)
+
+    here : (i : ℕ) → at ≤ i → i < at + most-blocks → getD new i 0 ≡ getD run (i - at) 0
+    here i k h = row-at old at (λ j. getD run j 0) most-blocks e (i - at) i (omega arith) (omega arith) l
+
 abbrev Inv-loop : tie.InvT-loop
-Inv-loop first rows count places sums₀ i₀ sums i =
-    (i ≤ count) × (length sums ≡ most-places)
-    × ((p : ℕ) → p < places → Unreduced q most-word (λ a. held-in most-places first (getD rows a 0) p) 0 i (getD sums p 0))
+Inv-loop first rows count places sums₀ at₀ sums at =
+    (at % most-blocks ≡ 0) × (at ≤ most-places) × (length sums ≡ most-places) × First-sums q first rows count 0 at sums
 
 abbrev μ-loop : tie.MeasureT-loop
-μ-loop first rows count places sums₀ i₀ sums i = count - i
+μ-loop first rows count places sums₀ at₀ sums at = places - at
 
-abbrev start : tie.In-loop Inv-loop μ-loop → tie.Start Inv-loop μ-loop
-start c = c .before .before .before
-
--- the row's user
-user : (c : tie.In-loop Inv-loop μ-loop) → let k = getD (start c .args .rows .now) (c .before .loop .i) 0 in (1 ≤ k) × (k ≤ most-users)
-user c = start c .pre .2 .inside _ (c .loop-test .taken)
+-- a run has room
+room : (c : tie.In-loop Inv-loop μ-loop) → c .before .loop .at + most-blocks ≤ most-places
+room c = let l = c .before .loop in omega (arith, l .inv .0, c .loop-test .taken, c .before .before .before .pre .1)
 
 no-sums-requires : tie.Need-no-sums-requires Inv-loop μ-loop
 no-sums-requires c κs = search needs
 
 loop-holds : tie.Need-loop-holds Inv-loop μ-loop
-loop-holds c =
-    let z = c .no-sums .ensures in
-    (omega arith, rw z (length-replicate {A = ℕ} most-places 0), λ p h. rw (z, zeros-at most-places p) (unreduced-start _ _ _ _))
+loop-holds c = (
+  omega arith,
+  omega arith,
+  rw (c .no-sums .ensures) (length-replicate {A = ℕ} most-places 0),
+  record { small = record { low = λ i h. absurd (none-below i h) }; right = λ i h. absurd (none-below i h) },
+)
 
-mul-row-start : tie.Need-mul-row-start Inv-loop μ-loop
-mul-row-start c = search needs
+run-sums-requires : tie.Need-run-sums-requires Inv-loop μ-loop
+run-sums-requires c κs = let p = c .before .before .before .pre in (p .0, room c, p .2)
 
-element-copy-out-row-start : tie.Need-element-copy-out-row-start Inv-loop μ-loop
-element-copy-out-row-start c = search needs
+put-run-requires : tie.Need-put-run-requires Inv-loop μ-loop
+put-run-requires c κs = let t = c .before .before .before in (room t, t .before .loop .inv .2)
 
-row-start-requires : tie.Need-row-start-requires Inv-loop μ-loop
-row-start-requires c κs = (user (c .before) .0, omega arith)
-
-add-first-requires : tie.Need-add-first-requires Inv-loop μ-loop
-add-first-requires c κs =
-    let t = c .before .before .before in let l = t .before .loop in let s = start t .pre in
-    let k = user t in (
-      (s .1, omega (arith, k .0, k .1, s .1, c .before .row-start .ensures), l .inv .1),
-      record { low = λ p m. omega (arith, l .inv .2 p m .small, t .loop-test .taken, s .0) },
-    )
-
-add-i : tie.Need-add-i Inv-loop μ-loop
-add-i c = search needs
+add-at : tie.Need-add-at Inv-loop μ-loop
+add-at c = omega (arith, room (c .before .before .before .before))
 
 loop-less : tie.Need-loop-less Inv-loop μ-loop
 loop-less c = search needs
 
 loop-again : tie.Need-loop-again Inv-loop μ-loop
 loop-again c =
-    let t = c .before .before .before .before in let l = t .before .loop in let k = user t in let y = start t .args .first .now in
-    let n = start t .args .places in
-    let f : ℕ → ℕ = raised (l .sums) y (c .before .before .row-start .result) in
-    let d = c .add-first .ensures .0 in (
-      omega arith,
-      ap length d ∙ length-sets (l .sums) 0 (map f (span n 0)) ∙ l .inv .1,
-      λ p h.
-          let held = held-at most-places y _ p (k .0) (k .1) (omega (arith, start t .pre)) in
-          let new = ap (λ (f : ℕ). getD y (f + p) 0 - 1) (c .before .before .row-start .ensures) ∙ sym held in
-          rw (row-at (l .sums) 0 f n d p p (sym (zero-add p)) h (omega (arith, start t .pre .1, l .inv .1)))
-          (unreduced-more sixteen-sums (l .i) _ _ (l .inv .2 p h) (ap (λ (x : ℕ). x % q) new) (c .add-first .ensures .1 p h)),
+    let r = c .before .before .before in
+    let l = r .before .before .loop in
+    let e = c .put-run .ensures in (
+      omega (arith, l .inv .0),
+      room (r .before),
+      ap length e ∙ length-sets (l .sums) (l .at) (map (λ i. getD (r .run-sums .result) i 0) (span most-blocks 0)) ∙ l .inv .2,
+      run-more _ _ (l .sums) (r .run-sums .result) _ _ (l .at) (l .inv .3) (r .run-sums .ensures) (omega (arith, room (r .before), l .inv .2)) e,
     )
 
 returns : tie.Need-returns Inv-loop μ-loop
-unfolding first-sum
 returns c =
-    let l = c .before .loop in
-    let e : l .i ≡ c .before .before .before .args .count = omega (arith, l .inv .0, c .loop-test .left) in
-    record {
-      small = record { low = λ i h. omega (arith, l .inv .2 i h .small, l .inv .0, c .before .before .before .pre .0) };
-      right = λ i h. rw (← e) (l .inv .2 i h .right);
-    }
+    let s = c .before .loop .inv .3 in
+    let h : c .before .before .before .args .places ≤ c .before .loop .at = c .loop-test .left in
+    record { small = record { low = λ i l. s .small .low i (omega arith) }; right = λ i l. s .right i (omega arith) }
 
 pub first-sums-spec : {M : Type 1} → statement M
-first-sums-spec =
-    tie.close
-    (tie.spec
-    Inv-loop
-    μ-loop
-    no-sums-requires
-    loop-holds
-    mul-row-start
-    element-copy-out-row-start
-    row-start-requires
-    add-first-requires
-    add-i
-    loop-less
-    loop-again
-    returns)
+first-sums-spec = tie.close (tie.spec Inv-loop μ-loop no-sums-requires loop-holds run-sums-requires put-run-requires add-at loop-less loop-again returns)

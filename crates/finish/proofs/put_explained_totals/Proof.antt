@@ -31,7 +31,7 @@ a-plan : (c : tie.After-users-of) → Good (plan-of (started (explained c) .args
 a-plan c = started (explained c) .pre .0
 
 sums-right : (c : tie.After-first-sums) → let u = listed (c .before) in let a = started (explained u) .args in
-    First-sums q (a .first .now) (u .users-of .result .list) (u .users-of .result .count) (places (plan-of (a .plan))) (c .first-sums .result)
+    First-sums q (a .first .now) (u .users-of .result .list) (u .users-of .result .count) 0 (places (plan-of (a .plan))) (c .first-sums .result)
 sums-right c = rw (← c .before .places-of .ensures .0) (c .first-sums .ensures)
 
 -- ---- the needs
