@@ -8,7 +8,7 @@ use mathlib.Core.Path.{_≡_, sym, ap, ap₂, _∙_}
 use mathlib.Core.Logic.{_≢_}
 use mathlib.Core.Bool.{Bool, cond}
 use mathlib.Core.List.{List}
-use Prim.Native.Nat.{ℕ, suc, _+_, _*_, _%_, _≤_, _<_, _/_}
+use Prim.Native.Nat.{ℕ, _+_, _*_, _%_, _≤_, _<_, _/_}
 use native.Mathlib.Nat.{suc-mul, mul-zero, mul-le-mul-right, lt-of-mul-lt-mul-left, div-lt-iff-lt-mul, mod-lt, mod-add-mod, mod-add-div', zero-add}
 use native.Mathlib.Numerals.{add-one}
 use native.Mathlib.Decide.{decLt, ℕ-discrete}
@@ -36,7 +36,8 @@ filled-set size n f g at few h e =
     let long : length old ≡ size = filled-length size f n few in
     ext-getD 0 _ _ (length-set old at (g at) ∙ long ∙ sym (filled-length size g n few)) (λ i l.
     elim (ℕ-discrete i at) [
-      | yes d ↦ ap (λ (k : ℕ). getD (set old at (g at)) k 0) d ∙ getD-set-same old at (g at) 0 (omega (arith, long)) ∙ sym (ap (λ (k : ℕ). getD (filled size n g) k 0) d ∙ filled-at size g n at h)
+      | yes d ↦ ap (λ (k : ℕ). getD (set old at (g at)) k 0) d ∙ getD-set-same old at (g at) 0 (omega (arith, long))
+          ∙ sym (ap (λ (k : ℕ). getD (filled size n g) k 0) d ∙ filled-at size g n at h)
       | no d ↦ getD-set-other old at i (g at) 0 d ∙ elim (decLt i n) [
         | yes k ↦ filled-at size f n i k ∙ e i k d ∙ sym (filled-at size g n i k)
         | no k ↦ filled-behind size f n i (omega arith) ∙ sym (filled-behind size g n i (omega arith))

@@ -314,7 +314,8 @@ fn put_item_totals(
     blocks: usize,
     out: &mut [u16; MOST_PLACES],
 )
-    requires { ⌜ (item < items) × (items ≤ most-items) × (blocks ≤ most-blocks) × (blocks * items ≤ most-places) × At-most most-sum (blocks * items) (now sums) ⌝ }
+    requires { ⌜ (item < items) × (items ≤ most-items) × (blocks ≤ most-blocks) × (blocks * items ≤ most-places)
+        × At-most most-sum (blocks * items) (now sums) ⌝ }
     requires { ⌜ now out ≡ some-totals sixteen (now sums) (now unknowns) items blocks (item * blocks) ⌝ }
     ensures { λ r. ⌜ now (out .exit) ≡ some-totals sixteen (now (sums .entry)) (now (unknowns .entry)) items blocks (item * blocks + blocks) ⌝ }
 {

@@ -1,20 +1,19 @@
 -- `finish::first_sums` meets its contract. The loop's invariant: in the places below `at` stands the sum over all rows, not reduced.
 -- The measure is how many are left. Assumes nothing.
-use mathlib.Core.Path.{_≡_, sym, ap, _∙_}
+use mathlib.Core.Path.{_≡_, ap, _∙_}
 use mathlib.Core.List.{List, map}
 use Prim.Native.Nat.{ℕ, _+_, _-_, _%_, _≤_, _<_}
-use native.Mathlib.Nat.{zero-add}
 use native.Mathlib.Decide.{decLt}
 use native.Mathlib.Omega.{arith}
 use lib.ListN.{length, getD, length-replicate}
 use lib.Seq.{sets, length-sets}
 use borrow.Author.Needs.{needs}
-use Rattle.scheme.specs.Limits.{most-users, most-blocks, most-places}
+use Rattle.scheme.specs.Limits.{most-blocks, most-places}
 use Rattle.scheme.specs.Lists.{span}
 use Rattle.scheme.specs.Scheme.{q, modular}
 use Rattle.scheme.proofs.Tests.{none-below}
 use Rattle.scheme.proofs.Making.Rows.{row-at, row-other}
-use Rattle.finish.specs.Parts.{most-sum, At-most, first-sum, First-sums}
+use Rattle.finish.specs.Parts.{first-sum, First-sums}
 use Rattle.finish.proofs.first_sums.Statement.{statement}
 use Rattle.finish.proofs.first_sums.Tie as tie
 

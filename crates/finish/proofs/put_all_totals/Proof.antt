@@ -1,10 +1,9 @@
 -- `finish::put_all_totals` meets its contract. The loop's invariant: the totals of the first items are written.
 -- The measure is how many are left. Assumes nothing.
 use mathlib.Core.Path.{_≡_, sym, ap, _∙_}
-use Prim.Native.Nat.{ℕ, _+_, _*_, _-_, _≤_}
+use Prim.Native.Nat.{ℕ, _*_, _-_}
 use native.Mathlib.Nat.{zero-mul, suc-mul}
 use native.Mathlib.Numerals.{add-one}
-use native.Mathlib.Omega.{arith}
 use borrow.Author.Needs.{needs}
 use Rattle.scheme.specs.Scheme.{sixteen}
 use Rattle.finish.specs.Parts.{some-totals}
@@ -19,8 +18,10 @@ abbrev μ-loop : tie.MeasureT-loop
 μ-loop sums unknowns items blocks out₀ item₀ out item = items - item
 
 loop-holds : tie.Need-loop-holds Inv-loop μ-loop
-loop-holds c = let a = c .args in
-    c .pre .1 ∙ some-start sixteen (a .sums .now) (a .unknowns .now) (a .items) (a .blocks) (c .pre .0 .2) ∙ ap (some-totals sixteen (a .sums .now) (a .unknowns .now) (a .items) (a .blocks)) (sym (zero-mul (a .blocks)))
+loop-holds c =
+    let a = c .args in
+    c .pre .1 ∙ some-start sixteen (a .sums .now) (a .unknowns .now) (a .items) (a .blocks) (c .pre .0 .2)
+    ∙ ap (some-totals sixteen (a .sums .now) (a .unknowns .now) (a .items) (a .blocks)) (sym (zero-mul (a .blocks)))
 
 put-item-totals-requires : tie.Need-put-item-totals-requires Inv-loop μ-loop
 put-item-totals-requires c κs =
@@ -38,8 +39,8 @@ loop-again c =
     let t = c .before .before in
     let i = t .before .loop .item in
     let a = t .before .before .args in
-    c .put-item-totals .ensures
-    ∙ ap (some-totals sixteen (a .sums .now) (a .unknowns .now) (a .items) (a .blocks)) (sym (ap (λ (n : ℕ). n * a .blocks) (add-one i) ∙ suc-mul i (a .blocks)))
+    let e = sym (ap (λ (n : ℕ). n * a .blocks) (add-one i) ∙ suc-mul i (a .blocks)) in
+    c .put-item-totals .ensures ∙ ap (some-totals sixteen (a .sums .now) (a .unknowns .now) (a .items) (a .blocks)) e
 
 returns : tie.Need-returns Inv-loop μ-loop
 returns c = c .before .loop .inv ∙ some-end sixteen _ _ _ _ (c .before .before .pre .0 .2) _ (c .loop-test .left)

@@ -1,7 +1,6 @@
 -- `finish::put_item_totals` meets its contract. The loop's invariant: the totals of b blocks are written.
 -- The measure is how many are left. Assumes nothing.
-use mathlib.Core.Path.{_≡_}
-use Prim.Native.Nat.{_+_, _*_, _-_, _<_}
+use Prim.Native.Nat.{_*_, _-_, _<_}
 use native.Mathlib.Omega.{arith}
 use borrow.Author.Needs.{needs}
 use Rattle.scheme.specs.Scheme.{sixteen}

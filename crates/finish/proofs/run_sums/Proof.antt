@@ -85,7 +85,8 @@ loop-again c =
       ap length d ∙ length-sets (l .sums) 0 (map f (span most-blocks 0)) ∙ l .inv .1,
       λ p h.
           let held = held-at most-places y _ (at + p) (k .0) (k .1) (omega (arith, start t .pre)) in
-          let new = ap (λ (f : ℕ). getD y (f + at + p) 0 - 1) (c .before .before .row-start .ensures) ∙ ap (λ (i : ℕ). getD y i 0 - 1) (add-assoc _ at p) ∙ sym held in
+          let new = ap (λ (f : ℕ). getD y (f + at + p) 0 - 1) (c .before .before .row-start .ensures)
+          ∙ ap (λ (i : ℕ). getD y i 0 - 1) (add-assoc _ at p) ∙ sym held in
           rw (row-at (l .sums) 0 f most-blocks d p p (sym (zero-add p)) h (omega (arith, l .inv .1)))
           (unreduced-more sixteen-sums (l .i) _ _ (l .inv .2 p h) (ap (λ (x : ℕ). x % q) new) (c .add-first .ensures .1 p h)),
     )

@@ -1,6 +1,6 @@
 -- `solve::dots` meets its contract. The loop's invariant: i rows are added. The measure is how many are left. Assumes nothing.
 use mathlib.Core.Path.{ap, _∙_}
-use mathlib.Core.List.{List, map}
+use mathlib.Core.List.{List}
 use Prim.Native.Nat.{ℕ, _+_, _-_, _<_}
 use native.Mathlib.Omega.{arith}
 use lib.ListN.{length, getD}
@@ -75,7 +75,8 @@ loop-again c =
     let l = t .before .loop in
     let n = t .before .before in
     let s = n .before in
-    let e = ap (λ (r : List ℕ). getD r (s .args .x + getD (s .args .points .now) (l .i) 0) 0) (n .inverses .ensures) ∙ map-below-at (inverse q) points _ (sum-low t) in
+    let e = ap (λ (r : List ℕ). getD r (s .args .x + getD (s .args .points .now) (l .i) 0) 0) (n .inverses .ensures)
+    ∙ map-below-at (inverse q) points _ (sum-low t) in
     dotting-more sixteen _ _ _ _ laws16 (l .i) _ _ (l .inv) _ _ (s .pre .0) (t .loop-test .taken) e (c .add-row .ensures)
 
 returns : tie.Need-returns Inv-loop μ-loop
