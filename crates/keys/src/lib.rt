@@ -133,7 +133,8 @@ fn write_sets(plan: Plan, user: u32, list: &[u16], out: &mut [u16], row: usize)
     ensures { λ r. ⌜ now (out .exit)
         ≡ sets (now (out .entry)) row (rows (shares sixteen (plan-of plan) (now (list .entry)) user) (sets-with (plan-of plan) user)) ⌝ }
 {
-    let products = mask_products(plan, user, list, row);
+    let mut products = no_products();
+    mask_products(plan, user, list, row, &mut products);
     let mut low = no_sums();
     let mut high = no_sums();
     fill_tables(plan, &products, &mut low, &mut high);
@@ -275,35 +276,24 @@ fn fill_table(products: &[u16; CELLS], first: usize, sets: u32, sums: &mut [u16;
 }
 
 // For each user a row of BLOCKS numbers: "columns 1 to U − T times" that user's masks, block by block.
-fn mask_products(plan: Plan, user: u32, list: &[u16], row: usize) -> [u16; CELLS]
+fn mask_products(plan: Plan, user: u32, list: &[u16], row: usize, products: &mut [u16; CELLS])
     requires { ⌜ Key-input (plan-of plan) user (now list) ⌝ }
-    requires { ⌜ (row ≡ places (plan-of plan)) × (row ≤ most-places) ⌝ }
-    ensures { λ r. ⌜ Products sixteen (plan-of plan) user (now (list .entry)) (plan .users) r ⌝ }
+    requires { ⌜ (row ≡ places (plan-of plan)) × (row ≤ most-places) × (now products ≡ replicate cells 0) ⌝ }
+    ensures { λ r. ⌜ Products sixteen (plan-of plan) user (now (list .entry)) (plan .users) (now (products .exit)) ⌝ }
 {
     let items = plan.threshold - plan.collusion;
     let factors = coefficients(user, 1, items);
     let scale = scale_of(factors[0]);
     let blocks = plan.blocks as usize;
-    let mut products = no_products();
     let mut from = 0;
     let mut at = 0;
     let mut k: u32 = 0;
     while k < plan.users {
-        write_products(
-            &factors,
-            scale,
-            items,
-            list,
-            from,
-            &mut products,
-            at,
-            blocks,
-        );
+        write_products(&factors, scale, items, list, from, products, at, blocks);
         from += row;
         at += BLOCKS;
         k += 1;
     }
-    products
 }
 
 // The factors times the masks of one user, n a block, which lie from `start` on.

@@ -16,14 +16,14 @@ use Rattle.keys.proofs.mask_products.Statement.{statement}
 use Rattle.keys.proofs.mask_products.Tie as tie
 
 abbrev Inv-loop : tie.InvT-loop
-Inv-loop plan user list row items factors scale blocks products₀ from₀ at₀ k₀ products from at k =
+Inv-loop plan user list row products₀ items factors scale blocks from₀ at₀ k₀ products from at k =
     (k ≤ plan .users) × (from ≡ k * row) × (at ≡ k * most-blocks) × Products sixteen (plan-of plan) user list k products
 
 abbrev μ-loop : tie.MeasureT-loop
-μ-loop plan user list row items factors scale blocks products₀ from₀ at₀ k₀ products from at k = plan .users - k
+μ-loop plan user list row products₀ items factors scale blocks from₀ at₀ k₀ products from at k = plan .users - k
 
 abbrev weighing : tie.At-loop Inv-loop μ-loop → tie.After-coefficients Inv-loop μ-loop
-weighing c = c .before .before .before .before
+weighing c = c .before .before .before
 
 abbrev begun : tie.At-loop Inv-loop μ-loop → tie.Start Inv-loop μ-loop
 begun c = weighing c .before .before .before
@@ -43,11 +43,8 @@ scale-of-requires c κs = search needs
 cast-blocks : tie.Need-cast-blocks Inv-loop μ-loop
 cast-blocks c = search needs
 
-no-products-requires : tie.Need-no-products-requires Inv-loop μ-loop
-no-products-requires c κs = search needs
-
 loop-holds : tie.Need-loop-holds Inv-loop μ-loop
-loop-holds c = (search needs, sym (zero-mul _), refl, rw (c .no-products .ensures) (products-start sixteen-sums _ _ _))
+loop-holds c = (search needs, sym (zero-mul _), refl, rw (c .before .before .before .before .before .pre .1 .2) (products-start sixteen-sums _ _ _))
 
 -- in a turn: the user's masks lie in the list
 inside : (c : tie.Then1 Inv-loop μ-loop) → let l = c .before .before in let a = begun l .args in l .loop .from + a .row ≤ length (a .list .now)
@@ -59,9 +56,6 @@ inside c =
     let k = row-in (i .k) (a .plan .users) (a .row) (c .if1 .taken) in
     omega (arith, i .inv .1, k, rows-in (plan-of (a .plan)), ap (λ (x : ℕ). a .plan .users * x) (s .pre .1 .0), s .pre .0 .long)
 
-slice-aggregate-write-products : tie.Need-slice-aggregate-write-products Inv-loop μ-loop
-slice-aggregate-write-products c = search needs
-
 write-products-requires : tie.Need-write-products-requires Inv-loop μ-loop
 unfolding items places
 write-products-requires c κs =
@@ -70,12 +64,12 @@ write-products-requires c κs =
     let i = l .loop in
     let s = begun l in (
       (omega arith, omega arith, omega (arith, inside t, s .pre .1 .0), omega (arith, i .inv .2, i .inv .3 .long, t .if1 .taken)),
-      l .before .before .before .scale-of .ensures,
+      l .before .before .scale-of .ensures,
     )
 
 -- the place in a turn that a call has left
-abbrev turn : tie.After-products2 Inv-loop μ-loop → tie.Then1 Inv-loop μ-loop
-turn c = let w = c .before .before in w .before .before
+abbrev turn : tie.After-write-products Inv-loop μ-loop → tie.Then1 Inv-loop μ-loop
+turn c = c .before .before .before
 
 add-from : tie.Need-add-from Inv-loop μ-loop
 add-from c = omega (arith, inside (turn c), begun (turn c .before .before) .good)
@@ -100,7 +94,7 @@ loop-again c =
       omega (arith, t .if1 .taken),
       ap (λ (n : ℕ). n + s .args .row) (i .inv .1) ∙ row-next (i .k) (s .args .row),
       omega (arith, i .inv .2),
-      rw (c .before .write-products .ensures)
+      rw (c .write-products .ensures)
           (products-more sixteen-sums (i .inv .3) (weighing l .coefficients .ensures) few (omega (arith, t .if1 .taken)) _ _
           (i .inv .1 ∙ ap (λ (n : ℕ). i .k * n) (s .pre .1 .0)) (i .inv .2)),
     )
@@ -123,9 +117,7 @@ mask-products-spec =
     array-read-scale-of
     scale-of-requires
     cast-blocks
-    no-products-requires
     loop-holds
-    slice-aggregate-write-products
     write-products-requires
     add-from
     add-at

@@ -34,7 +34,7 @@ abbrev making : tie.After-fill-tables Inv-loop μ-loop → tie.After-mask-produc
 making c = c .before .before .before .before .before .before
 
 abbrev first : tie.After-fill-tables Inv-loop μ-loop → tie.Start Inv-loop μ-loop
-first c = making c .before .before .before
+first c = making c .before .before .before .before .before
 
 abbrev filled : tie.After-scale-of Inv-loop μ-loop → tie.After-fill-tables Inv-loop μ-loop
 filled c = c .before .before .before
@@ -59,10 +59,13 @@ fill-tables-requires : tie.Need-fill-tables-requires Inv-loop μ-loop
 fill-tables-requires c κs =
     let z = c .before .before .before in
     let m = z .before .before in
-    ((m .before .before .before .pre .0 .good, z .before .no-sums .ensures, z .no-sums2 .ensures), m .mask-products .ensures .small)
+    ((m .before .before .before .before .before .pre .0 .good, z .before .no-sums .ensures, z .no-sums2 .ensures), m .mask-products .ensures .small)
 
 scale-of-requires : tie.Need-scale-of-requires Inv-loop μ-loop
 scale-of-requires c κs = search needs
+
+no-products-requires : tie.Need-no-products-requires Inv-loop μ-loop
+no-products-requires c κs = search needs
 
 mask-products-requires : tie.Need-mask-products-requires Inv-loop μ-loop
 mask-products-requires c κs = search needs
@@ -198,7 +201,7 @@ loop-again c =
     let g = i .inv .1 in
     let u = sym (c .before .is-large .ensures) in
     let r = sums-end p (f .result) (now (s .args .list)) (i .v) (i .noise) (s .pre .0 .good .blocks-high) (t .fill-tables .ensures) (below n)
-    ∙ shares-right sixteen-sums p (now (s .args .list)) (s .args .user) (m .result) (f .result) (m .ensures) (omega arith) (f .ensures) (i .v) (i .noise)
+    ∙ shares-right sixteen-sums p (now (s .args .list)) (s .args .user) _ (f .result) (m .ensures) (omega arith) (f .ensures) (i .v) (i .noise)
     (g .noise-is) in (
       omega (arith, i .inv .0, c .before .before .loop-test .taken),
       ⊎-elim (λ w. rw (w .10, w .7 .ensures, r, w .11, w .12) (written-more-in g (u ∙ w .0 .taken) (sym (w .1 .ensures) ∙ w .2 .taken)))
@@ -221,6 +224,7 @@ write-sets-spec =
     (tie.spec
     Inv-loop
     μ-loop
+    no-products-requires
     mask-products-requires
     no-sums-requires
     no-sums-requires-2

@@ -81,7 +81,8 @@ returns-2 c =
     ∙ ap (λ (r : List ℕ). sets (now (a .out)) (a .at)
     (block-values sixteen r (now (a .factors)) (a .plan .collusion) (now (a .list)) (a .noise) (a .plan .blocks))) (r .add-rows .ensures)
     ∙ ap (sets (now (a .out)) (a .at))
-    (added-values sixteen (now (a .low)) _ (now (a .high)) _ (now (a .factors)) (a .plan .collusion) (now (a .list)) (a .noise) (a .plan .blocks) (s .pre .0 .1))
+    (added-values sixteen (now (a .low)) _ (now (a .high)) _ (now (a .factors)) (a .plan .collusion) (now (a .list)) (a .noise) (a .plan .blocks)
+    (s .pre .0 .1))
 
 pub write-shares-spec : {M : Type 1} → statement M
 write-shares-spec =
