@@ -1,20 +1,20 @@
 -- `finish::solve_rows` meets its contract: the rows and the columns are good points, and the rest is the solver's. Where there are further
 -- rows all unknowns are solved for; where there are none, none is compared. Assumes nothing.
-use mathlib.Core.Path.{_≡_, sym, ap, ap₂, _∙_, subst}
+use mathlib.Core.Path.{_≡_, sym, ap, _∙_, subst}
 use mathlib.Core.Bool.{Bool}
 use mathlib.Core.List.{List}
 use Prim.Native.Nat.{ℕ, _+_, _≤_, _<_}
 use native.Mathlib.Decide.{decLt}
 use native.Mathlib.Omega.{arith}
 use borrow.Author.Needs.{needs}
-use Rattle.scheme.specs.Limits.{most-users, most-threshold, most-blocks}
+use Rattle.scheme.specs.Limits.{most-threshold}
 use Rattle.scheme.specs.Scheme.{sixteen, items}
 use Rattle.scheme.specs.Solve.{Points, Square, cell, block, unknown-at, unknowns-of, row-fits, First-misfit}
 use Rattle.scheme.proofs.Solving.Closed.{points-some, unknowns-at}
 use Rattle.plan.specs.Plan.{plan-of}
 use Rattle.solve.specs.Solve.{laws16}
 use Rattle.finish.specs.Finish.{columns}
-use Rattle.finish.specs.Parts.{Needed, solution-fits}
+use Rattle.finish.specs.Parts.{solution-fits}
 use Rattle.finish.proofs.Blocks.{columns-points}
 use Rattle.finish.proofs.solve_rows.Statement.{statement}
 use Rattle.finish.proofs.solve_rows.Tie as tie

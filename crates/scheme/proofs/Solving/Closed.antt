@@ -24,7 +24,7 @@ use Rattle.algebra.proofs.Field.{expand, one-mul}
 use Rattle.algebra.proofs.Sums.{sum-same as field-sum-same}
 use Rattle.algebra.proofs.Cauchy.{solves}
 use Rattle.scheme.specs.Limits.{most-users, most-threshold, most-blocks, points}
-use Rattle.scheme.specs.Lists.{span, all-of, filled}
+use Rattle.scheme.specs.Lists.{span, all-of}
 use Rattle.scheme.specs.Scheme.{Arithmetic, elements, sum, row-value}
 use Rattle.scheme.specs.Laws.{Laws}
 use Rattle.scheme.specs.Weighed.{weighed-by}

@@ -2,14 +2,14 @@
 -- The measure is how many are left. Assumes nothing.
 use mathlib.Core.Path.{_≡_, ap, _∙_}
 use mathlib.Core.List.{List}
-use Prim.Native.Nat.{ℕ, _+_, _*_, _-_, _%_, _≤_, _<_}
+use Prim.Native.Nat.{ℕ, _+_, _-_, _<_}
 use native.Mathlib.Nat.{zero-add}
 use native.Mathlib.Omega.{arith}
 use lib.Dec.{lit<}
 use lib.ListN.{length, getD}
 use borrow.Author.Needs.{needs}
 use Rattle.algebra.proofs.Primes.{prime-65521}
-use Rattle.scheme.specs.Limits.{most-blocks, cells}
+use Rattle.scheme.specs.Limits.{most-blocks}
 use Rattle.scheme.specs.Scheme.{sixteen}
 use Rattle.scheme.specs.Solve.{value-of, block, weighed-values, unknown-at, unknowns-of}
 use Rattle.scheme.proofs.Lists.{map-span-length, map-below-at}

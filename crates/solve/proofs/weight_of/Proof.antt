@@ -1,6 +1,6 @@
 -- `solve::weight_of` meets its contract. The loop's invariant: the product so far times the weight over the positions that are left is the
 -- whole weight. The measure is how many are left. Assumes nothing.
-use mathlib.Core.Path.{_≡_, ap, ap₂, _∙_}
+use mathlib.Core.Path.{ap, ap₂, _∙_}
 use Prim.Native.Nat.{ℕ, _+_, _*_, _-_, _%_, _≤_, _<_}
 use native.Mathlib.Nat.{mul-one}
 use native.Mathlib.Omega.{arith}
