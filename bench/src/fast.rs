@@ -647,14 +647,7 @@ impl Service {
 
     /// The sums of the survivors' first messages, less the sums of their masks.
     fn totals(&self, sums: &[Blocks; MOST_USERS]) -> [u16; MOST_PLACES] {
-        let mut firsts = [0u32; MOST_PLACES];
-        for (k, row) in self.first.iter().enumerate() {
-            if self.survivors >> k & 1 == 1 {
-                for (first, &x) in firsts.iter_mut().zip(&row[..self.places as usize]) {
-                    *first += x as u32 - 1;
-                }
-            }
-        }
+        let firsts = self.first_sums();
         let mut totals = [0; MOST_PLACES];
         let items = self.plan.items();
         for (block, (totals, firsts)) in totals.chunks_exact_mut(items).zip(firsts.chunks_exact(items)).enumerate() {
@@ -666,6 +659,24 @@ impl Service {
             }
         }
         totals
+    }
+
+    /// By runs of places whose sums stay in registers.
+    fn first_sums(&self) -> [u32; MOST_PLACES] {
+        let mut firsts = [0; MOST_PLACES];
+        let runs = self.places.div_ceil(MOST_BLOCKS as u32) as usize;
+        for (run, out) in firsts.as_chunks_mut::<MOST_BLOCKS>().0.iter_mut().take(runs).enumerate() {
+            let mut sums = [0; MOST_BLOCKS];
+            for (k, row) in self.first.iter().enumerate() {
+                if self.survivors >> k & 1 == 1 {
+                    for (sum, &x) in sums.iter_mut().zip(&row.as_chunks::<MOST_BLOCKS>().0[run]) {
+                        *sum += x.saturating_sub(1) as u32;
+                    }
+                }
+            }
+            *out = sums;
+        }
+        firsts
     }
 }
 
