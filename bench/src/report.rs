@@ -154,7 +154,7 @@ impl Report {
         let ratios = self.ratios("", 1);
         let bars = 20 * ratios.len();
         let mut svg = Svg::new(760, bars + 350);
-        svg.text(10, 20, "start", "our time over that of Rust at its best: left of the line ours is faster");
+        svg.text(10, 20, "start", "our time over that of Rust at its best build");
         for (x, fill, text) in [(500.0, FASTER, "ours is faster"), (620.0, SLOWER, "ours is slower")] {
             svg.bar(x, 9, 14.0, fill);
             svg.text(x as u32 + 20, 20, "start", text);
