@@ -11,11 +11,10 @@ use mathlib.Core.List.{List}
 use Prim.Native.Nat.{ℕ, _+_, _*_, _%_, _≤_, _<_, _/_}
 use native.Mathlib.Nat.{suc-mul, mul-zero, mul-le-mul-right, lt-of-mul-lt-mul-left, div-lt-iff-lt-mul, mod-lt, mod-add-mod, mod-add-div', zero-add}
 use native.Mathlib.Numerals.{add-one}
-use native.Mathlib.Decide.{decLt, ℕ-discrete}
+use native.Mathlib.Decide.{decLt}
 use native.Mathlib.Omega.{arith}
 use lib.Dec.{ltb}
-use lib.ListN.{length, getD, set, replicate, length-set}
-use lib.Seq.{getD-set-same, getD-set-other, ext-getD}
+use lib.ListN.{length, getD, set, replicate}
 use borrow.Author.Tests.{lt-ltb, le-ltb}
 use Rattle.scheme.specs.Limits.{most-users, most-places}
 use Rattle.scheme.specs.Lists.{span, padded, filled}
@@ -23,26 +22,10 @@ use Rattle.scheme.specs.Scheme.{Arithmetic, modular, sum, Plan, items, places, 
 use Rattle.scheme.specs.Totals.{total-of, totals}
 use Rattle.scheme.specs.Solve.{cell}
 use Rattle.scheme.proofs.Lists.{span-in, map-same, map-below-same, high as quotient, low as rest, digits-lt}
-use Rattle.scheme.proofs.Padded.{filled-at, filled-behind, filled-length, filled-zeros, filling-start, sum-by-place}
+use Rattle.scheme.proofs.Padded.{filled-set, filled-zeros, filling-start, sum-by-place}
 use Rattle.service.specs.View.{held-in}
 use Rattle.finish.specs.Finish.{rows-of}
 use Rattle.finish.specs.Parts.{first-sum, First-sums, place-total, turn-of, some-totals}
-
--- one of n entries by another rule
-filled-set : (size n : ℕ) (f g : ℕ → ℕ) (at : ℕ) → n ≤ size → at < n → ((i : ℕ) → i < n → i ≢ at → f i ≡ g i)
-    → set (filled size n f) at (g at) ≡ filled size n g
-filled-set size n f g at few h e =
-    let old : List ℕ = filled size n f in
-    let long : length old ≡ size = filled-length size f n few in
-    ext-getD 0 _ _ (length-set old at (g at) ∙ long ∙ sym (filled-length size g n few)) (λ i l.
-    elim (ℕ-discrete i at) [
-      | yes d ↦ ap (λ (k : ℕ). getD (set old at (g at)) k 0) d ∙ getD-set-same old at (g at) 0 (omega (arith, long))
-          ∙ sym (ap (λ (k : ℕ). getD (filled size n g) k 0) d ∙ filled-at size g n at h)
-      | no d ↦ getD-set-other old at i (g at) 0 d ∙ elim (decLt i n) [
-        | yes k ↦ filled-at size f n i k ∙ e i k d ∙ sym (filled-at size g n i k)
-        | no k ↦ filled-behind size f n i (omega arith) ∙ sym (filled-behind size g n i (omega arith))
-      ]
-    ])
 
 -- a test that only t passes newly
 next-same : (x t : ℕ) → x ≢ t → ltb x t ≡ ltb x (t + 1)

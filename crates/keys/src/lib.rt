@@ -253,8 +253,8 @@ fn at_most_half(sets: u32) -> u32
     HALF_SETS
 }
 
-// A row for each of the first sets of HALF users behind the first ones: the row of the set without its last user, plus that user's products,
-// which lie from `with` on. The set of that user alone has the row from `top` on.
+// A row for each of so many sets of HALF users, who come behind the first `first` of all: the row of the set without its last user, plus that
+// user's products, which lie from `with` on. The set of that user alone has the row from `top` on.
 fn fill_table(products: &[u16; CELLS], first: usize, sets: u32, sums: &mut [u16; TABLE])
     requires { ⌜ (first + half ≤ most-users) × (1 ≤ sets) × (sets ≤ half-sets) × (now sums ≡ replicate table-cells 0) ⌝ }
     requires { ⌜ ((i : ℕ) → getD (now products) i 0 < q) ⌝ }

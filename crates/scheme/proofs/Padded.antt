@@ -2,20 +2,21 @@
 --   padded-at, padded-take, padded-length, padded-behind    an entry; the list again; the length; behind the list
 --   padded-more                                             one entry more
 --   filled-at, filled-take, filled-behind, filled-length    n entries by a rule: one of them; all of them; behind them; the length
---   filled-more, filled-sets, filled-zeros                  one more; several from another rule; several that are 0
+--   filled-more, filled-sets, filled-zeros, filled-set      one more; several from another rule; several that are 0; one by another rule
 --   Filling, filling-start, filling-more, filling-end       a loop that writes n entries in order
 --   Setting, setting-start, setting-more, setting-end       a loop that writes n numbers into a list, from a place on
 --   map-at, sum-by-place                                    a map over a list, and a sum, by the places of its padded form
 -- Assumes nothing.
 use mathlib.Core.Path.{_≡_, refl, sym, ap, ap₂, _∙_}
+use mathlib.Core.Logic.{_≢_}
 use mathlib.Core.List.{List, [], _∷_, _++_, map, map-append, append-assoc}
 use Prim.Native.Nat.{ℕ, zero, suc, _+_, _-_, _≤_, _<_}
 use native.Mathlib.Nat.{add-zero, zero-add}
 use native.Mathlib.Numerals.{add-one}
-use native.Mathlib.Decide.{decLt}
+use native.Mathlib.Decide.{decLt, ℕ-discrete}
 use native.Mathlib.Omega.{arith}
-use lib.ListN.{length, getD, take, set, replicate, length-append, length-replicate, List·getD-append}
-use lib.Seq.{sets, getD-append-add, set-append-seam, take-append-seam, ext-getD}
+use lib.ListN.{length, getD, take, set, replicate, length-set, length-append, length-replicate, List·getD-append}
+use lib.Seq.{sets, getD-set-same, getD-set-other, getD-append-add, set-append-seam, take-append-seam, ext-getD}
 use Rattle.scheme.specs.Lists.{span, padded, filled}
 use Rattle.scheme.specs.Scheme.{Arithmetic, sum}
 use Rattle.scheme.proofs.Lists.{span-append, span-in, map-span-length, map-below-at, sets-more, zeros-at}
@@ -98,6 +99,22 @@ module _ (size : ℕ) (f : ℕ → ℕ) where
         | no a ↦ filled-behind n i (omega arith)
             ∙ elim (decLt i m) [ yes b ↦ sym (filled-at m i b ∙ z i (omega arith) b) | no b ↦ sym (filled-behind m i (omega arith)) ]
       ])
+
+-- one of n entries by another rule
+pub filled-set : (size n : ℕ) (f g : ℕ → ℕ) (at : ℕ) → n ≤ size → at < n → ((i : ℕ) → i < n → i ≢ at → f i ≡ g i)
+    → set (filled size n f) at (g at) ≡ filled size n g
+filled-set size n f g at few h e =
+    let old : List ℕ = filled size n f in
+    let long : length old ≡ size = filled-length size f n few in
+    ext-getD 0 _ _ (length-set old at (g at) ∙ long ∙ sym (filled-length size g n few)) (λ i l.
+    elim (ℕ-discrete i at) [
+      | yes d ↦ ap (λ (k : ℕ). getD (set old at (g at)) k 0) d ∙ getD-set-same old at (g at) 0 (omega (arith, long))
+          ∙ sym (ap (λ (k : ℕ). getD (filled size n g) k 0) d ∙ filled-at size g n at h)
+      | no d ↦ getD-set-other old at i (g at) 0 d ∙ elim (decLt i n) [
+        | yes k ↦ filled-at size f n i k ∙ e i k d ∙ sym (filled-at size g n i k)
+        | no k ↦ filled-behind size f n i (omega arith) ∙ sym (filled-behind size g n i (omega arith))
+      ]
+    ])
 
 -- ---- i of n entries are written
 pub record Filling (size : ℕ) (f : ℕ → ℕ) (n i : ℕ) (out : List ℕ) : Type 0 where

@@ -13,10 +13,11 @@ use mathlib.Core.Path.{_≡_, refl, sym, ap, ap₂, _∙_}
 use mathlib.Core.Bool.{Bool, true, _&&_}
 use mathlib.Core.List.{List, []}
 use Prim.Native.Nat.{ℕ, zero, suc, _+_, _*_, _-_, _/_, _%_, _^_, _≤_, _<_}
-use native.Mathlib.Nat.{add-zero, add-suc, mul-comm, mul-assoc, mul-one, mod-lt, mod-eq-of-lt, mod-add-div', add-mul-mod-self-right, pow-zero, pow-suc, one-le-pow, zero-div, div-eq-of-lt, div-div-eq-div-mul, add-mul-div-right, div-one}
+use native.Mathlib.Nat.{mul-comm, mul-assoc, mod-lt, mod-eq-of-lt, mod-add-div', add-mul-mod-self-right, pow-suc, one-le-pow, zero-div, div-eq-of-lt, div-div-eq-div-mul, add-mul-div-right, div-one}
 use native.Mathlib.Omega.{arith}
 use lib.Dec.{ltb, eqb}
 use lib.ListN.{length, length-append}
+use lib.Pow.{pow-add}
 use borrow.Author.Tests.{ltb-true, leb-true}
 use Rattle.algebra.specs.Sums.{In}
 use Rattle.scheme.specs.Lists.{keep, members, rank}
@@ -37,12 +38,6 @@ unfolding users-in
 in-users p v k lo hi e = in-members (in-set v) (p .users) 1 k lo (omega arith) e
 
 -- ---- the low and the high part of a set
-pow-add : (n h k : ℕ) → n ^ (h + k) ≡ n ^ h * n ^ k
-pow-add n h zero = ap (λ (x : ℕ). n ^ x) (add-zero h) ∙ sym (mul-one (n ^ h)) ∙ ap (λ (x : ℕ). n ^ h * x) (sym (pow-zero n))
-pow-add n h (suc k) =
-    ap (λ (x : ℕ). n ^ x) (add-suc h k) ∙ pow-suc n (h + k) ∙ ap (λ (x : ℕ). x * n) (pow-add n h k) ∙ mul-assoc (n ^ h) (n ^ k) n
-    ∙ ap (λ (x : ℕ). n ^ h * x) (sym (pow-suc n k))
-
 -- bit j of the low part, below bit h
 low-bit : (v j d : ℕ) → v % 2 ^ (j + suc d) / 2 ^ j % 2 ≡ v / 2 ^ j % 2
 low-bit v j d =
