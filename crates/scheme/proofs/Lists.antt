@@ -88,7 +88,8 @@ map_below_at f n i h = map_span_at f n 0 i h ∙ ap f (zero-add i)
 
 -- ---- members
 keep_append : (b : Bool) (k : ℕ) (l m : List ℕ) → keep b k (l ++ m) ≡ keep b k l ++ m
-keep_append b k l m = elim b [ true ↦ refl | false ↦ refl ]
+keep_append true k l m = refl
+keep_append false k l m = refl
 
 pub members_append : (t : ℕ → Bool) (m n k : ℕ) → members t (m + n) k ≡ members t m k ++ members t n (k + m)
 members_append t zero n k = rw (zero-add, add-zero)
@@ -109,7 +110,8 @@ members_in t (suc n) k i h = ⊎_elim (λ e. (omega arith, omega arith, ap t e.0
     (λ m. let s = members_in t n (suc k) i m in (omega arith, omega arith, s.2)) (keep_in (t k) k i (members t n (suc k)) h)
 
 in_keep : (b : Bool) (k i : ℕ) (l : List ℕ) → In i l → In i (keep b k l)
-in_keep b k i l h = elim b [ true ↦ inr h | false ↦ h ]
+in_keep true k i l h = inr h
+in_keep false k i l h = h
 
 keep_first : (b : Bool) (k : ℕ) (l : List ℕ) → b ≡ true → In k (keep b k l)
 keep_first true k l e = inl refl
@@ -123,7 +125,8 @@ in_members t (suc n) k i lo hi e = elim (ℕ_discrete i k) [
 ]
 
 keep_once : (b : Bool) (k : ℕ) (l : List ℕ) → (In k l → ⊥) → Distinct l → Distinct (keep b k l)
-keep_once b k l h d = elim b [ true ↦ (h, d) | false ↦ d ]
+keep_once true k l h d = (h, d)
+keep_once false k l h d = d
 
 pub members_once : (t : ℕ → Bool) (n k : ℕ) → Distinct (members t n k)
 members_once t zero k = tt
@@ -144,7 +147,8 @@ unfolding rank
 rank_start t = refl
 
 keep_length : (b : Bool) (k : ℕ) (l : List ℕ) → length (keep b k l) ≡ cond b 1 0 + length l
-keep_length b k l = elim b [ true ↦ omega arith | false ↦ omega arith ]
+keep_length true k l = omega arith
+keep_length false k l = omega arith
 
 pub rank_more : (t : ℕ → Bool) (v : ℕ) → rank t (v + 1) ≡ rank t v + cond (t v) 1 0
 unfolding rank

@@ -34,13 +34,16 @@ pub and_joined : {a b : Bool} → a ≡ true → b ≡ true → (a && b) ≡ tru
 and_joined {a} {b} e f = ap₂ (λ (x y : Bool). x && y) e f
 
 pub and_true : (b : Bool) → (b && true) ≡ b
-and_true b = elim b [ true ↦ refl | false ↦ refl ]
+and_true true = refl
+and_true false = refl
 
 pub and_false : (b : Bool) → (b && false) ≡ false
-and_false b = elim b [ true ↦ refl | false ↦ refl ]
+and_false true = refl
+and_false false = refl
 
 pub not_not : (b : Bool) → not (not b) ≡ b
-not_not b = elim b [ true ↦ refl | false ↦ refl ]
+not_not true = refl
+not_not false = refl
 
 abbrev pub Past : (k n : ℕ) → Type 0
 Past zero n = Unit {0}

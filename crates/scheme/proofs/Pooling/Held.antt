@@ -27,7 +27,8 @@ abbrev bit : Bool → ℕ
 bit b = cond b 1 0
 
 bit_lt : (b : Bool) → bit b < 2
-bit_lt b = elim b [ true ↦ omega arith | false ↦ omega arith ]
+bit_lt true = omega arith
+bit_lt false = omega arith
 
 in_first : (b : Bool) (v : ℕ) → in_set (v * 2 + bit b) 1 ≡ b
 unfolding in_set
