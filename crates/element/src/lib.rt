@@ -11,6 +11,8 @@
 //   past, all_within          how far a number is past the most; that no number of a list is
 //   excess, all_elements      the same of the last element: test 3 of document 01
 //   far, all_near             0 of an element no further than the most from zero, up or down; that all of a list are such elements
+#![tactic(auto)]
+
 ghost use Rattle.std.specs.Prelude.{◌≡◌, ℕ, ◌+◌, ◌-◌, ◌*◌, ◌/◌, ◌%◌, ◌<◌, map, if◌then◌else◌, ◌==◌};
 ghost use Rattle.algebra.specs.Residue.{inverse};
 ghost use Rattle.scheme.specs.Limits.{points};

@@ -7,7 +7,6 @@ use mathlib.Core.List.{List}
 use Prim.Native.Nat.{ℕ, ◌+◌, ◌%◌, ◌≤◌, ◌<◌}
 use native.Mathlib.Nat.{zero-add, add-zero, one-mul, add-mul, add-mod, zero-mod}
 use native.Mathlib.Omega.{arith}
-use Rattle.algebra.proofs.Sums.{sum_append as field-sum-append}
 use Rattle.scheme.specs.Lists.{span}
 use Rattle.scheme.specs.Scheme.{Arithmetic, modular, sum}
 use Rattle.scheme.specs.Laws.{Laws}

@@ -1,9 +1,8 @@
 -- `element::inverses` meets its contract: antt computes the rule at each number. Assumes nothing.
 use Rattle.std.proofs.Common.{refl}
 use Rattle.algebra.specs.Residue.{inverse, inverse_from}
-use Rattle.element.proofs.inverses.Statement.{statement}
-use Rattle.element.proofs.inverses.Tie as tie
+use Rattle.element.proofs.inverses.Goals as goal
 
-pub inverses-spec : {M : Type 1} → statement M
+pub returns : goal.returns
 unfolding inverse inverse_from
-inverses-spec = tie.close (tie.spec (λ c. refl))
+returns c = refl
