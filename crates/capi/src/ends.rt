@@ -20,7 +20,7 @@ use plan::Plan;
 pub const END: usize = 8;
 
 #[repr(C)]
-#[derive(Drop)]
+#[derive(Clone, Copy)]
 pub struct CutawhenoPart {
     pub number: u32,
     pub start: u32,

@@ -103,7 +103,7 @@ pub extern "C" fn cutawheno_signed_bound(
 }
 
 #[repr(C)]
-#[derive(Drop)]
+#[derive(Clone, Copy)]
 pub struct CutawhenoStart {
     pub number: u32,
     pub start: u32,

@@ -10,14 +10,14 @@ use plan::Plan;
 use reading::{Reading, Residue};
 
 #[repr(C)]
-#[derive(Drop)]
+#[derive(Clone, Copy)]
 pub struct CutawhenoReading {
     pub number: u32,
     pub value: i32,
 }
 
 #[repr(C)]
-#[derive(Drop)]
+#[derive(Clone, Copy)]
 pub struct CutawhenoResidue {
     pub number: u32,
     pub element: u16,

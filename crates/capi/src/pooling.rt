@@ -22,14 +22,14 @@ use service::{Head, Phase};
 pub const NUMBERS: usize = 8;
 
 #[repr(C)]
-#[derive(Drop)]
+#[derive(Clone, Copy)]
 pub struct CutawhenoClosed {
     pub number: u32,
     pub set: u32,
 }
 
 #[repr(C)]
-#[derive(Drop)]
+#[derive(Clone, Copy)]
 pub struct CutawhenoFinished {
     pub number: u32,
     pub aside: u32,

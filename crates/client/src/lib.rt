@@ -18,7 +18,7 @@ ghost use Rattle.client.specs.Client.{stage_of, stage_of_number, begun_by, begun
 
 use plan::{Plan, Use};
 
-#[derive(Drop)]
+#[derive(Clone, Copy)]
 pub enum Stage {
     Fresh,
     Sent,

@@ -10,7 +10,7 @@ ghost use Rattle.document03.specs.Entry.{KeySays, FirstSays, ReplySays};
 use client::Client;
 use plan::{Plan, Use};
 
-#[derive(Drop)]
+#[derive(Clone, Copy)]
 pub struct Part {
     pub number: u32,
     pub start: u32,

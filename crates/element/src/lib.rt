@@ -84,7 +84,7 @@ pub fn reduce(n: u32) -> u16
 }
 
 // A factor a, prepared for many products in 16 bits: `by` is a * WORD modulo Q, and Q * key is `by` modulo WORD.
-#[derive(Drop)]
+#[derive(Clone, Copy)]
 pub struct Scale {
     pub by: u16,
     pub key: u16,

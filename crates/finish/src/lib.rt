@@ -33,7 +33,7 @@ use plan::{BLOCKS, CELLS, FIRSTS, MOST_PLACES, Plan, USERS};
 use service::{Head, Phase, Service};
 
 // The users of a set in rising number, in the first `count` places.
-#[derive(Drop)]
+#[derive(Clone, Copy)]
 struct Users {
     list: [u32; USERS],
     count: usize,
@@ -99,7 +99,7 @@ fn gather(
 }
 
 // The first two of the further rows that do not fit: the count of rows for none.
-#[derive(Drop)]
+#[derive(Clone, Copy)]
 struct Misfits {
     first: usize,
     second: usize,
@@ -170,7 +170,7 @@ fn turned(rows: &[u32; USERS], n: usize, count: usize) -> [u32; USERS]
 }
 
 // A refusal's number, or 0 and the user set aside, 0 if none.
-#[derive(Drop)]
+#[derive(Clone, Copy)]
 struct Numbers {
     number: u32,
     aside: u32,
@@ -422,7 +422,7 @@ fn idle(head: Head) -> Head
 }
 
 // The answer, with the user set aside, 0 if none, and the head after it.
-#[derive(Drop)]
+#[derive(Clone, Copy)]
 pub struct FinishedHead {
     pub number: u32,
     pub aside: u32,

@@ -143,7 +143,7 @@ fn write_sets(plan: Plan, user: u32, list: &[u16], out: &mut [u16], row: usize)
 }
 
 // Where the noise and the shares of the next set lie.
-#[derive(Drop)]
+#[derive(Clone, Copy)]
 struct Next {
     noise: usize,
     at: usize,

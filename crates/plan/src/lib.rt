@@ -12,6 +12,8 @@
 //   count_sets, reply_start                           how many sets; where a reply lies in the key
 //   Found, find_reply                                 where a reply lies, of any plan, user and set, or the number of tests 1, 4, 5 and 6
 // Document 01's airfield is a user here. What has a `requires` is for plans that passed test 1.
+#![tactic(auto)]
+
 ghost use Rattle.std.specs.Prelude.{◌≡◌, ◌+◌, ◌*◌, ◌^◌, ◌≤◌, ◌<◌, length};
 ghost use Rattle.scheme.specs.Limits.{most_users, most_places, most_sets, most_list, most_key};
 ghost use Rattle.scheme.specs.Lists.{rank};
@@ -55,7 +57,7 @@ pub const FIRSTS: usize = USERS * MOST_PLACES;
 // A number for each user and block: the replies that are held, and the grids of key maker and solver.
 pub const CELLS: usize = USERS * BLOCKS;
 
-#[derive(Drop)]
+#[derive(Clone, Copy)]
 pub struct Limits {
     pub least_users: u32,
     pub most_users: u32,
@@ -93,7 +95,7 @@ pub fn document_limits() -> Limits
     }
 }
 
-#[derive(Drop)]
+#[derive(Clone, Copy)]
 pub struct Plan {
     pub users: u32,
     pub threshold: u32,
@@ -102,14 +104,14 @@ pub struct Plan {
 }
 
 // What an airfield reports.
-#[derive(Drop)]
+#[derive(Clone, Copy)]
 pub enum Use {
     Counts,
     Signed,
 }
 
 // What a lookup answers: 0 or the refusal's number, and where the shares start, 0 after a refusal.
-#[derive(Drop)]
+#[derive(Clone, Copy)]
 pub struct Found {
     pub number: u32,
     pub start: usize,

@@ -23,7 +23,7 @@ use service::Service;
 use stream::Stop;
 
 // How many bytes are there then; or the input has ended; or it is to be made again; or it failed.
-#[derive(Drop)]
+#[derive(Clone, Copy)]
 pub enum Read {
     Bytes(usize),
     End,
@@ -32,7 +32,7 @@ pub enum Read {
 }
 
 // The input has ended behind a whole record; or within one; an unknown kind; offsets past 64 bits; or a read or a write failed.
-#[derive(Drop)]
+#[derive(Clone, Copy)]
 pub enum Why {
     EndOfInput,
     CutShort,
@@ -43,7 +43,7 @@ pub enum Why {
 }
 
 // A read; what waits is fed again, for there was no room for its lines; the line of refusal 7; nothing more.
-#[derive(Drop)]
+#[derive(Clone, Copy)]
 pub enum Next {
     Await,
     Feed,
@@ -61,7 +61,7 @@ pub struct Live {
     pub wrote: usize,
 }
 
-#[derive(Drop)]
+#[derive(Clone, Copy)]
 pub struct Wrote {
     pub at: usize,
     pub ok: bool,

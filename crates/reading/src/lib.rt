@@ -9,13 +9,13 @@ ghost use Rattle.reading.specs.Reading.{reading, residue_answer};
 
 use plan::{Plan, Use};
 
-#[derive(Drop)]
+#[derive(Clone, Copy)]
 pub enum Reading {
     Refused(u32),
     Value(i32),
 }
 
-#[derive(Drop)]
+#[derive(Clone, Copy)]
 pub enum Residue {
     Refused(u32),
     Element(u16),

@@ -28,7 +28,7 @@ use service::Service;
 // Stands for the answer where a line asks for a larger buffer than there is; no call answers it.
 const NO_ROOM: u32 = 99;
 
-#[derive(Drop)]
+#[derive(Clone, Copy)]
 pub enum Verdict {
     Agrees,
     Damaged,

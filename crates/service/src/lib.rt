@@ -23,7 +23,7 @@ ghost use Rattle.service.specs.Calls.{nothing_first, nothing_reply, new_service,
 
 use plan::{BLOCKS, CELLS, FIRSTS, MOST_PLACES, Plan};
 
-#[derive(Drop)]
+#[derive(Clone, Copy)]
 pub enum Phase {
     Unplanned,
     Idle,
@@ -32,7 +32,7 @@ pub enum Phase {
 }
 
 // What is held besides elements; `places` is L, and the survivors are a set.
-#[derive(Drop)]
+#[derive(Clone, Copy)]
 pub struct Head {
     pub phase: Phase,
     pub plan: Plan,
@@ -62,13 +62,13 @@ pub struct Closed {
     pub service: Service,
 }
 
-#[derive(Drop)]
+#[derive(Clone, Copy)]
 pub struct SteppedHead {
     pub number: u32,
     pub head: Head,
 }
 
-#[derive(Drop)]
+#[derive(Clone, Copy)]
 pub struct ClosedHead {
     pub number: u32,
     pub set: u32,

@@ -23,7 +23,7 @@ use service::{Head, Service};
 
 // All bytes are used; an unknown kind or a record that is not whole comes next; no room for the lines of a record; offsets would pass
 // 64 bits.
-#[derive(Drop)]
+#[derive(Clone, Copy)]
 pub enum Stop {
     Used,
     Unknown,
@@ -370,7 +370,7 @@ fn run_reply(head: Head, reply: &mut [u16; CELLS], b: &[u8], start: usize) -> us
 }
 
 // How far the input is taken, and how far out is written.
-#[derive(Drop)]
+#[derive(Clone, Copy)]
 pub struct Reached {
     pub at: usize,
     pub wrote: usize,

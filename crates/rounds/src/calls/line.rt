@@ -22,7 +22,7 @@ pub struct Line {
     pub damaged: bool,
 }
 
-#[derive(Drop)]
+#[derive(Clone, Copy)]
 pub struct Read {
     pub line: Line,
     pub at: usize,

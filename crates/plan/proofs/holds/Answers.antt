@@ -1,0 +1,9 @@
+-- `plan::holds` meets its contract: the shift is the definition's division.
+-- Assumes nothing.
+use borrow.Author.Rules.{rules}
+use Rattle.scheme.specs.Scheme.{in_set}
+use Rattle.plan.proofs.holds.Goals as goal
+
+pub returns : goal.returns
+unfolding in_set
+returns c = search rules
