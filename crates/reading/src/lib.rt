@@ -2,6 +2,8 @@
 //   Reading, read_total      a total as counts, or as signed figures: Refused by 3, or the Value
 //   Residue, residue_of      the element that stands for a signed figure of a plan: Refused by 1 or 32, or the Element
 //   Q                        the modulus
+#![tactic(auto)]
+
 ghost use Rattle.std.specs.Prelude.{◌≡◌};
 ghost use Rattle.scheme.specs.Scheme.{sixteen};
 ghost use Rattle.plan.specs.Plan.{plan_of, use_of};

@@ -6,6 +6,8 @@
 // Everything goes by position: row a has the point rows[a], 1 to MOST_USERS, column i the point columns[i], 1 to MOST_THRESHOLD, and
 // of each array the first n entries count. A grid has a row for each user, in it a number for each block. The functions are for points
 // that the caller knows to be in range and different. What they compute is defined in Solve of crate scheme.
+#![tactic(auto)]
+
 ghost use Rattle.std.specs.Prelude.{◌≡◌, true, map, ◌+◌, ◌*◌, ◌-◌, ◌%◌, ◌≤◌, ◌<◌, eqb, length, get_or, replicate};
 ghost use Rattle.std.proofs.lemmas.List.Edits.{sets};
 ghost use Rattle.scheme.specs.Limits.{most_users, most_threshold, most_blocks, cells};

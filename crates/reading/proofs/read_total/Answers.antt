@@ -7,12 +7,10 @@ use lib.IntN.{ℤ, pos, ◌-ℤ◌}
 use mir.Syntax.{w32}
 use mir.Val.{SFits, to_z}
 use mir.ValLaws.{to_z-of_z}
-use borrow.Author.Rules.{rules}
 use Rattle.scheme.specs.Scheme.{q}
 use Rattle.reading.specs.declared.Reading.TheVariants.{Value}
 use Rattle.reading.proofs.Laws.{below_zero, reads_itself, reads_less, refuses}
-use Rattle.reading.proofs.read_total.Statement.{statement}
-use Rattle.reading.proofs.read_total.Tie as tie
+use Rattle.reading.proofs.read_total.Goals as goal
 
 as_signed : (t : ℕ) → t < q → to_z w32 t ≡ pos t
 as_signed t h = to_z-of_z w32 (pos t) (record { sfits = omega arith })
@@ -21,33 +19,20 @@ as_signed t h = to_z-of_z w32 (pos t) (record { sfits = omega arith })
 below-fits : (t : ℕ) → t < q → SFits w32 (to_z w32 t -ℤ pos q)
 below-fits t h = subst (SFits w32) (sym (ap (λ (z : ℤ). z -ℤ pos q) (as_signed t h) ∙ below_zero t h)) (record { sfits = omega arith })
 
-returns : tie.Need-returns
-returns c = sym (refuses _ _ (omega (arith, c.if1.true)))
+pub returns-then-total-ge-Q : goal.returns-then-total-ge-Q
+returns-then-total-ge-Q c = sym (refuses _ _ (omega (arith, c.if-total-ge-Q.true)))
 
-cast-value : tie.Need-overflow-cast-value
-cast-value c = search rules
-
-reach-of-requires : tie.Need-reach-of-requires
-reach-of-requires c κs = search rules
-
-returns-2 : tie.Need-returns-2
-returns-2 c =
-    let b = c.before in
-    let t = b.before.before.args.total in
+pub returns-then-total-reach_of : goal.returns-then-total-reach_of
+returns-then-total-reach_of c =
+    let b = c in
+    let t = b.args.total in
     let h : t < q = omega arith in
     ap Value (as_signed t h) ∙ sym (reads_itself _ t h (omega (arith, b.reach_of.ensures.0)))
 
-sub-below : tie.Need-overflow-sub-below
-sub-below c = below-fits c.before.before.before.args.total (omega arith)
-
-returns-3 : tie.Need-returns-3
-returns-3 c =
-    let b = c.before in
-    let t = b.before.before.args.total in
+pub returns : goal.returns
+returns c =
+    let b = c in
+    let t = b.args.total in
     let h : t < q = omega arith in
     ap Value (to_z-of_z w32 _ (below-fits t h) ∙ ap (λ (z : ℤ). z -ℤ pos q) (as_signed t h))
     ∙ sym (reads_less _ t h (omega (arith, b.reach_of.ensures.0)))
-
-pub read-total-spec : {M : Type 1} → statement M
-read-total-spec =
-    tie.close (tie.spec returns cast-value reach-of-requires returns-2 sub-below returns-3)
