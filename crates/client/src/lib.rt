@@ -8,6 +8,8 @@
 //   is_fresh, open_to, figures_good, add_masks    tests 18 and 19 of a stage; test 32 of figures; figures plus masks
 //   Client::start, first_message, reply_refusal, reply; Client::Q and the limits; first_refusal, part, after_reply behind them
 // A refused call hands back its number alone: the end and every lent buffer are as before.
+#![tactic(auto)]
+
 ghost use Rattle.std.specs.Prelude.{◌≡◌, true, ◌+◌, ◌*◌, ◌≤◌, length};
 ghost use Rattle.scheme.specs.Lists.{each};
 ghost use Rattle.scheme.specs.Scheme.{sixteen, elements, figures_good, is_fresh, open_to};
@@ -25,7 +27,7 @@ pub enum Stage {
     Answered(u32),
 }
 
-#[derive(Drop)]
+#[derive(Clone, Copy)]
 pub struct Client {
     pub plan: Plan,
     pub user: u32,
@@ -286,7 +288,7 @@ impl Client {
     pub fn reply<'a>(mut self, key: &'a [u16], set: u32, round: u32) -> Replied<'a>
         ensures answer { answer_of result ≡ reply_answer sixteen self key.now set round }
         ensures shares { result.part.now ≡ part_of sixteen self key.now set round }
-        ensures place { result.part.ptr ≡ (key.entry.ref_ptr.0, key.entry.ref_ptr.1 + part_start sixteen self key.now set round * 2) }
+        ensures place { result.part.ref_ptr ≡ (key.entry.ref_ptr.0, key.entry.ref_ptr.1 + part_start sixteen self key.now set round * 2) }
     {
         let number = self.reply_refusal(key, set, round);
         let part = self.part(number, key, set, round);
