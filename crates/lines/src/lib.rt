@@ -7,6 +7,8 @@
 //   put_low, put_few        the digits, where they are 8 or 4 at most
 //   put_eight .. put_one    so many digits, zeros in front included
 //   put_bytes               any text
+#![tactic(auto)]
+
 ghost use Rattle.std.specs.Prelude.{◌≡◌, ◌∷◌, ◌+◌, ◌*◌, ◌≤◌, ◌<◌, length, take};
 ghost use Rattle.scheme.specs.Limits.{most_places};
 ghost use Rattle.scheme.specs.Service.{planned, opened, closed, totalled, refused};

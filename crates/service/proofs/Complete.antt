@@ -1,23 +1,40 @@
 -- Who is complete: a row that is held, and one turn of the loop over the users.
+--   held_at, all_held                         the tests that the two loops make of each element and of each user
 --   look_row                                  a row that is held, as the view sees it
 --   Completing, completing_start, completing_more, completing_end     the loop over the users
 --   completing_bit, completing_inside         what its steps stay below
+--   whole, counted                            the complete set is what the view gathered; it has no member above K, so the machine counts the
+--                                             ones that the definition counts
 -- Assumes nothing.
 use mathlib.Core.Path.{◌≡◌, refl, sym, ap, ◌∙◌}
-use mathlib.Core.Bool.{Bool, true, false, cond}
+use mathlib.Core.Bool.{Bool, true, false, not, cond}
 use mathlib.Core.List.{List}
 use Prim.Native.Nat.{ℕ, suc, ◌+◌, ◌*◌, ◌-◌, ◌^◌, ◌≤◌, ◌<◌}
 use native.Mathlib.Nat.{add-zero, zero-add, sub-zero, pow-suc, suc-mul, mul-le-mul_right}
 use native.Mathlib.Numerals.{add-one}
 use native.Mathlib.Omega.{arith}
+use lib.Dec.{eqb}
+use lib.ListN.{get_or}
 use lib.Pow.{pow_mono}
+use lib.Count as machine
 use borrow.Author.Tests.{le-leb, lt-ltb}
-use Rattle.scheme.specs.Limits.{most_users, most_threshold}
+use Rattle.scheme.specs.Limits.{most_users, most_threshold, most_places}
 use Rattle.scheme.specs.Lists.{span, all_of}
-use Rattle.scheme.specs.Service.{is_held, set_of}
+use Rattle.scheme.specs.Scheme.{ones, places}
+use Rattle.scheme.specs.Service.{is_held, set_of, complete_set, gathered}
 use Rattle.scheme.proofs.Lists.{span_in, all_of_same}
-use Rattle.service.specs.View.{look, row_held}
+use Rattle.scheme.proofs.Pooling.Held.{complete_below}
+use Rattle.plan.specs.Plan.{plan_of}
+use Rattle.plan.proofs.Laws.{ones_same}
+use Rattle.service.specs.declared.Service.{Service}
+use Rattle.service.specs.View.{look, row_held, view}
 use Rattle.service.proofs.View.{stored_held}
+
+abbrev pub held_at : List ℕ → (start i : ℕ) → Bool
+held_at xs start i = not (eqb (get_or xs (start + i) 0) 0)
+
+abbrev pub all_held : List ℕ → (stride each k : ℕ) → Bool
+all_held xs w n k = all_of (λ i. is_held (look w xs k i)) (span n 0)
 
 -- ---- a row, as the view sees it
 pub look_row : (w n k : ℕ) (xs : List ℕ) → k < most_users → n ≤ w → row_held xs (k * w) n ≡ all_of (λ i. is_held (look w xs (k + 1) i)) (span n 0)
@@ -71,3 +88,13 @@ module _ (t : ℕ → Bool) (users w : ℕ) where
         small : (b : Bool) → set + cond b bit 0 < bit * 2
         small true = omega (arith, g.below)
         small false = omega (arith, g.below)
+
+-- ---- the complete set, and its ones
+module _ (s : Service) {set each : ℕ} (e : set ≡ complete_set (plan_of s.head.plan) (look most_places s.first) each)
+    (f : each ≡ places (plan_of s.head.plan)) where
+  pub whole : set ≡ gathered (view s)
+  unfolding gathered view
+  whole = e ∙ ap (complete_set _ _) f
+
+  pub counted : machine.ones set ≡ ones s.head.plan.users (gathered (view s))
+  counted = let h : set < 2 ^ s.head.plan.users = rw e (complete_below _ _ _) in ones_same _ _ h ∙ ap (ones s.head.plan.users) whole

@@ -13,6 +13,8 @@
 //   plan_lent, open_lent, close_refused, close_lent     the leaves of the other calls: they copy no array
 //   Service::new, plan, open, first_element, close, reply_element
 // After a refusal the state is as before.
+#![tactic(auto)]
+
 ghost use Rattle.std.specs.Prelude.{◌≡◌, ◌+◌, ◌*◌, ◌-◌, ◌≤◌, ◌<◌, length};
 ghost use Rattle.scheme.specs.Limits.{most_users, most_places};
 ghost use Rattle.scheme.specs.Scheme.{q, sixteen};

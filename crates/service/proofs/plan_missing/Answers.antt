@@ -1,0 +1,22 @@
+-- `service::plan_missing` meets its contract: of each phase the definition computes.
+-- Assumes nothing.
+use Rattle.scheme.specs.Scheme.{unless}
+use Rattle.scheme.specs.Service.{has_plan, plan_missing}
+use Rattle.service.specs.View.{phase_of}
+use Rattle.service.proofs.plan_missing.Goals as goal
+
+pub returns-in-Unplanned : goal.returns-in-Unplanned
+unfolding phase_of plan_missing has_plan unless
+returns-in-Unplanned c = simp c.in-Unplanned.is
+
+pub returns-in-Idle : goal.returns-in-Idle
+unfolding phase_of plan_missing has_plan unless
+returns-in-Idle c = simp c.in-Idle.is
+
+pub returns-in-Gathering : goal.returns-in-Gathering
+unfolding phase_of plan_missing has_plan unless
+returns-in-Gathering c = simp c.in-Gathering.is
+
+pub returns-in-Replying : goal.returns-in-Replying
+unfolding phase_of plan_missing has_plan unless
+returns-in-Replying c = simp c.in-Replying.is
