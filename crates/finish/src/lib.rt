@@ -15,6 +15,8 @@
 //   Finished, finish                          the call with the state
 // The totals are written once, into the array that is handed back. The call is no method of the service: it is the only one that
 // needs the solver.
+#![tactic(auto)]
+
 ghost use Rattle.std.specs.Prelude.{◌≡◌, map, ℕ, ◌+◌, ◌*◌, ◌-◌, ◌≤◌, ◌<◌, length, get_or, replicate};
 ghost use Rattle.std.proofs.lemmas.List.Edits.{sets};
 ghost use Rattle.scheme.specs.Limits.{most_users, most_blocks, most_items, most_places, firsts, cells};

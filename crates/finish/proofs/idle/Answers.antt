@@ -2,12 +2,8 @@
 -- Assumes nothing.
 use mathlib.Core.Path.{refl}
 use Rattle.finish.specs.Finish.{finished}
-use Rattle.finish.proofs.idle.Statement.{statement}
-use Rattle.finish.proofs.idle.Tie as tie
+use Rattle.finish.proofs.idle.Goals as goal
 
-returns : tie.Need-returns
+pub returns : goal.returns
 unfolding finished
 returns c = refl
-
-pub idle_spec : {M : Type 1} → statement M
-idle_spec = tie.close (tie.spec returns)

@@ -1,0 +1,16 @@
+-- `finish::turned` meets its contract. The loop's invariant: the first i rows are written.
+-- The measure is how many are left. Assumes nothing.
+use mathlib.Core.Path.{ap}
+use Prim.Native.Nat.{ℕ}
+use lib.ListN.{get_or}
+use Rattle.scheme.proofs.Padded.{filling_start, filling_more}
+use Rattle.finish.proofs.turned.Goals as goal
+
+pub loop-i-init : goal.loop-i-init
+loop-i-init c = filling_start _ _ _
+
+pub loop-i-preserved : goal.loop-i-preserved
+loop-i-preserved c =
+    let l = c.loop-i in
+    filling_more _ _ _ l.i _ _ c.requires.1 c.loop-i-test.true
+    (ap (λ (k : ℕ). get_or c.args.rows.now k 0) c.row_before.ensures.0) l.invariant
