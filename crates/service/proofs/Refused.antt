@@ -4,6 +4,7 @@
 --   array_kept, array_refused, array_taken     the number and the array, of an element: written back, untouched, new
 --   step_refused, step_taken        the number and the state, of a plan or an open
 --   close_refused, close_taken      what close hands back
+--   element_tests                   a ruleset: what the tests answer that both kinds of element share
 -- Assumes nothing.
 use mathlib.Core.Path.{◌≡◌, refl, sym, ap, ap₂, ◌∙◌}
 use mathlib.Core.Logic.{◌≢◌}
@@ -14,9 +15,9 @@ use native.Mathlib.Omega.{arith}
 use lib.Dec.{ltb}
 use lib.ListN.{get_or, set}
 use lib.Seq.{set-get_or}
-use borrow.Author.Tests.{lt-ltb, le-ltb}
-use Rattle.scheme.specs.Scheme.{after}
-use Rattle.scheme.specs.Service.{takes, gathered}
+use borrow.Author.Tests.{lt-ltb, le-ltb, le-leb, lt-leb}
+use Rattle.scheme.specs.Scheme.{Arithmetic, ◌then◌, unless, after}
+use Rattle.scheme.specs.Service.{element_refusal, takes, gathered}
 use Rattle.scheme.proofs.Refusals.{after_taken, after_refused}
 use Rattle.service.specs.declared.Service.{Service}
 use Rattle.service.specs.View.{held_as, stored, left_in, view}
@@ -86,3 +87,27 @@ close_refused s h e = λ t. record { number = e t; set = kept h e (gathered (vie
 pub close_taken : (s : Service) {v : ℕ} → 0 ≡ close_refusal s → v ≡ gathered (view s) → record { number = 0; set = v; service = closed s v } ≡ close_step s
 unfolding close_step
 close_taken s e d = λ t. record { number = e t; set = moved e d 0 t; service = moved e (ap (closed s) d) s t }
+
+-- ---- the tests that both kinds of element share
+module _ (A : Arithmetic) (n l k i x : ℕ) where
+  pub element_of_none : k ≡ 0 → element_refusal A n l k i x ≡ 4
+  unfolding element_refusal unless ◌then◌
+  element_of_none e = let h : k < 1 = omega arith in simp (lt-leb _ _ h)
+
+  pub element_of_stranger : 1 ≤ k → n < k → element_refusal A n l k i x ≡ 4
+  unfolding element_refusal unless ◌then◌
+  element_of_stranger lo h = simp (le-leb _ _ lo, lt-leb _ _ h)
+
+  pub element_beyond : 1 ≤ k → k ≤ n → l ≤ i → element_refusal A n l k i x ≡ 8
+  unfolding element_refusal unless ◌then◌
+  element_beyond lo hi h = simp (le-leb _ _ lo, le-leb _ _ hi, le-ltb _ _ h)
+
+  pub element_large : 1 ≤ k → k ≤ n → i < l → A.size ≤ x → element_refusal A n l k i x ≡ 3
+  unfolding element_refusal unless ◌then◌
+  element_large lo hi at h = simp (le-leb _ _ lo, le-leb _ _ hi, lt-ltb _ _ at, le-ltb _ _ h)
+
+  pub element_fits : 1 ≤ k → k ≤ n → i < l → x < A.size → element_refusal A n l k i x ≡ 0
+  unfolding element_refusal unless ◌then◌
+  element_fits lo hi at h = simp (le-leb _ _ lo, le-leb _ _ hi, lt-ltb _ _ at, lt-ltb _ _ h)
+
+pub ruleset element_tests = (element_of_none, element_of_stranger, element_beyond, element_large, element_fits)

@@ -1,6 +1,7 @@
 -- Laws of the view.
 --   stored_held       whether a stored number is an element
---   left_held, left_taken, left_refused     what is held stays; an element that comes is taken where it is what is left, or else refused
+--   left_held, left_free, left_taken, left_refused     what is held stays, and where nothing is the new one; an element that comes is taken
+--                     where it is what is left, or else refused
 --   InRow            a user and a place of its row
 --   look_at, held_at  what stands in a place of the array, and its element
 --   look_nothing      nothing is held
@@ -37,6 +38,10 @@ pub left_held : (h n : ℕ) → h ≢ 0 → h ≡ left_in h n
 unfolding left_in
 left_held zero n e = absurd (e refl)
 left_held (suc h) n e = refl
+
+pub left_free : (h n : ℕ) → h ≡ 0 → left_in h n ≡ n
+unfolding left_in
+left_free h n e = rw e
 
 pub left_taken : (n x : ℕ) → left_in n (held_as x) ≡ held_as x → takes (stored n) x ≡ true
 unfolding left_in takes stored

@@ -173,6 +173,7 @@ fn is_replying(phase: Phase) -> bool
 }
 
 // 4, 8, 3 of an element that a user sends for one of `limit` places or blocks.
+#[tactic(auto, using(crate::proofs::Refused::element_tests))]
 fn element_refusal(users: u32, limit: u32, user: u32, at: u32, element: u32) -> u32
     ensures { result ≡ element_refusal sixteen users limit user at element }
 {
@@ -210,6 +211,7 @@ pub fn element_of(held: u16) -> u16
 }
 
 // What a place holds once an element has come, both as they are held: what it held, or else the new one.
+#[tactic(auto, using(crate::proofs::View::left_held, crate::proofs::View::left_free))]
 fn left_in(held: u16, new: u16) -> u16
     ensures { result ≡ left_in held new }
 {
