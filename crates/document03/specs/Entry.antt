@@ -1,9 +1,8 @@
 -- Document 03's specs/Entry.antt, word for word but for message_refusal, where document 02's item 2 puts 32 after 3.
 -- It knows no round: what it says of replies is said of those asked for the round of the key, which are never refused by 33.
 -- What the key maker, the first message and the reply answer and leave behind. Assumes nothing: these are definitions.
-use Rattle.std.specs.Prelude.{◌≡◌, Bool, true, false, ◌&&◌, ◌||◌, not, cond, List, [], ◌∷◌, ◌++◌, ℕ, zero, suc, ◌+◌, ◌*◌, ◌-◌, ◌/◌, ◌%◌, ◌^◌, ◌≤◌, ◌<◌, min, ltb, leb, eqb, length, get_or, set, take, drop, replicate}
-use Rattle.std.proofs.Math.Option.{Option, none, some}
-use Rattle.document03.specs.Scheme.{q, Plan, plan, plan_good, places, in_set, usable, list_long, key, key_long, first_message, reply_start}
+use Rattle.std.specs.Prelude.{◌≡◌, ◌&&◌, ◌||◌, not, cond, List, ℕ, zero, suc, ◌+◌, ltb, eqb, length}
+use Rattle.document03.specs.Scheme.{Plan, plan, plan_good, places, in_set, usable, list_long, key, key_long, first_message, reply_start}
 use Rattle.document03.specs.Service.{elements_good}
 use Rattle.document03.specs.Counts.{figures_good}
 use Rattle.document03.specs.declared.Part.{Part}

@@ -1,8 +1,7 @@
 -- Document 03's specs/Promise.antt, word for word.
 -- What is promised of the scheme and the service. Each statement is a type whose proof is owed. Assumes nothing.
-use Rattle.std.specs.Prelude.{◌≡◌, Bool, true, false, ◌&&◌, ◌||◌, not, cond, List, [], ◌∷◌, ◌++◌, ℕ, zero, suc, ◌+◌, ◌*◌, ◌-◌, ◌/◌, ◌%◌, ◌^◌, ◌≤◌, ◌<◌, min, ltb, leb, eqb, length, get_or, set, take, drop, replicate}
-use Rattle.std.proofs.Math.Option.{Option, none, some}
-use Rattle.document03.specs.Scheme.{q, Plan, plan_good, items, places, in_set, ones, usable, usable_sets, list_long, key, key_long, first_message, reply, share, sum_set, sum_S, noise, total_at}
+use Rattle.std.specs.Prelude.{◌≡◌, Bool, true, ◌&&◌, ◌||◌, not, cond, List, [], ◌∷◌, ℕ, zero, suc, ◌^◌, ◌≤◌, ◌<◌, eqb, length, get_or}
+use Rattle.document03.specs.Scheme.{Plan, plan_good, places, in_set, ones, usable, list_long, key, first_message, reply, total_at}
 use Rattle.document03.specs.Service.{elements_good, Record, State, Line, Steps, held, held_value, replied, planned, gathered, told_total, told_open, open_round, finish_round, finish_refusal}
 
 -- tables of figures: a row for each airfield

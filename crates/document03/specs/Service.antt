@@ -1,8 +1,7 @@
 -- Document 03's specs/Service.antt, word for word.
 -- Airfield ends and the pooling service, record by record. Assumes nothing: these are definitions.
-use Rattle.std.specs.Prelude.{◌≡◌, Bool, true, false, ◌&&◌, ◌||◌, not, cond, List, [], ◌∷◌, ◌++◌, ℕ, zero, suc, ◌+◌, ◌*◌, ◌-◌, ◌/◌, ◌%◌, ◌^◌, ◌≤◌, ◌<◌, min, ltb, leb, eqb, length, get_or, set, take, drop, replicate}
-use Rattle.std.proofs.Math.Option.{Option, none, some}
-use Rattle.document03.specs.Scheme.{q, Plan, plan, plan_good, items, places, in_set, ones, usable, coefficient, sum_set, dotted, key_long, list_long}
+use Rattle.std.specs.Prelude.{◌≡◌, Bool, true, false, ◌&&◌, ◌||◌, not, cond, List, [], ◌∷◌, ℕ, zero, suc, ◌+◌, ◌-◌, ◌/◌, ◌%◌, ◌^◌, ltb, leb, eqb, length, get_or}
+use Rattle.document03.specs.Scheme.{q, Plan, plan, plan_good, items, places, in_set, ones, sum_set, dotted}
 
 unfoldable pub elements_good : List ℕ → Bool
 elements_good [] = true

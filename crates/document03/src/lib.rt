@@ -4,6 +4,8 @@
 //   Part, Sent                              what its contracts name
 //   make_key, first_message, reply_part     its functions: an end's plan, number and stage are arguments, and here its round
 //   client_of                               the end that these arguments tell
+#![tactic(auto)]
+
 ghost use Rattle.document03.specs.Ours.{ClientOf};
 ghost use Rattle.document03.specs.Entry.{KeySays, FirstSays, ReplySays};
 
