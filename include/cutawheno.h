@@ -1,6 +1,6 @@
 /* Key maker, airfield end and pooling service of document 01, and of document 02 the random list from raw bytes, the bound of figures,
- * signed figures, finding a set's shares, setting one false reply aside and the round of a key, for C: the functions that crates/capi
- * exports (rt staticlib capi gives libcapi.a).
+ * signed figures, finding a set's shares, setting one false reply aside and the round of a key, for C: the functions of crates/capi,
+ * which crates/capi_c exports (tools/prove writes libcapi.a).
  *
  * A plan is four numbers: users (K), threshold (U), collusion (T) and blocks (M). A user is an airfield's number, 1 to K; a set of
  * users is a number whose bit k - 1 stands for user k. An element is a number below CUTAWHENO_Q. A row of figures, and a first
