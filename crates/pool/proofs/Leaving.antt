@@ -9,17 +9,17 @@
 use mathlib.Core.Path.{◌≡◌, refl, sym, ap, ◌∙◌, subst}
 use mathlib.Core.Bool.{Bool, true, false, cond}
 use mathlib.Core.List.{List, [], ◌∷◌, ◌++◌}
-use Prim.Native.Nat.{ℕ, ◌+◌, ◌-◌, ◌^◌, ◌≤◌, ◌<◌}
+use Prim.Native.Nat.{ℕ, zero, suc, ◌+◌, ◌-◌, ◌^◌, ◌≤◌, ◌<◌}
 use native.Mathlib.Nat.{zero-add}
 use native.Mathlib.Decide.{dec_le, ℕ_discrete}
 use native.Mathlib.Omega.{arith}
-use lib.Dec.{eqb}
-use lib.IntN.{pos, negsuc}
-use lib.Signed.{lt_z}
 use lib.ListN.{length, take, drop, take-append-drop, length-append, length-drop}
 use lib.Seq.{sets, sets-eq, take-take, length-take-le, length-sets}
 use borrow.Author.Tests.{eq-eqb, ne_eqb, le-leb}
-use Rattle.io.specs.Counts.{clamp_len}
+use Rattle.std.specs.Prelude.{Result, Ok, Err}
+use Rattle.std.specs.declared.io.Error.{Error}
+use Rattle.std.specs.IoError.{kind_at}
+use Rattle.std.specs.Prelude.{pos}
 use Rattle.scheme.specs.Service.{refused}
 use Rattle.service.specs.declared.Service.{Service}
 use Rattle.lines.specs.Text.{numbers, line}
@@ -39,34 +39,34 @@ use Rattle.pool.specs.declared.Next.{Next}
 use Rattle.pool.specs.declared.Next.TheVariants.{Await, Refuse, Over}
 use Rattle.pool.specs.declared.Live.{Live}
 use Rattle.pool.specs.Turns.{again, Turn, comes, fed_turn, at_end, silent, step_by}
-use Rattle.pool.specs.Pool.{silent_live, Leaves, brought, Untouched, eintr, interrupted, read_as, Fills, step_of}
-use Rattle.pool.proofs.Answers.{clamped_inside}
+use Rattle.pool.specs.Pool.{silent_live, Leaves, brought, Untouched, interrupted, Moves, read_as, Fills, step_of}
 
 -- ---- one read
 -- a read that brings bytes brings one at least, and no more than there is room for
 module _ (b b' : List ℕ) (have : ℕ) (r : Read) (g : Fills b b' have r) (n : ℕ) (e : r ≡ Bytes n) where
   pub fills_inside : (have < n) × (n ≤ length b)
   unfolding read_as
-  fills_inside = pick (lt_z g.got (pos 0)) (interrupted g.error) (ℕ_discrete count 0) (sym g.result ∙ e)
+  fills_inside = pick g.got g.moved (sym g.result ∙ e)
     where
-      count : ℕ
-      count = clamp_len g.got (length b - have)
-
-      pick : (f y : Bool) → Dec (count ≡ 0) → cond f (cond y Again Failed) (cond (eqb count 0) End (Bytes (have + count))) ≡ Bytes n
-          → (have < n) × (n ≤ length b)
-      pick true true d x = let z : ◌≡◌ {A = ℕ} 0 1 = cc in absurd (omega arith)
-      pick true false d x = let z : ◌≡◌ {A = ℕ} 0 1 = cc in absurd (omega arith)
-      pick false y (yes d) x = let u : End ≡ Bytes n = rw (eq-eqb count 0 d) at x in let z : ◌≡◌ {A = ℕ} 0 1 = cc in absurd (omega arith)
-      pick false y (no d) x =
-          let u : Bytes (have + count) ≡ Bytes n = rw (ne_eqb count 0 d) at x in
-          let k : have + count ≡ n = cc in
-          (omega (arith, d), omega (arith, g.inside, clamped_inside g.got (length b - have)))
+      pick : (q : Result ℕ Error) → Moves (length b - have) q → read_as have q ≡ Bytes n → (have < n) × (n ≤ length b)
+      pick (Ok zero) m x = let z : ◌≡◌ {A = ℕ} 0 1 = cc in absurd (omega arith)
+      pick (Ok (suc k)) m x = let u : Bytes (have + suc k) ≡ Bytes n = rw (ne_eqb (suc k) 0 (λ z. omega arith)) at x in
+          let z : have + suc k ≡ n = cc in (omega arith, omega (arith, g.inside))
+      pick (Err q) m x = other (interrupted q) x
+        where
+          other : (y : Bool) → cond y Again Failed ≡ Bytes n → (have < n) × (n ≤ length b)
+          other true z = let u : ◌≡◌ {A = ℕ} 0 1 = cc in absurd (omega arith)
+          other false z = let u : ◌≡◌ {A = ℕ} 0 1 = cc in absurd (omega arith)
 
 -- where none is due
+-- an error that tells an interruption
+interruption : Error
+interruption = record { repr = 1; kind = 35; len = 0; code = pos 0; message = record { 0 = 0; 1 = 0; 2 = 0; 3 = 0; 4 = 0; 5 = 0; 6 = 0; 7 = 0; 8 = 0; 9 = 0 } }
+
 pub asked : (x y : Next) {b : List ℕ} {have : ℕ} → have ≤ length b → x ≡ y → Untouched y Again b b → Fills b b have Again × Untouched x Again b b
-unfolding read_as interrupted
+unfolding read_as interrupted kind_at interruption
 asked x y {b} h e u =
-    (record { got = negsuc 0; error = pos eintr; front = refl; inside = h; moved = refl; result = refl }, subst (λ (z : Next). Untouched z Again b b) (sym e) u)
+    (record { got = Err interruption; front = refl; inside = h; moved = tt; result = refl }, subst (λ (z : Next). Untouched z Again b b) (sym e) u)
 
 pub asked_due : (x : Next) (r : Read) (b b' : List ℕ) → x ≡ Await → Untouched x r b b'
 unfolding Untouched

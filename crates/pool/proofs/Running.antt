@@ -1,22 +1,25 @@
 -- The turns of a run.
---   writes_from_inside, written_more           one write, and one more of many
---   sent_same, turned                          one turn
---   Made, made_start, made_more, made_end      so many turns from the start on
+--   writes_from_inside, stays, written_more    one write, one that failed, and one more of many
+--   sent_same, turned, turn_moved              one turn, and the bytes that went through it
+--   Made, made_start, made_next, made_end      so many turns from the start on
+--   MadeMoved, moved_start, moved_more, moved_end     and the bytes that went through them
 --   made_sound                                 there is room for the next
 -- Assumes nothing.
 use mathlib.Core.Path.{◌≡◌, refl, sym, ap, ap₂, ◌∙◌, subst}
 use mathlib.Core.Bool.{Bool, true, false, cond}
-use mathlib.Core.List.{List, []}
-use Prim.Native.Nat.{ℕ, ◌+◌, ◌-◌, ◌≤◌, ◌<◌}
+use mathlib.Core.List.{List, [], ◌++◌}
+use Prim.Native.Nat.{ℕ, zero, suc, ◌+◌, ◌-◌, ◌≤◌, ◌<◌}
 use native.Mathlib.Decide.{dec_le, ℕ_discrete}
 use native.Mathlib.Omega.{arith}
 use lib.Dec.{eqb}
-use lib.IntN.{pos}
-use lib.Signed.{lt_z}
 use lib.ListN.{length, get_or, take, length-take}
 use lib.Seq.{sets, length-take-le}
 use borrow.Author.Tests.{eq-eqb, ne_eqb, le-leb, lt-leb}
-use Rattle.io.specs.Counts.{clamp_len}
+use Rattle.std.specs.Prelude.{Result, Ok, Err, Some, None}
+use Rattle.std.specs.declared.option.Option.{Option}
+use Rattle.std.specs.Io.KnownBytes.{Consumes, Appends, Keeps}
+use Rattle.std.specs.declared.io.Error.{Error}
+use Rattle.scheme.proofs.Tests.{holds}
 use Rattle.service.specs.declared.Service.{Service}
 use Rattle.service.specs.Calls.{new_service}
 use Rattle.lines.specs.Put.{room}
@@ -27,28 +30,35 @@ use Rattle.pool.specs.declared.Next.{Next}
 use Rattle.pool.specs.declared.Next.TheVariants.{Await, Feed, Refuse, Over}
 use Rattle.pool.specs.declared.Live.{Live}
 use Rattle.pool.specs.declared.Wrote.{Wrote}
-use Rattle.pool.specs.Turns.{Came, Turn, first_turn, step_by, step, sent, Due, Turns, none, more}
-use Rattle.pool.specs.Pool.{live_of, Leaves, brought, Untouched, Fills, stepped, interrupted, write_as, WritesFrom, most_turns, Written, goes_on, Writes, sent_live, longest, Sound, Turned, is_over, Ran}
+use Rattle.pool.specs.Turns.{Came, Turn, first_turn, step_by, step, sent, came_bytes, Due, Turns, none, more}
+use Rattle.pool.specs.Pool.{live_of, Leaves, brought, Untouched, Fills, stepped, Moves, write_as, WritesFrom, most_turns, Written, goes_on, Writes, sent_live, longest, Sound, Turned, TurnMoved, is_over, Ran, RunMoved}
 use Rattle.pool.specs.Promise.{Unfinished, Stands, SoFar, RunRight}
-use Rattle.pool.proofs.Answers.{clamped_inside}
 use Rattle.pool.proofs.Promise.{run_right}
 use Rattle.pool.proofs.Leaving.{front_sets, wrote_inside}
+use Rattle.pool.proofs.Carrying.{keeps, consumes_none, appends_none, consumes_all, appends_all}
 
 -- ---- one write, and many
-pub writes_from_inside : {at n : ℕ} {w : Wrote} → WritesFrom at n w → w.at ≤ n
+pub writes_from_inside : {at n : ℕ} {w : Wrote} → WritesFrom at n w → (at ≤ w.at) × (w.at ≤ n)
 unfolding write_as
-writes_from_inside {at} {n} {w} g = pick (lt_z g.put (pos 0)) (ℕ_discrete count 0) (ap (λ (x : Wrote). x.at) g.result)
+writes_from_inside {at} {n} {w} g = pick g.put g.moved g.result
   where
-    count : ℕ
-    count = clamp_len g.put (n - at)
+    pick : (q : Result ℕ Error) → Moves (n - at) q → w ≡ write_as at q → (at ≤ w.at) × (w.at ≤ n)
+    pick (Ok zero) m e = (omega (arith, ap (λ (x : Wrote). x.at) e), omega (arith, ap (λ (x : Wrote). x.at) e, g.inside))
+    pick (Ok (suc k)) m e =
+        let z : w ≡ record { at = at + suc k; ok = true } = rw (ne_eqb (suc k) 0 (λ z. omega arith)) at e in
+        (omega (arith, ap (λ (x : Wrote). x.at) z), omega (arith, ap (λ (x : Wrote). x.at) z, g.inside))
+    pick (Err q) m e = (omega (arith, ap (λ (x : Wrote). x.at) e), omega (arith, ap (λ (x : Wrote). x.at) e, g.inside))
 
-    behind : Wrote
-    behind = cond (eqb count 0) (record { at = at; ok = false }) (record { at = at + count; ok = true })
-
-    pick : (f : Bool) → Dec (count ≡ 0) → w.at ≡ (cond f (record { at = at; ok = interrupted g.error }) behind).at → w.at ≤ n
-    pick true d x = omega (arith, x, g.inside)
-    pick false (yes d) x = let u : w.at ≡ at = rw (eq-eqb count 0 d) at x in omega (arith, g.inside)
-    pick false (no d) x = let u : w.at ≡ at + count = rw (ne_eqb count 0 d) at x in omega (arith, g.inside, clamped_inside g.put (n - at))
+pub stays : {at n : ℕ} {w : Wrote} → WritesFrom at n w → w.ok ≡ false → w.at ≡ at
+unfolding write_as
+stays {at} {n} {w} g f = pick g.put g.result
+  where
+    pick : (q : Result ℕ Error) → w ≡ write_as at q → w.at ≡ at
+    pick (Ok zero) e = ap (λ (x : Wrote). x.at) e
+    pick (Ok (suc k)) e =
+        let z : w ≡ record { at = at + suc k; ok = true } = rw (ne_eqb (suc k) 0 (λ z. omega arith)) at e in
+        absurd (holds (sym f ∙ ap (λ (x : Wrote). x.ok) z))
+    pick (Err q) e = ap (λ (x : Wrote). x.at) e
 
 pub written_more : {n k j i : ℕ} {w : Wrote} → Written n k i → WritesFrom i n w → w.ok ≡ true → k + 1 ≡ j → Written n j w.at
 written_more {n} {w = w} h g o e = subst (λ (j : ℕ). Written n j w.at) e (goes_on _ _ w h g o)
@@ -90,6 +100,17 @@ turned {l} {b} {got} {b'} {out} {out'} {read} {a} {r} {w} f g s e =
       kept = g.inside;
     }
 
+pub turn_moved : {l : Live} {b got b' out out' : List ℕ} {read : Read} {a r : Live} {w : Wrote} {x y u v : Option (List ℕ)}
+    → Fills b got l.have read × Untouched l.next read b got → Leaves (stepped (length out) l read got) got b' out out' a
+    → Writes (length (take a.wrote out')) w → r ≡ sent_live a w → Consumes x y (came_bytes (brought read l.have got))
+    → Appends u v (take w.at (take a.wrote out')) → TurnMoved l b b' out out' r x y u v
+unfolding turned
+turn_moved {l} {b} {got} {b'} {out} {out'} {read} {a} {r} {w} {x} {y} {u} {v} f g s e c h =
+    let t : Turn = stepped (length out) l read got in
+    let k : a.wrote ≡ length t.text = ap (λ (q : Live). q.wrote) g.result in
+    let j : take a.wrote out' ≡ t.text = ap₂ (λ (i : ℕ) (d : List ℕ). take i d) k g.output ∙ front_sets out t.text g.fits in
+    record { turned = turned f g s e; took = c; gave = subst (λ (d : List ℕ). Appends u v (take w.at d)) j h }
+
 -- ---- so many turns from the start on, and what the last left
 pub record Made (n k : ℕ) (l : Live) (b : List ℕ) : Type 0 where
   pub read : List ℕ
@@ -126,33 +147,69 @@ sent_waiting i t = pick (ℕ_discrete i (length t.text))
     pick (yes e) = rw (eq-eqb i (length t.text) e)
     pick (no e) = rw (ne_eqb i (length t.text) e)
 
-pub made_more : {n k j : ℕ} {l r : Live} {b b' out out' : List ℕ} → Made n k l b → Turned l b b' out out' r → length out ≡ n → k + 1 ≡ j
-    → Made n j r b'
-made_more {n} {k} {j} {l} {r} {b} {b'} {out} {out'} m g e d =
-    let c : Came = brought g.read l.have g.got in
-    let t : Turn = m.turn in
-    let x : l.next ≡ t.next = ap (λ (q : Live). q.next) m.result in
-    let same : stepped (length out) l g.read g.got ≡ step n c t = ap (λ (i : ℕ). stepped i l g.read g.got) e
-    ∙ ap (λ (w : List ℕ). step_by n l.next c l.service w l.offset) (g.fills.front ∙ m.front)
-    ∙ ap (λ (q : Live). step_by n q.next c q.service t.waiting q.offset) m.result in
-    let long : r.have ≡ length (step n c t).waiting =
-    ap (λ (q : Live). q.have) g.result ∙ ap (λ (u : Turn). length (sent g.put u).waiting) same
-    ∙ ap length (sent_waiting g.put (step n c t)) in
-    subst (λ (i : ℕ). Made n i r b') d (record {
-      read = _;
-      written = _;
-      turn = sent g.put (step n c t);
-      turns = more k m.read m.written t c g.put m.turns
-          (subst (λ (y : Next). Due y c) x (untouched_due l.next g.read l.have b g.got g.due))
-          (subst (λ (u : Turn). g.put ≤ length u.text) same g.inside);
-      result = g.result ∙ ap (λ (u : Turn). live_of (sent g.put u)) same;
-      front = ap₂ (λ (i : ℕ) (w : List ℕ). take i w) long (g.input ∙ ap (λ (u : Turn). sets g.got 0 u.waiting) same)
-          ∙ front_sets g.got (step n c t).waiting (subst (λ (u : Turn). length u.waiting ≤ length g.got) same g.kept)
-          ∙ sym (sent_waiting g.put (step n c t));
-    })
+module _ {n k : ℕ} {l r : Live} {b b' out out' : List ℕ} (m : Made n k l b) (g : Turned l b b' out out' r) (e : length out ≡ n) where
+  abbrev came : Came
+  came = brought g.read l.have g.got
+
+  same_step : stepped (length out) l g.read g.got ≡ step n came m.turn
+  same_step =
+      ap (λ (i : ℕ). stepped i l g.read g.got) e
+      ∙ ap (λ (w : List ℕ). step_by n l.next came l.service w l.offset) (g.fills.front ∙ m.front)
+      ∙ ap (λ (q : Live). step_by n q.next came q.service m.turn.waiting q.offset) m.result
+
+  made_next : Made n (k + 1) r b'
+  made_next =
+      let c : Came = came in
+      let t : Turn = m.turn in
+      let x : l.next ≡ t.next = ap (λ (q : Live). q.next) m.result in
+      let long : r.have ≡ length (step n c t).waiting =
+      ap (λ (q : Live). q.have) g.result ∙ ap (λ (u : Turn). length (sent g.put u).waiting) same_step
+      ∙ ap length (sent_waiting g.put (step n c t)) in
+      record {
+        read = m.read ++ came_bytes c;
+        written = m.written ++ take g.put (step n c t).text;
+        turn = sent g.put (step n c t);
+        turns = more k m.read m.written t c g.put m.turns
+            (subst (λ (y : Next). Due y c) x (untouched_due l.next g.read l.have b g.got g.due))
+            (subst (λ (u : Turn). g.put ≤ length u.text) same_step g.inside);
+        result = g.result ∙ ap (λ (u : Turn). live_of (sent g.put u)) same_step;
+        front = ap₂ (λ (i : ℕ) (w : List ℕ). take i w) long (g.input ∙ ap (λ (u : Turn). sets g.got 0 u.waiting) same_step)
+            ∙ front_sets g.got (step n c t).waiting (subst (λ (u : Turn). length u.waiting ≤ length g.got) same_step g.kept)
+            ∙ sym (sent_waiting g.put (step n c t));
+      }
 
 pub made_end : {n k : ℕ} {l : Live} {b : List ℕ} → Made n k l b → (is_over l.next ≡ false → k ≡ most_turns) → Ran n l
 made_end {k = k} m h = record { count = k; read = m.read; written = m.written; turn = m.turn; turns = m.turns; result = m.result; ends = h }
+
+-- and the bytes that went through them
+pub record MadeMoved (n k : ℕ) (l : Live) (b : List ℕ) (rest rest-now held held-now : Option (List ℕ)) : Type 0 where
+  pub made : Made n k l b
+  pub took : Consumes rest rest-now made.read
+  pub gave : Appends held held-now made.written
+
+pub moved_start : (n : ℕ) (b : List ℕ) (s : Service) (rest held : Option (List ℕ)) → s ≡ new_service
+    → MadeMoved n 0 (record { service = s; have = 0; offset = 0; next = Await; wrote = 0 }) b rest rest held held
+unfolding made_start
+moved_start n b s rest held e =
+    record { made = made_start n b s e; took = consumes_none rest rest (keeps rest); gave = appends_none held held (keeps held) }
+
+pub moved_more : {n k j : ℕ} {l r : Live} {b b' out out' : List ℕ} {x y z u v w : Option (List ℕ)} → MadeMoved n k l b x y u v
+    → TurnMoved l b b' out out' r y z v w → length out ≡ n → k + 1 ≡ j → MadeMoved n j r b' x z u w
+unfolding made_next
+moved_more {n} {k} {j} {l} {r} {b} {b'} {out} {out'} {x} {y} {z} {u} {v} {w} m g e d =
+    let t : Turned l b b' out out' r = g.turned in
+    let c : Came = brought t.read l.have t.got in
+    subst (λ (i : ℕ). MadeMoved n i r b' x z u w) d (record {
+      made = made_next m.made t e;
+      took = consumes_all x y z m.made.read (came_bytes c) m.took g.took;
+      gave = appends_all u v w m.made.written (take t.put (step n c m.made.turn).text) m.gave
+          (subst (λ (q : Turn). Appends v w (take t.put q.text)) (same_step m.made t e) g.gave);
+    })
+
+pub moved_end : {n k : ℕ} {l : Live} {b : List ℕ} {x y u v : Option (List ℕ)} → MadeMoved n k l b x y u v
+    → (is_over l.next ≡ false → k ≡ most_turns) → RunMoved n l x y u v
+unfolding made_end
+moved_end m h = record { ran = made_end m.made h; took = m.took; gave = m.gave }
 
 -- ---- there is room for a read where one is due
 both_short : (c : Bool) {a b : ℕ} → a ≤ longest → b ≤ longest → cond c a b ≤ longest

@@ -3,8 +3,10 @@
 --   silent_live, is_over    nothing to write; the run is over
 --   Leaves                  what a step leaves: its value, and both buffers whole
 --   brought, Untouched      what a read brings; no read is made where none is due
---   eintr, interrupted      what errno tells behind a call that failed
+--   is_interruption, interrupted     what the error tells behind a call that failed
+--   Moves                   an answer of read or of write counts no more bytes than were lent
 --   read_as, Fills          one read: the bytes that waited stay in front
+--   fault_of                the error that a failed call leaves
 --   ReadFits               what was read stands within the input's buffer, and the lines of a record fit into the output's
 --   step_of, stepped        one step of the code's value
 --   write_as, WritesFrom   one write of the bytes that are left
@@ -12,14 +14,18 @@
 --   Written, Writes         how far a text is written, by writes of which each goes on where the one before ended
 --   sent_live               the value behind that
 --   longest, Sound          there is room for a read where one is due, and for the lines of a record
---   Turned                  one turn: a read, its step, and how far its text was written
---   Ran                     a run from the start on
--- Of the bytes read and written, and of errno, no contract of the C library speaks. Assumes nothing: these are definitions.
-use Rattle.std.specs.Prelude.{◌≡◌, Bool, true, false, cond, List, ◌⊎◌, ℕ, ◌+◌, ◌-◌, ◌^◌, ◌≤◌, ◌<◌, eqb, leb, length, take, drop, ℤ, pos, negsuc}
+--   Turned, TurnMoved       one turn: a read, its step, and how far its text was written; the bytes that went through it
+--   Ran, RunMoved           a run from the start on; the bytes that went through it
+-- Of the bytes that come from and go to the system no contract speaks: a reader and a writer may know theirs, as those over memory do.
+-- Assumes nothing: these are definitions.
+use Rattle.std.specs.Prelude.{◌≡◌, Bool, true, false, cond, List, ◌⊎◌, ℕ, ◌+◌, ◌-◌, ◌^◌, ◌≤◌, ◌<◌, eqb, leb, length, take, drop, Result, Ok, Err, Some, None, IfOk}
 use Rattle.std.proofs.lemmas.List.Edits.{sets}
-use Rattle.std.specs.Int.Signed.{lt_z}
-use Rattle.libc.specs.Io.{Moved}
-use Rattle.io.specs.Counts.{clamp_len}
+use Rattle.std.specs.declared.option.Option.{Option}
+use Rattle.std.specs.declared.io.Error.{Error}
+use Rattle.std.specs.declared.io.ErrorKind.{ErrorKind}
+use Rattle.std.specs.declared.io.ErrorKind.TheVariants.{Interrupted}
+use Rattle.std.specs.IoError.{error_kind}
+use Rattle.std.specs.Io.KnownBytes.{Consumes, Appends}
 use Rattle.lines.specs.Put.{room}
 use Rattle.pool.specs.declared.Read.{Read}
 use Rattle.pool.specs.declared.Read.TheVariants.{Bytes, End, Again, Failed}
@@ -28,7 +34,7 @@ use Rattle.pool.specs.declared.Next.{Next}
 use Rattle.pool.specs.declared.Next.TheVariants.{Await, Feed, Refuse, Over}
 use Rattle.pool.specs.declared.Live.{Live}
 use Rattle.pool.specs.declared.Wrote.{Wrote}
-use Rattle.pool.specs.Turns.{Came, bytes, ended, again, failed, Turn, step_by, sent, Turns}
+use Rattle.pool.specs.Turns.{Came, bytes, ended, again, failed, came_bytes, Turn, step_by, sent, Turns}
 
 abbrev pub live_of : Turn → Live
 live_of t = record { service = t.service; have = length t.waiting; offset = t.offset; next = t.next; wrote = length t.text }
@@ -64,26 +70,35 @@ Untouched Feed r b b' = (r ≡ Again) × (b' ≡ b)
 Untouched (Refuse y) r b b' = (r ≡ Again) × (b' ≡ b)
 Untouched (Over y) r b b' = (r ≡ Again) × (b' ≡ b)
 
--- errno where a call was interrupted before it moved a byte
-abbrev pub eintr : ℕ
-eintr = 4
+-- the kind of error where a call was interrupted before it moved a byte
+abbrev pub is_interruption : ErrorKind → Bool
+is_interruption Interrupted = true
+is_interruption k = false
 
-unfoldable pub interrupted : (error : ℤ) → Bool
-interrupted (pos e) = eqb e eintr
-interrupted (negsuc e) = false
+unfoldable pub interrupted : (error : Error) → Bool
+interrupted e = is_interruption (error_kind e)
 
--- an answer of read that counts n more bytes: below 0 an interruption or a failure, as errno tells; the end; or that many bytes are there
-unfoldable pub read_as : (have n : ℕ) → (got error : ℤ) → Read
-read_as h n g e = cond (lt_z g (pos 0)) (cond (interrupted e) Again Failed) (cond (eqb n 0) End (Bytes (h + n)))
+-- so many bytes were lent
+abbrev pub Moves : (lent : ℕ) → Result ℕ Error → Type 0
+Moves n r = IfOk r (λ k. k ≤ n)
 
--- a read leaves in front what waited; `got` and `error` are its answer and errno behind it, and it counts no more than there is room for
+-- an answer of read: an interruption or a failure, as its error tells; the end, where no more bytes came; or that many bytes are there
+unfoldable pub read_as : (have : ℕ) → (got : Result ℕ Error) → Read
+read_as h (Ok n) = cond (eqb n 0) End (Bytes (h + n))
+read_as h (Err e) = cond (interrupted e) Again Failed
+
+-- what a call leaves where errors are told: its error where it failed
+unfoldable pub fault_of : (got : Result ℕ Error) → Option Error → Option Error
+fault_of (Ok n) f = f
+fault_of (Err e) f = cond (interrupted e) f (Some e)
+
+-- a read leaves in front what waited; `got` is its answer, and it counts no more than there is room for
 pub record Fills (b b-now : List ℕ) (have : ℕ) (r : Read) : Type 0 where
-  pub got : ℤ
-  pub error : ℤ
+  pub got : Result ℕ Error
   pub front : take have b-now ≡ take have b
   pub inside : have ≤ length b
-  pub moved : Moved (length b - have) got
-  pub result : r ≡ read_as have (clamp_len got (length b - have)) got error
+  pub moved : Moves (length b - have) got
+  pub result : r ≡ read_as have got
 
 pub record ReadFits (l : Live) (r : Read) (b out : List ℕ) : Type 0 where
   pub have : l.have ≤ length b
@@ -99,18 +114,17 @@ abbrev pub stepped : (n : ℕ) → Live → Read → (b : List ℕ) → Turn
 stepped n l r b = step_of n l.next (brought r l.have b) l b
 
 -- ---- ONE TURN
--- an answer of write that counts n more bytes: below 0 it goes on where it was, if errno tells an interruption; none; or it goes on behind them
-unfoldable pub write_as : (at n : ℕ) → (put error : ℤ) → Wrote
-write_as i n p e =
-    cond (lt_z p (pos 0)) (record { at = i; ok = interrupted e }) (cond (eqb n 0) (record { at = i; ok = false }) (record { at = i + n; ok = true }))
+-- an answer of write: behind an error it goes on where it was, if that tells an interruption; none; or it goes on behind so many more bytes
+unfoldable pub write_as : (at : ℕ) → (put : Result ℕ Error) → Wrote
+write_as i (Ok n) = cond (eqb n 0) (record { at = i; ok = false }) (record { at = i + n; ok = true })
+write_as i (Err e) = record { at = i; ok = interrupted e }
 
--- of n bytes those behind the first `at` are lent; `put` and `error` are the answer and errno behind it
+-- of n bytes those behind the first `at` are lent; `put` is the answer
 pub record WritesFrom (at n : ℕ) (w : Wrote) : Type 0 where
-  pub put : ℤ
-  pub error : ℤ
+  pub put : Result ℕ Error
   pub inside : at ≤ n
-  pub moved : Moved (n - at) put
-  pub result : w ≡ write_as at (clamp_len put (n - at)) put error
+  pub moved : Moves (n - at) put
+  pub result : w ≡ write_as at put
 
 -- a loop counts its turns in 64 bits
 abbrev pub most_turns : ℕ
@@ -156,6 +170,13 @@ pub record Turned (l : Live) (b b-now out out-now : List ℕ) (r : Live) : Type 
   pub output : out-now ≡ sets out 0 (stepped (length out) l read got).text
   pub kept : length (stepped (length out) l read got).waiting ≤ length got
 
+-- a turn, where `rest` is what the reader had left, and `held` what the writer held: what came was taken from the one, and what was
+-- written of the text was added to the other
+pub record TurnMoved (l : Live) (b b-now out out-now : List ℕ) (r : Live) (rest rest-now held held-now : Option (List ℕ)) : Type 0 where
+  pub turned : Turned l b b-now out out-now r
+  pub took : Consumes rest rest-now (came_bytes (brought turned.read l.have turned.got))
+  pub gave : Appends held held-now (take turned.put (stepped (length out) l turned.read turned.got).text)
+
 -- ---- A RUN
 -- so many turns were made, and what the last left is handed back; it stops only where the run is over, or behind `most_turns`
 pub record Ran (n : ℕ) (r : Live) : Type 0 where
@@ -166,3 +187,10 @@ pub record Ran (n : ℕ) (r : Live) : Type 0 where
   pub turns : Turns n count read written turn
   pub result : r ≡ live_of turn
   pub ends : is_over r.next ≡ false → count ≡ most_turns
+
+-- a run, where `rest` is what the reader had left, and `held` what the writer held: what was read was taken from the one, and what was
+-- written was added to the other
+pub record RunMoved (n : ℕ) (r : Live) (rest rest-now held held-now : Option (List ℕ)) : Type 0 where
+  pub ran : Ran n r
+  pub took : Consumes rest rest-now ran.read
+  pub gave : Appends held held-now ran.written

@@ -1,6 +1,7 @@
 // The pooling program of document 01: reads records from standard input and writes their lines to standard output, each as soon as its
 // record is whole. It stops at the end of the input, behind the line of refusal 7, or with a message where a read or a write fails.
 //   Read, Why, Next, Live, Wrote     what came of a read; why the run is over, or what comes next; what goes from turn to turn
+//   interrupted                      whether a call is to be made again
 //   read_as, fill, ask               what an answer of read means; one read, where one is due
 //   keep, comes, take                feeds what there is, and moves the bytes that are not used to the front
 //   silent, refuse                   nothing to write; the line of refusal 7
@@ -8,18 +9,22 @@
 //   write_as, write_from, write      what an answer of write means; all of a text, past interruptions
 //   sent, turn                       what comes behind a write; one turn: a read where one is due, a step, and its text written
 //   is_over, run                     turn after turn, till the run is over
-//   tell, main                       the message of a failure
-// No byte of output is made outside the crate stream.
-ghost use Rattle.std.specs.Prelude.{◌≡◌, ◌+◌, ◌-◌, ◌^◌, ◌≤◌, ◌<◌, length, take, drop};
+//   fail, tell, main                 the message of a failure
+// No byte of output is made outside the crate stream. `fault` is lent to each call that reads or writes: where one fails, its error is left there.
+#![tactic(auto)]
+
+ghost use Rattle.std.specs.Prelude.{◌≡◌, ◌+◌, ◌-◌, ◌^◌, ◌≤◌, ◌<◌, length, take, drop, IfOk};
 ghost use Rattle.std.proofs.lemmas.List.Edits.{sets};
+ghost use Rattle.std.specs.Io.KnownBytes.{Consumes, Appends};
 ghost use Rattle.lines.specs.Put.{room};
 ghost use Rattle.pool.specs.declared.Next.TheVariants.{Await, Refuse};
-ghost use Rattle.pool.specs.Turns.{again, comes, fed_turn};
-ghost use Rattle.pool.specs.Pool.{silent_live, is_over, Leaves, brought, Untouched, read_as, Fills, ReadFits, step_of, stepped};
-ghost use Rattle.pool.specs.Pool.{write_as, WritesFrom, Writes, sent_live, longest, Sound, Turned, Ran};
+ghost use Rattle.pool.specs.Turns.{came_bytes, again, comes, fed_turn};
+ghost use Rattle.pool.specs.Pool.{silent_live, is_over, Leaves, brought, Untouched, interrupted, read_as, fault_of, Fills, ReadFits, step_of, stepped};
+ghost use Rattle.pool.specs.Pool.{write_as, WritesFrom, Writes, sent_live, longest, Sound, Turned, TurnMoved, Ran, RunMoved};
 
-use libc::{STDIN_FILENO, STDOUT_FILENO};
 use service::Service;
+use std::io;
+use std::io::ErrorKind;
 use stream::Stop;
 
 // How many bytes are there then; or the input has ended; or it is to be made again; or it failed.
@@ -67,41 +72,69 @@ pub struct Wrote {
     pub ok: bool,
 }
 
-// What an answer of read means that counts so many more bytes, where errno is that behind it.
-fn read_as(have: usize, more: usize, got: isize, error: i32) -> Read
-    requires { have + more < 2 ^ 64 }
-    ensures { result ≡ read_as have more got error }
+// Whether an error tells that a call was interrupted before it moved a byte, and is to be made again.
+#[tactic(auto, unfolding(crate::specs::Pool::interrupted))]
+fn interrupted(error: io::Error) -> bool
+    ensures { result ≡ interrupted error }
 {
-    if got < 0 {
-        if error == libc::EINTR {
-            return Read::Again;
+    error.kind() == ErrorKind::Interrupted
+}
+
+// What an answer of read means, where `have` bytes wait.
+#[tactic(auto, unfolding(crate::specs::Pool::read_as, crate::specs::Pool::fault_of))]
+fn read_as(have: usize, got: io::Result<usize>, fault: &mut Option<io::Error>) -> Read
+    requires { IfOk got (λ n. have + n < 2 ^ 64) }
+    ensures result { result ≡ read_as have got }
+    ensures fault { fault.new ≡ fault_of got fault.old }
+{
+    match got {
+        Ok(more) => {
+            if more == 0 {
+                return Read::End;
+            }
+            Read::Bytes(have + more)
         }
-        return Read::Failed;
+        Err(error) => {
+            if interrupted(error) {
+                return Read::Again;
+            }
+            *fault = Some(error);
+            Read::Failed
+        }
     }
-    if more == 0 {
-        return Read::End;
-    }
-    Read::Bytes(have + more)
 }
 
 // One read into buf behind its first `have` bytes.
-fn fill(buf: &mut [u8], have: usize) -> Read
+fn fill<R: io::Read>(
+    input: &mut R,
+    buf: &mut [u8],
+    have: usize,
+    fault: &mut Option<io::Error>,
+) -> Read
     requires { have < length buf.old }
-    ensures { Fills buf.old buf.new have result }
+    ensures fills { Fills buf.old buf.new have result }
+    ensures bytes { Consumes (R.remaining input.old) (R.remaining input.new)
+        (came_bytes (brought result have buf.new)) }
 {
-    let got = libc::read(STDIN_FILENO, &mut buf[have..]);
-    let n = io::count(got, &buf[have..]);
-    let error = os::errno();
-    read_as(have, n, got, error)
+    let got = input.read(&mut buf[have..]);
+    read_as(have, got, fault)
 }
 
 // A read where one is due.
-fn ask(next: Next, buf: &mut [u8], have: usize) -> Read
+fn ask<R: io::Read>(
+    input: &mut R,
+    next: Next,
+    buf: &mut [u8],
+    have: usize,
+    fault: &mut Option<io::Error>,
+) -> Read
     requires { (have ≤ length buf.old) × (next ≡ Await → have < length buf.old) }
-    ensures { Fills buf.old buf.new have result × Untouched next result buf.old buf.new }
+    ensures fills { Fills buf.old buf.new have result × Untouched next result buf.old buf.new }
+    ensures bytes { Consumes (R.remaining input.old) (R.remaining input.new)
+        (came_bytes (brought result have buf.new)) }
 {
     match next {
-        Next::Await => fill(buf, have),
+        Next::Await => fill(input, buf, have, fault),
         Next::Feed => Read::Again,
         Next::Refuse(_) => Read::Again,
         Next::Over(_) => Read::Again,
@@ -194,10 +227,8 @@ fn wait(live: Live, read: Read, buf: &mut [u8], out: &mut [u8]) -> Live
     ensures { Leaves (step_of (length out.old) Await (brought read live.have buf.old) live buf.old)
         buf.old buf.new out.old out.new result }
 {
-    let service = live.service;
-    let offset = live.offset;
     match read {
-        Read::Bytes(n) => take(service, offset, buf, n, out),
+        Read::Bytes(n) => take(live.service, live.offset, buf, n, out),
         Read::End => {
             if live.have == 0 {
                 return silent(live, Next::Over(Why::EndOfInput));
@@ -215,53 +246,65 @@ fn step(live: Live, read: Read, buf: &mut [u8], out: &mut [u8]) -> Live
     ensures { Leaves (stepped (length out.old) live read buf.old)
         buf.old buf.new out.old out.new result }
 {
-    let service = live.service;
-    let offset = live.offset;
-    let have = live.have;
-    let next = live.next;
-    match next {
+    match live.next {
         Next::Await => wait(live, read, buf, out),
-        Next::Feed => take(service, offset, buf, have, out),
+        Next::Feed => take(live.service, live.offset, buf, live.have, out),
         Next::Refuse(why) => refuse(live, why, buf, out),
         Next::Over(why) => silent(live, Next::Over(why)),
     }
 }
 
-// How far a text is written, and whether to go on, behind an answer of write that counts n more bytes: a failure goes on only where errno
-// tells an interruption, and an answer that counts none does not.
-fn write_as(at: usize, n: usize, put: isize, error: i32) -> Wrote
-    requires { at + n < 2 ^ 64 }
-    ensures { result ≡ write_as at n put error }
+// How far a text is written, and whether to go on, behind an answer of write: a failure goes on only where its error tells an interruption,
+// and an answer that counts no byte does not.
+#[tactic(auto, unfolding(crate::specs::Pool::write_as))]
+fn write_as(at: usize, put: io::Result<usize>, fault: &mut Option<io::Error>) -> Wrote
+    requires { IfOk put (λ n. at + n < 2 ^ 64) }
+    ensures { result ≡ write_as at put }
 {
-    if put < 0 {
-        return Wrote {
-            at,
-            ok: error == libc::EINTR,
-        };
-    }
-    if n == 0 {
-        return Wrote { at, ok: false };
-    }
-    Wrote {
-        at: at + n,
-        ok: true,
+    match put {
+        Ok(n) => {
+            if n == 0 {
+                *fault = Some(io::Error::from(ErrorKind::WriteZero));
+                return Wrote { at, ok: false };
+            }
+            Wrote {
+                at: at + n,
+                ok: true,
+            }
+        }
+        Err(error) => {
+            if !interrupted(error) {
+                *fault = Some(error);
+            }
+            Wrote {
+                at,
+                ok: interrupted(error),
+            }
+        }
     }
 }
 
 // One write of text from `at` on.
-fn write_from(text: &[u8], at: usize) -> Wrote
+fn write_from<W: io::Write>(
+    output: &mut W,
+    text: &[u8],
+    at: usize,
+    fault: &mut Option<io::Error>,
+) -> Wrote
     requires { at ≤ length text.now }
-    ensures { WritesFrom at (length text.now) result }
+    ensures result { WritesFrom at (length text.now) result }
+    ensures bytes { Appends (W.contents output.old) (W.contents output.new)
+        (drop at (take result.at text.now)) }
 {
-    let put = libc::write(STDOUT_FILENO, &text[at..]);
-    let n = io::count(put, &text[at..]);
-    let error = os::errno();
-    write_as(at, n, put, error)
+    let put = output.write(&text[at..]);
+    write_as(at, put, fault)
 }
 
 // Writes all of text, and answers how far it is written, and whether that is all.
-fn write(text: &[u8]) -> Wrote
-    ensures { Writes (length text.now) result }
+fn write<W: io::Write>(output: &mut W, text: &[u8], fault: &mut Option<io::Error>) -> Wrote
+    ensures result { Writes (length text.now) result }
+    ensures bytes { Appends (W.contents output.old) (W.contents output.new)
+        (take result.at text.now) }
 {
     let mut at = 0;
     let mut turns = u64::MAX;
@@ -269,7 +312,7 @@ fn write(text: &[u8]) -> Wrote
         if text.len() <= at {
             return Wrote { at, ok: true };
         }
-        let wrote = write_from(text, at);
+        let wrote = write_from(output, text, at, fault);
         if !wrote.ok {
             return Wrote { at, ok: false };
         }
@@ -283,6 +326,7 @@ fn write(text: &[u8]) -> Wrote
 }
 
 // Behind a text that is written as far as this.
+#[tactic(auto, unfolding(crate::specs::Pool::sent_live))]
 fn sent(live: Live, wrote: Wrote) -> Live
     ensures { result ≡ sent_live live wrote }
 {
@@ -307,15 +351,25 @@ fn sent(live: Live, wrote: Wrote) -> Live
 }
 
 // One turn: a read where one is due, what comes of it, and its text written.
-fn turn(live: Live, buf: &mut [u8], out: &mut [u8]) -> Live
+fn turn<R: io::Read, W: io::Write>(
+    input: &mut R,
+    output: &mut W,
+    live: Live,
+    buf: &mut [u8],
+    out: &mut [u8],
+    fault: &mut Option<io::Error>,
+) -> Live
     requires { Sound live buf.old out.old }
-    ensures { Turned live buf.old buf.new out.old out.new result }
+    ensures turned { Turned live buf.old buf.new out.old out.new result }
+    ensures bytes { TurnMoved live buf.old buf.new out.old out.new result
+        (R.remaining input.old) (R.remaining input.new)
+        (W.contents output.old) (W.contents output.new) }
 {
     let next = live.next;
-    let read = ask(next, buf, live.have);
+    let read = ask(input, next, buf, live.have, fault);
     let after = step(live, read, buf, out);
     let n = after.wrote;
-    let wrote = write(&out[..n]);
+    let wrote = write(output, &out[..n], fault);
     sent(after, wrote)
 }
 
@@ -331,9 +385,18 @@ fn is_over(next: Next) -> bool
 }
 
 // Turn after turn, from a new service on, till the run is over.
-fn run(buf: &mut [u8], out: &mut [u8]) -> Live
+fn run<R: io::Read, W: io::Write>(
+    input: &mut R,
+    output: &mut W,
+    buf: &mut [u8],
+    out: &mut [u8],
+    fault: &mut Option<io::Error>,
+) -> Live
     requires { (longest ≤ length buf.old) × (room ≤ length out.old) }
-    ensures { Ran (length out.old) result }
+    ensures ran { Ran (length out.old) result }
+    ensures bytes { RunMoved (length out.old) result
+        (R.remaining input.old) (R.remaining input.new)
+        (W.contents output.old) (W.contents output.new) }
 {
     let service = Service::new();
     let mut live = Live {
@@ -349,32 +412,51 @@ fn run(buf: &mut [u8], out: &mut [u8]) -> Live
         if is_over(next) {
             return live;
         }
-        live = turn(live, buf, out);
+        live = turn(input, output, live, buf, out, fault);
         turns -= 1;
     }
     live
 }
 
+// The message of a failure, on standard error. Where that cannot be written either, nothing is told.
+fn fail(rt: &HostRuntime, what: &str, fault: Option<io::Error>) {
+    let told = match fault {
+        Some(error) => eprintln!(rt; "pool: {what}: {error}"),
+        None => eprintln!(rt; "pool: {what}"),
+    };
+    match told {
+        Ok(()) => {}
+        Err(_) => {}
+    }
+}
+
 // A failure has its message; every other end has none.
-fn tell(why: Why) {
+fn tell(rt: &HostRuntime, why: Why, fault: Option<io::Error>) {
     match why {
         Why::EndOfInput => {}
         Why::CutShort => {}
         Why::UnknownKind => {}
         Why::TooFar => {}
-        Why::ReadFailed => os::fail(b"pool: standard input"),
-        Why::WriteFailed => os::fail(b"pool: standard output"),
+        Why::ReadFailed => fail(rt, "standard input", fault),
+        Why::WriteFailed => fail(rt, "standard output", fault),
     }
 }
 
-fn main() {
-    let mut input = io::large_buffer();
-    let mut output = io::large_buffer();
-    let buf: &mut [u8] = &mut input;
-    let out: &mut [u8] = &mut output;
-    let last = run(buf, out);
-    let next = last.next;
-    if let Next::Over(why) = next {
-        tell(why);
+// Room for a read, and for the text of a turn.
+const BYTES: usize = 65536;
+
+fn main(rt: HostRuntime) {
+    let mut input = [0u8; BYTES];
+    let mut output = [0u8; BYTES];
+    let mut fault: Option<io::Error> = None;
+    let last = run(
+        &mut rt.stdin(),
+        &mut rt.stdout(),
+        &mut input,
+        &mut output,
+        &mut fault,
+    );
+    if let Next::Over(why) = last.next {
+        tell(&rt, why, fault);
     }
 }
