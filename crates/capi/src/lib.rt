@@ -9,6 +9,8 @@
 //   pooling                 the pooling service
 // A refused call hands back its number, and leaves every buffer as it came.
 // Lists come first: they are pointer and length in registers, as C passes them.
+#![tactic(auto)]
+
 ghost use Rattle.std.specs.Prelude.{◌≡◌, length};
 ghost use Rattle.scheme.specs.Scheme.{sixteen, counts, signed, key_refusal, key_left};
 ghost use Rattle.scheme.specs.Drawn.{list_refusal, list_left};

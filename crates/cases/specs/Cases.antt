@@ -23,7 +23,7 @@ use Rattle.std.proofs.Math.Option.{some}
 use Rattle.std.proofs.Common.{lit<}
 use Rattle.algebra.specs.Residue.{inverse}
 use Rattle.scheme.specs.Lists.{span}
-use Rattle.scheme.specs.Scheme.{q, sixteen, plan_good, counts, signed, list_length, key, key_length, start_refusal, key_refusal, key_left}
+use Rattle.scheme.specs.Scheme.{q, sixteen, plan_good, counts, signed, list_length, key_length, start_refusal, key_refusal, key_left}
 use Rattle.scheme.specs.Drawn.{list_refusal, list_left}
 use Rattle.scheme.specs.Promise.{Table, shown}
 use Rattle.scheme.specs.Signed.{residue}
