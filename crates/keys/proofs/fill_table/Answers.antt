@@ -6,14 +6,12 @@ use native.Mathlib.Omega.{arith}
 use lib.ListN.{get_or}
 use lib.Seq.{sets}
 use Rattle.scheme.specs.Limits.{most_blocks}
-use Rattle.scheme.specs.Lists.{span}
-use Rattle.scheme.specs.Scheme.{sixteen}
+use Rattle.scheme.specs.Lists.{span, filled}
+use Rattle.scheme.specs.Scheme.{sixteen, q}
 use Rattle.scheme.specs.KeyParts.{table_cells, added_row, Table}
 use Rattle.scheme.proofs.Modular.{sixteen_sums}
 use Rattle.scheme.proofs.Making.Sums.{added_copy}
 use Rattle.scheme.proofs.Making.Tables.{Filling, filling_start, filling_low, filling_small, filling_more, filling_same, filling_next}
-use Rattle.scheme.specs.Lists.{filled}
-use Rattle.scheme.specs.Scheme.{q}
 use Rattle.keys.proofs.fill_table.Goals as goal
 
 -- the table with the row of the turn

@@ -1,16 +1,16 @@
 -- `keys::make_key` meets its contract: past the refusals, the user's masks and behind them its shares fill the buffer (Making.Writing.key_whole).
-use mathlib.Core.Path.{◌≡◌, sym, ◌∙◌}
+use mathlib.Core.Path.{◌≡◌, sym, ◌∙◌, ap}
+use mathlib.Core.List.{List}
+use Prim.Native.Nat.{ℕ}
 use native.Mathlib.Omega.{arith}
 use lib.ListN.{length}
-use Rattle.scheme.specs.Scheme.{sixteen, key_length, key_refusal}
+use lib.Seq.{length-sets}
+use Rattle.scheme.specs.Scheme.{sixteen, key_length, key_refusal, Plan}
 use Rattle.scheme.specs.KeyParts.{KeyInput}
 use Rattle.scheme.proofs.Refusals.{after_taken, after_refused}
 use Rattle.scheme.proofs.Making.Writing.{key_accepted, key_whole}
 use Rattle.plan.specs.Plan.{plan_of}
 use Rattle.scheme.proofs.PlanBounds.{masks_inside}
-use Rattle.std.proofs.Common.{List, ℕ, ap}
-use lib.Seq.{length-sets}
-use Rattle.scheme.specs.Scheme.{Plan}
 use Rattle.keys.proofs.make_key.Goals as goal
 
 -- past the refusals

@@ -1,7 +1,7 @@
 -- `keys::members_of` meets its contract: antt counts the ones of each arm's number, a line each. Assumes nothing.
+use mathlib.Core.Path.{◌≡◌, refl}
 use native.Mathlib.Omega.{arith}
 use Rattle.scheme.specs.Scheme.{ones}
-use Rattle.std.proofs.Common.{◌≡◌, refl}
 use Rattle.keys.proofs.members_of.Goals as goal
 
 pub returns-in-0 : goal.returns-in-0

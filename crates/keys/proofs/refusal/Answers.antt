@@ -1,12 +1,12 @@
 -- `keys::refusal` meets its contract: each return is the definition under the tests that led there.
 use mathlib.Core.Path.{◌≡◌, sym, ◌∙◌}
+use mathlib.Core.List.{List}
+use Prim.Native.Nat.{ℕ}
 use native.Mathlib.Omega.{arith}
 use lib.ListN.{length}
 use borrow.Author.Tests.{eq-eqb, ne_eqb}
-use Rattle.scheme.specs.Scheme.{sixteen, elements, unless, start_refusal, key_refusal, list_length, ◌then◌}
+use Rattle.scheme.specs.Scheme.{sixteen, elements, unless, start_refusal, key_refusal, list_length, ◌then◌, Plan, key_length}
 use Rattle.scheme.proofs.Refusals.{then_refused, unless_held, unless_failed, start_taken}
-use Rattle.std.proofs.Common.{List, ℕ}
-use Rattle.scheme.specs.Scheme.{Plan, key_length}
 use Rattle.keys.proofs.refusal.Goals as goal
 
 -- only test 3 is left

@@ -1,12 +1,12 @@
 -- `keys::write_half` meets its contract: what is written so far is the shares for the sets so far (KeyParts.Written). Assumes nothing.
 use mathlib.Core.Path.{◌≡◌, refl, sym, ap, ap₂, ◌∙◌}
 use mathlib.Core.Bool.{true}
-use Prim.Native.Nat.{ℕ, ◌+◌, ◌*◌, ◌^◌, ◌≤◌, ◌<◌}
+use Prim.Native.Nat.{ℕ, ◌+◌, ◌*◌, ◌^◌, ◌≤◌, ◌<◌, ◌%◌}
 use native.Mathlib.Nat.{mod-eq_of_lt}
 use native.Mathlib.Omega.{arith}
 use lib.Dec.{leb}
 use borrow.Author.Tests.{le-leb, lt-leb}
-use Rattle.scheme.specs.Scheme.{sixteen, ones, usable, usable_with}
+use Rattle.scheme.specs.Scheme.{sixteen, ones, usable, usable_with, Plan, in_set, noise_start, reply_start, list_length, key_length}
 use Rattle.scheme.specs.KeyParts.{half, half_sets}
 use Rattle.scheme.proofs.Tests.{and_joined}
 use Rattle.scheme.proofs.Sets.{usable_split}
@@ -14,9 +14,7 @@ use Rattle.scheme.proofs.PlanBounds.{reply_inside}
 use Rattle.scheme.proofs.Making.Places.{noise_room}
 use Rattle.scheme.proofs.Making.Writing.{written_join, written_in, written_pass, written_out}
 use Rattle.plan.specs.Plan.{plan_of}
-use Prim.Native.Nat.{◌%◌}
 use Rattle.scheme.specs.Good.{Good}
-use Rattle.scheme.specs.Scheme.{Plan, in_set, noise_start, reply_start, list_length, key_length}
 use Rattle.keys.proofs.write_half.Goals.{then-plan-have+then-holds, then-plan-have+else-holds, else-plan-have}
 use Rattle.keys.proofs.write_half.Goals as goal
 

@@ -5,7 +5,7 @@ use Prim.Native.Nat.{ℕ, ◌+◌, ◌*◌, ◌/◌, ◌%◌, ◌^◌, ◌≤◌
 use native.Mathlib.Nat.{mod-eq_of_lt}
 use native.Mathlib.Omega.{arith}
 use borrow.Author.Tests.{lt-leb}
-use Rattle.scheme.specs.Scheme.{sixteen, items, ones, usable}
+use Rattle.scheme.specs.Scheme.{sixteen, items, ones, usable, Plan}
 use Rattle.scheme.specs.KeyParts.{half, half_sets}
 use Rattle.scheme.proofs.Sets.{ones_le, usable_split}
 use Rattle.scheme.proofs.Modular.{sixteen_sums}
@@ -15,7 +15,6 @@ use Rattle.scheme.proofs.Making.Sums.{tables_ready}
 use Rattle.scheme.proofs.Making.Writing.{written_start, written_join, written_none, written_end}
 use Rattle.plan.specs.Plan.{plan_of}
 use Rattle.scheme.specs.Good.{Good}
-use Rattle.scheme.specs.Scheme.{Plan}
 use Rattle.keys.proofs.write_sets.Goals.{then-plan-have, else-plan-have}
 use Rattle.keys.proofs.write_sets.Goals as goal
 

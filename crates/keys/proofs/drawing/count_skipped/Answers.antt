@@ -2,8 +2,8 @@
 use native.Mathlib.Omega.{arith}
 use Rattle.scheme.specs.Scheme.{sixteen}
 use Rattle.scheme.proofs.Drawing.Reading.{skipped_more_in, skipped_more_out}
-use Rattle.keys.proofs.drawing.count_skipped.Goals as goal
 use Rattle.keys.proofs.drawing.count_skipped.Goals.{else-number_at-ge-Q16, then-number_at-ge-Q16}
+use Rattle.keys.proofs.drawing.count_skipped.Goals as goal
 
 pub loop-i-preserved : goal.loop-i-preserved
 loop-i-preserved c =

@@ -2,8 +2,8 @@
 use native.Mathlib.Omega.{arith}
 use Rattle.scheme.specs.Scheme.{sixteen}
 use Rattle.scheme.proofs.Drawing.DrawnTo.{drawn_to_more_in, drawn_to_more_out}
-use Rattle.keys.proofs.drawing.pick_elements.Goals as goal
 use Rattle.keys.proofs.drawing.pick_elements.Goals.{else-x-lt-Q16, then-x-lt-Q16}
+use Rattle.keys.proofs.drawing.pick_elements.Goals as goal
 
 pub loop-i-preserved : goal.loop-i-preserved
 loop-i-preserved c =

@@ -1,13 +1,13 @@
 -- `keys::drawing::refusal` meets its contract: each return is the definition under the tests that led there.
 use mathlib.Core.Path.{◌≡◌, sym, ◌∙◌}
 use mathlib.Core.Bool.{true}
+use mathlib.Core.List.{List}
+use Prim.Native.Nat.{ℕ}
 use borrow.Author.Tests.{eq-eqb, ne_eqb}
-use Rattle.scheme.specs.Scheme.{sixteen, plan_good, unless, ◌then◌}
+use Rattle.scheme.specs.Scheme.{sixteen, plan_good, unless, ◌then◌, Plan, list_length}
 use Rattle.scheme.specs.Drawn.{fills, list_refusal}
 use Rattle.scheme.proofs.Refusals.{unless_held, unless_failed}
 use Rattle.scheme.proofs.Good.{good}
-use Rattle.std.proofs.Common.{List, ℕ}
-use Rattle.scheme.specs.Scheme.{Plan, list_length}
 use Rattle.keys.proofs.drawing.refusal.Goals as goal
 
 -- only test 31 is left
