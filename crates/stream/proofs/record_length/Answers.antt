@@ -1,6 +1,6 @@
 -- `stream::record_length` meets its contract: of each kind the definition computes.
 -- Assumes nothing.
-use Rattle.std.proofs.Common.{ℕ, ◌≢◌, arith}
+use Rattle.std.proofs.Common.{arith}
 use borrow.Author.Tests.{ne_eqb}
 use Rattle.stream.specs.Stream.{record_length}
 use Rattle.stream.proofs.record_length.Goals as goal
@@ -33,5 +33,4 @@ pub returns-in_default : goal.returns-in_default
 unfolding record_length
 returns-in_default c =
     let k = c.args.kind in
-    let other = λ (n : ℕ) (h : k ≢ n). ne_eqb k n h in
-    simp (other 1 (omega arith), other 2 (omega arith), other 3 (omega arith), other 4 (omega arith), other 5 (omega arith), other 6 (omega arith))
+    simp (ne_eqb k 1 (omega arith), ne_eqb k 2 (omega arith), ne_eqb k 3 (omega arith), ne_eqb k 4 (omega arith), ne_eqb k 5 (omega arith), ne_eqb k 6 (omega arith))

@@ -1,6 +1,6 @@
 -- `stream::run_first` meets its contract: each turn takes one record more in silence.
 -- Assumes nothing.
-use Rattle.std.proofs.Common.{◌≡◌, ◌+◌, ◌≤◌, ◌<◌, length, sym, ◌∙◌, arith}
+use Rattle.std.proofs.Common.{◌≡◌, ◌+◌, ◌≤◌, length, sym, ◌∙◌, arith}
 use Rattle.scheme.specs.Limits.{most_places, firsts}
 use Rattle.service.specs.View.{row_start}
 use Rattle.stream.specs.Stream.{stays, goes_on}

@@ -1,19 +1,12 @@
 -- `stream::run_first` meets its contract: each turn takes one record more in silence.
 -- Assumes nothing.
-use mathlib.Core.Path.{◌≡◌, sym, ◌∙◌}
-use mathlib.Core.Logic.{⊎_elim}
 use mathlib.Core.List.{List}
-use Prim.Native.Nat.{ℕ, ◌+◌, ◌-◌, ◌≤◌, ◌<◌}
-use native.Mathlib.Omega.{arith}
+use Prim.Native.Nat.{ℕ, ◌-◌, ◌≤◌, ◌<◌}
 use lib.ListN.{length}
-use borrow.Author.Rules.{rules}
-use borrow.Author.Tests.{leb-false, not-false}
-use Rattle.scheme.specs.Limits.{most_places, firsts}
-use Rattle.scheme.specs.Scheme.{q}
-use Rattle.service.specs.View.{row_start}
+use Rattle.scheme.specs.Limits.{most_places}
 use Rattle.service.specs.Calls.{lent}
-use Rattle.stream.specs.Stream.{SilentRun, stays, goes_on}
-use Rattle.stream.proofs.Runs.{Row, row_new, row_kept, row_inside, comes, first_silent}
+use Rattle.stream.specs.Stream.{SilentRun}
+use Rattle.stream.proofs.Runs.{Row}
 use Rattle.stream.proofs.run_first.Given as goal
 
 abbrev pub invariant-loop-at : goal.invariant-loop-at

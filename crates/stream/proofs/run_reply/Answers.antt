@@ -1,6 +1,6 @@
 -- `stream::run_reply` meets its contract: each turn takes one record more in silence.
 -- Assumes nothing.
-use Rattle.std.proofs.Common.{◌≡◌, ℕ, ◌+◌, ◌/◌, ◌≤◌, ◌<◌, length, sym, ap, ◌∙◌, arith}
+use Rattle.std.proofs.Common.{◌≡◌, ℕ, ◌+◌, ◌/◌, ◌≤◌, length, sym, ap, ◌∙◌, arith}
 use mathlib.Core.Bool.{true}
 use Rattle.scheme.specs.Limits.{most_blocks, cells}
 use Rattle.scheme.specs.Scheme.{in_set}

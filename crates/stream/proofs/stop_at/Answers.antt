@@ -1,6 +1,5 @@
 -- `stream::stop_at` meets its contract: the tests that led to each return decide the definition's.
 -- Assumes nothing.
-use borrow.Author.Rules.{rules}
 use borrow.Author.Tests.{eq-eqb, ne_eqb, le-leb, lt-leb}
 use Rattle.stream.specs.Stream.{stop_at}
 use Rattle.stream.proofs.stop_at.Goals as goal
