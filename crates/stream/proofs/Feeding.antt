@@ -1,5 +1,5 @@
 -- How far feed is, and what it hands back.
---   Ready, ready, ready_true, ready_false   what a record that is taken has
+--   Ready, ready, ready_true, ready_false, tested   what a record that is taken has; tests that tell it
 --   stop_used                               none is taken where the chunk ends
 --   said, behind                            the line of the record at a place, and the state behind it
 --   Along, along_start, along_more          the bytes used so far are whole records, and state and length written are theirs
@@ -51,6 +51,9 @@ ready_true {b} {at} {left} r =
 
 pub ready_false : (b : List ℕ) (at left : ℕ) → (Ready b at left → ⊥) → ready_at b at left ≡ false
 ready_false b at left h = is_false _ (λ e. h (ready b at left e))
+
+pub tested : {b : List ℕ} {at left n : ℕ} → n ≡ length_at b at → n ≢ 0 → at < length b → n ≤ length b - at → room ≤ left → Ready b at left
+tested e h i l f = record { known = λ z. h (e ∙ z); whole = record { inside = i; whole = omega (arith, e) }; fits = f }
 
 pub stop_used : (b : List ℕ) (at : ℕ) → length b ≤ at → Used ≡ stop_at b at
 unfolding stop_at

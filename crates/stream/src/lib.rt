@@ -8,6 +8,8 @@
 //   stop_at, halt                              why no record is taken at a place, and what is then handed back
 //   feed, feed_records                         takes the whole records of a chunk in order; the same where no offset passes 64 bits
 //   cut                                        the line of refusal 7, for an unknown kind or a record that the end of the input cuts short
+#![tactic(auto)]
+
 ghost use Rattle.std.specs.Prelude.{◌≡◌, true, List, ℕ, ◌+◌, ◌*◌, ◌/◌, ◌%◌, ◌^◌, ◌≤◌, ◌<◌, length, get_or, take};
 ghost use Rattle.std.proofs.lemmas.List.Edits.{sets};
 ghost use Rattle.scheme.specs.Service.{not_gathering, not_replying, plan_record, open_record, close_record, finish_record};
@@ -466,8 +468,8 @@ fn feed_records(start: Service, b: &[u8], offset: u64, out: &mut [u8]) -> Fed
     ensures result { result ≡ fed start b.now offset (length out.old) }
     ensures left { out.new ≡ sets out.old 0 (lines start offset (take result.at b.now)) }
 {
-    let mut state = start;
     let mut reply = start.reply;
+    let mut state = start;
     let mut at: usize = 0;
     let mut wrote: usize = 0;
     while at < b.len() {

@@ -1,0 +1,10 @@
+-- `stream::take_close` meets its contract: the call's answer decides the line.
+-- Assumes nothing.
+use Rattle.stream.proofs.Turns.{turn_taken, turn_refused, close_says}
+use Rattle.stream.proofs.take_close.Goals as goal
+
+pub returns-then-number-ne0 : goal.returns-then-number-ne0
+returns-then-number-ne0 c = turn_refused _ _ (close_says _ c.close_lent-step.ensures) c.if-number-ne0.true c.put_refusal-wrote.ensures.put
+
+pub returns : goal.returns
+returns c = turn_taken _ _ (close_says _ c.close_lent-step.ensures) c.if-number-ne0.false (c.put_survivors-wrote.ensures.put _)
