@@ -58,6 +58,7 @@ pub struct Checked {
 }
 
 // Number, stage and elements of an answer, the first that differs.
+#[tactic(auto, unfolding(crate::specs::Judged::judged))]
 fn judge(got: u32, wanted: u32, stage: bool, elements: bool) -> Verdict
     ensures { result ≡ judged got wanted stage elements }
 {
@@ -80,6 +81,7 @@ fn agree(got: u32, wanted: u32) -> Verdict
 }
 
 // Number of an answer and what comes with it, the first that differs; `otherwise` is the verdict where it is the second.
+#[tactic(auto, unfolding(crate::specs::Judged::judged_pair))]
 fn judge_pair(number: u32, wanted: u32, second: u32, expected: u32, otherwise: Verdict) -> Verdict
     ensures { result ≡ judged_pair number wanted second expected otherwise }
 {

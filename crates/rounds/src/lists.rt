@@ -71,6 +71,7 @@ pub fn number_at(s: &[u16], i: usize) -> u32
 // A round's low sixteen bits come first.
 const HIGH: u32 = 65536;
 
+#[tactic(auto, unfolding(crate::specs::Lists::round_of))]
 pub fn round_at(s: &[u16], i: usize) -> u32
     ensures { result ≡ round_of s.now i }
 {

@@ -7,24 +7,18 @@
 //   stream_lines    the example stream, cut in two at every byte: the printed lines; and the line of refusal 7
 //   main            the examples, then the input (calls/input.rt)
 // Document 01's airfield is a user here.
+#![tactic(auto)]
+
 mod calls;
 mod lists;
 
 use calls::maker::make_into;
 use client::Client;
-use libc::STDOUT_FILENO;
 use lists::{front, marked};
 use plan::{Plan, Use};
 use service::Service;
+use std::io;
 use stream::{Fed, Stop};
-
-fn say(text: &[u8]) {
-    io::write_all(STDOUT_FILENO, text);
-}
-
-fn say_number(n: u64) {
-    io::print_decimal(STDOUT_FILENO, n);
-}
 
 // "Plan 8 2 1 16: random list 4080, each key 2048 elements."
 const EXAMPLE_USERS: u32 = 8;
@@ -214,7 +208,7 @@ fn lines_are(text: &[u8], wrote: usize, more: usize, lines: &[u8]) -> bool {
     if text.len() - wrote < more {
         return false;
     }
-    check::same(piece(text, 0, wrote + more), lines)
+    piece(text, 0, wrote + more) == lines
 }
 
 // The first `cut` bytes are fed, then the rest from where feed stopped.
@@ -264,35 +258,30 @@ fn stream_lines(text: &mut [u8; BYTES]) -> bool {
         return false;
     }
     let wrote = stream::cut(34, text);
-    check::same(piece(text, 0, wrote), b"refused 7 at 34\n")
+    piece(text, 0, wrote) == b"refused 7 at 34\n".as_slice()
 }
 
-fn main() {
+fn main(rt: HostRuntime) -> io::Result<()> {
     if !lengths_right() {
-        say(b"plan 8 2 1 16: a length differs\n");
-        return;
+        return println!(rt; "plan 8 2 1 16: a length differs");
     }
-    say(b"plan 8 2 1 16: list 4080, each key 2048\n");
+    println!(rt; "plan 8 2 1 16: list 4080, each key 2048")?;
     if !bounds_right() {
-        say(b"largest figures: one differs\n");
-        return;
+        return println!(rt; "largest figures: one differs");
     }
-    say(b"largest counts: 8190 of eight airfields, 21840 of three\n");
-    say(b"largest signed figures: 4095 of eight airfields, 10920 of three\n");
+    println!(rt; "largest counts: 8190 of eight airfields, 21840 of three")?;
+    println!(rt; "largest signed figures: 4095 of eight airfields, 10920 of three")?;
     if !limits_right() {
-        say(b"limits: a length or a largest figure differs\n");
-        return;
+        return println!(rt; "limits: a length or a largest figure differs");
     }
     if !elements_right() {
-        say(b"limits: an element is judged otherwise\n");
-        return;
+        return println!(rt; "limits: an element is judged otherwise");
     }
-    say(b"limits: taken at each, refused past it\n");
-    let mut text = io::large_buffer();
+    println!(rt; "limits: taken at each, refused past it")?;
+    let mut text = [0u8; BYTES];
     if !stream_lines(&mut text) {
-        say(b"example stream: a line differs\n");
-        return;
+        return println!(rt; "example stream: a line differs");
     }
-    say(b"example stream: as printed, cut at every byte\n");
-    calls::input::read_all();
+    println!(rt; "example stream: as printed, cut at every byte")?;
+    calls::input::read_all(&rt)
 }

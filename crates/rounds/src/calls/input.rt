@@ -1,5 +1,5 @@
 // The input, line by line.
-//   Got, Run, fill              what a read gave; how far the run has come; one read
+//   Run                         how far the run has come
 //   tell, agrees                what differs; whether a line agrees
 //   whole, take_chunk           a whole line; the lines of a chunk
 //   finished, ended             the end of the input
@@ -10,18 +10,11 @@ ghost use Rattle.rounds.specs.Judged.{agreed};
 use super::line::{Line, new_line, read_on};
 use super::{Case, Verdict, check, new_case};
 use crate::lists::{SPACE, front, space};
-use crate::{BYTES, piece, say, say_number};
-use libc::STDIN_FILENO;
+use crate::{BYTES, piece};
 use plan::Plan;
 use service::Service;
-
-#[derive(Drop)]
-enum Got {
-    Bytes(usize),
-    End,
-    Again,
-    Failed,
-}
+use std::io;
+use std::io::{ErrorKind, Read};
 
 // The line under way and the case; how many lines and cases are whole; and what the last line showed.
 #[derive(Drop)]
@@ -34,41 +27,25 @@ struct Run {
     done: bool,
 }
 
-// One read: how many bytes are there.
-fn fill(buf: &mut [u8]) -> Got {
-    let got = libc::read(STDIN_FILENO, buf);
-    if got == 0 {
-        return Got::End;
-    }
-    if got < 0 {
-        if os::errno() == libc::EINTR {
-            return Got::Again;
-        }
-        return Got::Failed;
-    }
-    Got::Bytes(io::count(got, buf))
-}
-
 // What a line showed that does not agree.
-fn tell(run: Run) {
-    let verdict = run.verdict;
-    say(b"case ");
-    say_number(run.cases);
-    say(b", line ");
-    say_number(run.lines);
-    match verdict {
-        Verdict::Agrees => say(b": agrees\n"),
-        Verdict::Damaged => say(b": no line of a case\n"),
-        Verdict::Number => say(b": another number is answered\n"),
-        Verdict::Stage => say(b": the end is at another stage\n"),
-        Verdict::Set => say(b": another set is handed back\n"),
-        Verdict::Aside => say(b": another airfield is set aside\n"),
-        Verdict::Start => say(b": another start is told\n"),
-        Verdict::Value => say(b": another value is read\n"),
-        Verdict::Elements => say(b": other elements are handed back\n"),
-    }
+fn tell(rt: &HostRuntime, run: &Run) -> io::Result<()> {
+    let shown = match run.verdict {
+        Verdict::Agrees => "agrees",
+        Verdict::Damaged => "no line of a case",
+        Verdict::Number => "another number is answered",
+        Verdict::Stage => "the end is at another stage",
+        Verdict::Set => "another set is handed back",
+        Verdict::Aside => "another airfield is set aside",
+        Verdict::Start => "another start is told",
+        Verdict::Value => "another value is read",
+        Verdict::Elements => "other elements are handed back",
+    };
+    let cases = run.cases;
+    let lines = run.lines;
+    println!(rt; "case {cases}, line {lines}: {shown}")
 }
 
+#[tactic(auto, unfolding(crate::specs::Judged::agreed))]
 fn agrees(verdict: Verdict) -> bool
     ensures { result ≡ agreed verdict }
 {
@@ -95,9 +72,9 @@ fn whole(run: Run, line: Line, numbers: &[u16; SPACE], lent: &mut [u16; SPACE]) 
     let checked = check(case, letter, front(numbers, count), lent);
     let next = checked.case;
     let verdict = checked.verdict;
-    let lines = std::num::wrapping_add_u64(run.lines, 1);
+    let lines = run.lines.wrapping_add(1);
     let cases = if letter == b'p' {
-        std::num::wrapping_add_u64(run.cases, 1)
+        run.cases.wrapping_add(1)
     } else {
         run.cases
     };
@@ -145,38 +122,39 @@ fn finished(mut run: Run) -> Run {
 }
 
 // The end of the input: it must be the end of a line.
-fn ended(run: Run) -> Run {
-    let line = run.line;
-    if line.letter != 0 {
-        say(b"the input ends within a line\n");
-        return finished(run);
+fn ended(rt: &HostRuntime, run: Run) -> io::Result<Run> {
+    if run.line.letter != 0 {
+        println!(rt; "the input ends within a line")?;
+        return Ok(finished(run));
     }
-    say(b"cases: ");
-    say_number(run.cases);
-    say(b" agree\n");
-    finished(run)
+    let cases = run.cases;
+    println!(rt; "cases: {cases} agree")?;
+    Ok(finished(run))
 }
 
+// One read, and its lines; a read that fails is told on standard error.
 fn turn(
+    rt: &HostRuntime,
     run: Run,
     buf: &mut [u8; BYTES],
     numbers: &mut [u16; SPACE],
     lent: &mut [u16; SPACE],
-) -> Run {
-    let got = fill(buf);
-    match got {
-        Got::Bytes(n) => {
+) -> io::Result<Run> {
+    match rt.stdin().read(buf) {
+        Ok(0) => ended(rt, run),
+        Ok(n) => {
             let next = take_chunk(run, piece(buf, 0, n), numbers, lent);
             if next.done {
-                tell(next);
+                tell(rt, &next)?;
             }
-            next
+            Ok(next)
         }
-        Got::Again => run,
-        Got::End => ended(run),
-        Got::Failed => {
-            os::fail(b"rounds: standard input");
-            finished(run)
+        Err(error) => {
+            if error.kind() == ErrorKind::Interrupted {
+                return Ok(run);
+            }
+            eprintln!(rt; "rounds: standard input: {error}")?;
+            Ok(finished(run))
         }
     }
 }
@@ -199,21 +177,19 @@ fn new_run() -> Run {
 }
 
 // Reads standard input to its end, or to the first line that does not agree, and says which.
-pub fn read_all() {
-    let mut input = io::large_buffer();
-    let mut line_space = space();
-    let mut lent_space = space();
-    let buf = &mut input;
-    let numbers = &mut line_space;
-    let lent = &mut lent_space;
+pub fn read_all(rt: &HostRuntime) -> io::Result<()> {
+    let mut buf = [0u8; BYTES];
+    let mut numbers = space();
+    let mut lent = space();
     let mut run = new_run();
     let mut turns = u64::MAX;
     while 0 < turns {
-        let next = turn(run, buf, numbers, lent);
+        let next = turn(rt, run, &mut buf, &mut numbers, &mut lent)?;
         if next.done {
-            return;
+            return Ok(());
         }
         run = next;
         turns -= 1;
     }
+    Ok(())
 }

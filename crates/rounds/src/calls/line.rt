@@ -12,7 +12,7 @@ const TOO_LARGE: u32 = 65536;
 
 // The letter, or 0 before it; how many numbers are written to the lent list; whether a number is under way, with its value
 // and whether it has a digit; and whether the bytes are no such line.
-#[derive(Drop)]
+#[derive(Clone, Copy)]
 pub struct Line {
     pub letter: u8,
     pub count: usize,

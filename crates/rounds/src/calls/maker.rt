@@ -16,6 +16,7 @@ use crate::lists::{
 use crate::piece;
 use plan::Plan;
 
+#[tactic(auto, unfolding(crate::specs::Judged::lent_right))]
 fn lent_right(fits: bool) -> Verdict
     ensures { result ≡ lent_right fits }
 {

@@ -67,7 +67,7 @@ fn give_first(start: Service, user: u32, from: u32, elements: &[u16], number: u3
                 agrees: false,
             };
         }
-        place = std::num::wrapping_add_u32(place, 1);
+        place = place.wrapping_add(1);
         i += 1;
     }
     Given {
@@ -91,7 +91,7 @@ fn give_reply(start: Service, user: u32, from: u32, elements: &[u16], number: u3
                 agrees: false,
             };
         }
-        block = std::num::wrapping_add_u32(block, 1);
+        block = block.wrapping_add(1);
         i += 1;
     }
     Given {
@@ -100,15 +100,13 @@ fn give_reply(start: Service, user: u32, from: u32, elements: &[u16], number: u3
     }
 }
 
-fn handed(mut case: Case, given: Given) -> Checked {
-    let next = given.service;
-    case.service = next;
-    let verdict = agree(given.agrees as u32, 1);
+fn handed(case: Case, agrees: bool) -> Checked {
+    let verdict = agree(agrees as u32, 1);
     Checked { case, verdict }
 }
 
 // e user place number elements..: first elements from a place on, each answered by the number.
-fn check_elements(case: Case, line: &[u16]) -> Checked {
+fn check_elements(mut case: Case, line: &[u16]) -> Checked {
     let service = case.service;
     let took = give_first(
         service,
@@ -117,11 +115,13 @@ fn check_elements(case: Case, line: &[u16]) -> Checked {
         rest(line, 3),
         number_at(line, 2),
     );
-    handed(case, took)
+    let next = took.service;
+    case.service = next;
+    handed(case, took.agrees)
 }
 
 // a user block number elements..: reply elements from a block on, each answered by the number.
-fn check_answers(case: Case, line: &[u16]) -> Checked {
+fn check_answers(mut case: Case, line: &[u16]) -> Checked {
     let service = case.service;
     let took = give_reply(
         service,
@@ -130,7 +130,9 @@ fn check_answers(case: Case, line: &[u16]) -> Checked {
         rest(line, 3),
         number_at(line, 2),
     );
-    handed(case, took)
+    let next = took.service;
+    case.service = next;
+    handed(case, took.agrees)
 }
 
 // c number set: the close, and the survivors.
