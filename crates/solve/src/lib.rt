@@ -133,25 +133,25 @@ pub fn no_cells() -> [u16; CELLS]
     [0; CELLS]
 }
 
-// The values, each row times its weight, written into a grid of zeros.
+// The values, each row times its weight.
 fn weigh(
     rows: &[u32; USERS],
     columns: &[u32; USERS],
     values: &[u16; CELLS],
     n: usize,
-    out: &mut [u16; CELLS],
-)
-    requires square { Square rows.now columns.now n }
-    requires out_value { out.old ≡ replicate cells 0 }
-    ensures { out.new ≡ weighed_values sixteen laws16 rows.now columns.now values.now n }
+) -> [u16; CELLS]
+    requires { Square rows.now columns.now n }
+    ensures { result ≡ weighed_values sixteen laws16 rows.now columns.now values.now n }
 {
+    let mut out = no_cells();
     let mut at = 0;
     let mut i = 0;
     while i < n {
-        put_scaled(out, at, values, at, weight_of(rows, columns, n, i));
+        put_scaled(&mut out, at, values, at, weight_of(rows, columns, n, i));
         at += BLOCKS;
         i += 1;
     }
+    out
 }
 
 // Of the n unknowns those that are needed: unknown i of a block is beta[i] Σ alpha[a] values[a] / (rows[a] + columns[i]), where alpha and
@@ -167,8 +167,7 @@ pub fn solve(
     requires { Square rows.now columns.now n × (needed ≤ n) }
     ensures { out.new ≡ unknowns_of sixteen laws16 rows.now columns.now values.now n needed }
 {
-    let mut weighed = no_cells();
-    weigh(rows, columns, values, n, &mut weighed);
+    let weighed = weigh(rows, columns, values, n);
     *out = no_cells();
     let mut at = 0;
     let mut i = 0;

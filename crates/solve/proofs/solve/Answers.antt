@@ -26,7 +26,7 @@ told_at d b k =
     let a = d.args in
     let told : List ℕ → ℕ → ℕ = λ ws b. value_of sixteen (get_or a.columns.now d.loop-i.i 0) a.rows.now (block ws b) a.n in
     ap (λ (i : ℕ). get_or d.dots-row.result i 0) (zero-add b) ∙ ap (λ (r : List ℕ). get_or r b 0) d.dots-row.ensures ∙ map_below_at (told _) most_blocks b k
-    ∙ ap (λ (ws : List ℕ). told ws b) d.weigh.ensures
+    ∙ ap (λ (ws : List ℕ). told ws b) d.weigh-weighed.ensures
 
 pub loop-i-init : goal.loop-i-init
 loop-i-init c = rw c.no_cells.ensures (rows_start _ _)
