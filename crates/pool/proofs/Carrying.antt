@@ -5,7 +5,7 @@
 --   read_bytes, write_bytes              one read, and one write
 --   written_bytes                        writes after one another
 -- Assumes nothing.
-use Rattle.std.proofs.Common.{◌≡◌, refl, sym, ap, ◌∙◌, subst, Bool, true, false, cond, ℕ, zero, suc, ◌+◌, ◌-◌, ◌≤◌, List, [], ◌∷◌, ◌++◌, length, take, drop, arith, add-zero}
+use Rattle.std.proofs.Common.{◌≡◌, refl, sym, ap, ◌∙◌, subst, Bool, true, false, cond, ℕ, zero, suc, ◌+◌, ◌-◌, ◌≤◌, List, [], ◌++◌, length, take, drop, arith, add-zero}
 use borrow.Author.Tests.{ne_eqb}
 use Rattle.std.proofs.lemmas.List.{append-nil, append_assoc, take-take, take-append-drop, take-append-le, drop-take, drop_at, length-take-le, length-drop, take_all}
 use Rattle.std.specs.Prelude.{Result, Ok, Err, Some, None}
@@ -15,10 +15,10 @@ use Rattle.std.specs.Io.{ReadsAtMost}
 use Rattle.std.specs.Io.KnownBytes.{Consumes, Appends, Keeps, ReadConsumes, WriteAppends}
 use borrow.Rule.Slice.PartMut.{mid_of, put_mid, post_of}
 use Rattle.pool.specs.declared.Read.{Read}
-use Rattle.pool.specs.declared.Read.TheVariants.{Bytes, End, Again, Failed}
+use Rattle.pool.specs.declared.Read.TheVariants.{Again, Failed}
 use Rattle.pool.specs.declared.Wrote.{Wrote}
 use Rattle.pool.specs.Turns.{came_bytes}
-use Rattle.pool.specs.Pool.{brought, interrupted, Moves, read_as, write_as}
+use Rattle.pool.specs.Pool.{brought, interrupted, read_as, write_as}
 
 pub keeps : (x : Option (List ℕ)) → Keeps x x
 keeps None = tt

@@ -11,11 +11,11 @@ use mathlib.Core.Bool.{Bool, true, false, cond}
 use mathlib.Core.List.{List, [], ◌∷◌, ◌++◌}
 use Prim.Native.Nat.{ℕ, zero, suc, ◌+◌, ◌-◌, ◌^◌, ◌≤◌, ◌<◌}
 use native.Mathlib.Nat.{zero-add}
-use native.Mathlib.Decide.{dec_le, ℕ_discrete}
+use native.Mathlib.Decide.{dec_le}
 use native.Mathlib.Omega.{arith}
 use lib.ListN.{length, take, drop, take-append-drop, length-append, length-drop}
 use lib.Seq.{sets, sets-eq, take-take, length-take-le, length-sets}
-use borrow.Author.Tests.{eq-eqb, ne_eqb, le-leb}
+use borrow.Author.Tests.{ne_eqb, le-leb}
 use Rattle.std.specs.Prelude.{Result, Ok, Err}
 use Rattle.std.specs.declared.io.Error.{Error}
 use Rattle.std.specs.IoError.{kind_at}
@@ -32,7 +32,7 @@ use Rattle.stream.specs.Promise.{FedSays, FedRight}
 use Rattle.stream.proofs.Promise.{fed_right}
 use Rattle.stream.proofs.Feeding.{fed_far}
 use Rattle.pool.specs.declared.Read.{Read}
-use Rattle.pool.specs.declared.Read.TheVariants.{Bytes, End, Again, Failed}
+use Rattle.pool.specs.declared.Read.TheVariants.{Bytes, Again, Failed}
 use Rattle.pool.specs.declared.Why.{Why}
 use Rattle.pool.specs.declared.Why.TheVariants.{EndOfInput, CutShort}
 use Rattle.pool.specs.declared.Next.{Next}

@@ -18,7 +18,7 @@
 --   Ran, RunMoved           a run from the start on; the bytes that went through it
 -- Of the bytes that come from and go to the system no contract speaks: a reader and a writer may know theirs, as those over memory do.
 -- Assumes nothing: these are definitions.
-use Rattle.std.specs.Prelude.{◌≡◌, Bool, true, false, cond, List, ◌⊎◌, ℕ, ◌+◌, ◌-◌, ◌^◌, ◌≤◌, ◌<◌, eqb, leb, length, take, drop, Result, Ok, Err, Some, None, IfOk}
+use Rattle.std.specs.Prelude.{◌≡◌, Bool, true, false, cond, List, ◌⊎◌, ℕ, ◌+◌, ◌-◌, ◌^◌, ◌≤◌, ◌<◌, eqb, leb, length, take, drop, Result, Ok, Err, Some, IfOk}
 use Rattle.std.proofs.lemmas.List.Edits.{sets}
 use Rattle.std.specs.declared.option.Option.{Option}
 use Rattle.std.specs.declared.io.Error.{Error}

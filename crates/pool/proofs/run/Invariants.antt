@@ -1,6 +1,5 @@
 -- `pool::run`: so many turns are made; their number falls.
 use Rattle.std.proofs.Common.{◌≡◌, ◌≤◌, ◌-◌, length}
-use Rattle.std.specs.Io.KnownBytes.{Consumes, Appends}
 use Rattle.pool.specs.Pool.{most_turns}
 use Rattle.pool.proofs.Running.{MadeMoved}
 use Rattle.pool.proofs.run.Given as goal

@@ -1,5 +1,5 @@
 -- `pool::take` meets its contract: what is not used stands in front, and the lines in front of out.
-use Rattle.std.proofs.Common.{◌≤◌, refl, arith}
+use Rattle.std.proofs.Common.{refl, arith}
 use Rattle.pool.proofs.Leaving.{here_fits, used_inside, fed_leaves}
 use Rattle.pool.proofs.take.Goals as goal
 

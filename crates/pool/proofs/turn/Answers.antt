@@ -1,6 +1,6 @@
 -- `pool::turn` meets its contract: a read, its step, and how far its text was written.
 use Rattle.std.proofs.Common.{arith}
-use Rattle.pool.proofs.Leaving.{fills_inside, wrote_inside}
+use Rattle.pool.proofs.Leaving.{fills_inside}
 use Rattle.pool.proofs.Running.{turned, turn_moved}
 use Rattle.pool.proofs.turn.Goals as goal
 

@@ -1,5 +1,5 @@
 -- `rounds::calls::meaning::check_residue` meets its contract: what its calls answer, put together, for each case of the answer.
-use Rattle.std.proofs.Common.{◌≡◌, sym, ap, ◌∙◌, w32, SFits, to_z, of_z, rules}
+use Rattle.std.proofs.Common.{sym, ap, ◌∙◌, w32, SFits, rules}
 use mir.ValLaws.{to_z-of_z}
 use Rattle.scheme.specs.Scheme.{sixteen}
 use Rattle.plan.specs.Plan.{plan_of}

@@ -1,10 +1,10 @@
 -- `rounds::calls::meaning::check_total` meets its contract: what its calls answer, put together, for each case of the answer.
-use Rattle.std.proofs.Common.{◌≡◌, get_or, ℤ, sym, ap, ◌∙◌, w32, SFits, to_z, of_z, rules}
+use Rattle.std.proofs.Common.{ℤ, sym, ap, ◌∙◌, w32, SFits, to_z, of_z, rules}
 use mir.ValLaws.{to_z-of_z}
 use Rattle.reading.specs.declared.Reading.{Reading}
 use Rattle.reading.specs.declared.Reading.TheVariants.{Value}
 use Rattle.rounds.specs.declared.calls.Verdict.{Verdict}
-use Rattle.rounds.specs.Judged.{value_of, read_shown}
+use Rattle.rounds.specs.Judged.{read_shown}
 use Rattle.rounds.proofs.Values.{total_told}
 use Rattle.rounds.proofs.calls.meaning.check_total.Goals as goal
 

@@ -1,5 +1,5 @@
 -- `rounds::calls::meaning::value_of` meets its contract: the value fits 32 bits, so that it is read back from them.
-use Rattle.std.proofs.Common.{◌≡◌, ℕ, ◌≤◌, ℤ, pos, ◌-ℤ◌, sym, ap, ◌∙◌, subst, arith, w32, SFits, to_z}
+use Rattle.std.proofs.Common.{ℕ, ◌≤◌, ℤ, pos, ◌-ℤ◌, sym, ap, ◌∙◌, subst, arith, w32, SFits, to_z}
 use mir.ValLaws.{to_z-of_z}
 use Rattle.rounds.proofs.Values.{as_signed, not_below, below, less_fits}
 use Rattle.rounds.proofs.calls.meaning.value_of.Goals as goal
