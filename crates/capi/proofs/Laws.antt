@@ -3,21 +3,18 @@
 --   stage_moved                      the array with another stage stands for the end at that stage
 --   kept_taken, kept_refused, part_taken, part_refused      what the calls leave, and the part
 -- Assumes nothing.
-use mathlib.Core.Path.{◌≡◌, refl, ap, ◌∙◌}
-use mathlib.Core.Logic.{◌≢◌}
-use mathlib.Core.List.{List}
-use Prim.Native.Nat.{ℕ, suc, ◌+◌}
-use native.Mathlib.Omega.{arith}
-use lib.ListN.{length, get_or, set}
-use lib.Seq.{get_or-set_same, get_or-set_other}
+use Rattle.std.proofs.Common.{◌≡◌, refl, ap, ◌∙◌, ◌≢◌, List, ℕ, suc, ◌+◌, arith, length, get_or, set, get_or-set_same, get_or-set_other}
 use Rattle.scheme.specs.Scheme as scheme
 use Rattle.scheme.specs.Scheme.{reply_start, after}
 use Rattle.scheme.proofs.Refusals.{after_taken, after_refused}
+use Rattle.scheme.proofs.PlanBounds.{usable_le}
 use Rattle.plan.specs.Plan.{plan_of, code_plan, code_use}
 use Rattle.client.specs.declared.Stage.{Stage}
 use Rattle.client.specs.declared.Stage.TheVariants.{Fresh, Sent, Answered}
 use Rattle.client.specs.declared.Client.{Client}
 use Rattle.client.specs.Client.{stage_of, stage_of_number, stage_number, at_stage, moved}
+use Rattle.client.proofs.Laws as client
+use mir.ValLaws.{to_z-of_z}
 use Rattle.capi.specs.Ends.{end_length, code_stage, end_at, kept, part_by}
 
 pub stage_back : (g : Stage) → code_stage (stage_of g) ≡ g
@@ -69,3 +66,8 @@ module _ {n : ℕ} (c : Client) (v : ℕ) where
   unfolding part_by
   part_refused h = λ i.
       record { number = n; start = after_refused h (reply_start (plan_of c.plan) c.user v) 0 i; count = after_refused h c.plan.blocks 0 i }
+
+-- ---- what the calls' own proofs are found by
+pub ruleset answered = (client.answered, usable_le, kept_taken, kept_refused, part_taken, part_refused)
+
+pub ruleset read_back = (to_z-of_z)

@@ -4,11 +4,11 @@
 --   same_head                          arrays with equal heads
 --   close_kept                         a refused close keeps the state
 -- Assumes nothing.
-use mathlib.Core.Path.{◌≡◌, refl, sym, ap, ◌∙◌}
-use mathlib.Core.List.{List}
-use Prim.Native.Nat.{ℕ, zero, suc}
+use Rattle.std.proofs.Common.{◌≡◌, refl, sym, ap, ◌∙◌, List, ℕ, zero, suc}
 use Rattle.scheme.specs.Scheme.{after}
 use Rattle.scheme.proofs.Refusals.{after_taken, after_refused}
+use Rattle.plan.proofs.Numbers.{refused_ne0}
+use Rattle.finish.proofs.Answers.{finish_kept}
 use Rattle.service.specs.declared.Phase.TheVariants.{Replying}
 use Rattle.service.specs.declared.Head.{Head}
 use Rattle.service.specs.declared.Service.{Service}
@@ -38,3 +38,6 @@ same_head e = cc
 pub close_kept : (s : Service) → ((close_step s).number ≡ 0 → ⊥) → (close_step s).service ≡ s
 unfolding close_step
 close_kept s h = after_refused h _ s
+
+-- ---- what the calls' own proofs are found by
+pub ruleset answered = (refused_ne0, after_taken, after_refused, taken_right, kept_right, same_head, close_kept, finish_kept)

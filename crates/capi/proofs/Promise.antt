@@ -5,15 +5,9 @@
 --   start_of_part        a lookup's tests are among those of a reply
 --   same_part            test 19 at the stage that the array has then
 -- Assumes nothing.
-use mathlib.Core.Path.{◌≡◌, refl, sym, ap, ◌∙◌}
-use mathlib.Core.List.{List}
+use Rattle.std.proofs.Common.{◌≡◌, refl, sym, ap, ◌∙◌, List, ℕ, zero, suc, ◌+◌, ◌*◌, arith, length, take, drop, set, set-set, eq-eqb, leb-true}
 use mathlib.Core.Option.{some}
-use Prim.Native.Nat.{ℕ, zero, suc, ◌+◌, ◌*◌}
-use native.Mathlib.Omega.{arith}
 use native.Mathlib.Decide.{ℕ_discrete}
-use lib.ListN.{length, take, drop, set}
-use lib.Seq.{set-set}
-use borrow.Author.Tests.{eq-eqb, leb-true}
 use Rattle.scheme.specs.Scheme as scheme
 use Rattle.scheme.specs.Scheme.{sixteen, places, is_user, key_length, reply_start, reply, is_fresh, open_to, after}
 use Rattle.scheme.proofs.Tests.{and_both}

@@ -3,8 +3,7 @@
 --   stands         the arrays of a state stand for it
 --   calls_stand    call by call
 -- Assumes nothing.
-use mathlib.Core.Path.{◌≡◌, refl, ap}
-use Prim.Native.Nat.{ℕ, zero, suc}
+use Rattle.std.proofs.Common.{◌≡◌, refl, ap, ℕ, zero, suc}
 use Rattle.service.specs.declared.Phase.{Phase}
 use Rattle.service.specs.declared.Phase.TheVariants.{Unplanned, Idle, Gathering, Replying}
 use Rattle.service.specs.declared.Service.{Service}

@@ -14,8 +14,7 @@ use Rattle.plan.specs.Plan.{plan_of, code_plan, code_use}
 use Rattle.client.specs.declared.Stage.{Stage}
 use Rattle.client.specs.declared.Stage.TheVariants.{Fresh, Sent, Answered}
 use Rattle.client.specs.declared.Client.{Client}
-use Rattle.client.specs.declared.Moved.{Moved}
-use Rattle.client.specs.Client.{stage_of, stage_of_number, stage_number, begun, answer_refusal}
+use Rattle.client.specs.Client.{stage_of, stage_of_number, stage_number, begun, Moved, answer_refusal}
 use Rattle.capi.specs.declared.ends.CutawhenoPart.{CutawhenoPart}
 
 abbrev pub end_length : ℕ

@@ -3,8 +3,7 @@
 -- Assumes nothing: these are definitions.
 use Rattle.std.specs.Prelude.{ℕ}
 use Rattle.scheme.specs.Scheme.{Plan}
-use Rattle.plan.specs.declared.Found.{Found}
-use Rattle.plan.specs.Found.{found}
+use Rattle.plan.specs.Found.{Found, found}
 use Rattle.capi.specs.declared.CutawhenoStart.{CutawhenoStart}
 
 abbrev pub as_start : Found → CutawhenoStart

@@ -16,10 +16,8 @@ use Rattle.service.specs.declared.Phase.{Phase}
 use Rattle.service.specs.declared.Phase.TheVariants.{Unplanned, Idle, Gathering, Replying}
 use Rattle.service.specs.declared.Head.{Head}
 use Rattle.service.specs.declared.Service.{Service}
-use Rattle.service.specs.declared.Closed.{Closed}
-use Rattle.service.specs.Calls.{plan_step, open_step, close_step}
-use Rattle.finish.specs.declared.Finished.{Finished}
-use Rattle.finish.specs.Finish.{finish_step}
+use Rattle.service.specs.Calls.{Closed, plan_step, open_step, close_step}
+use Rattle.finish.specs.Finish.{Finished, finish_step}
 use Rattle.plan.specs.Plan.{code_plan}
 use Rattle.capi.specs.declared.pooling.CutawhenoClosed.{CutawhenoClosed}
 use Rattle.capi.specs.declared.pooling.CutawhenoFinished.{CutawhenoFinished}

@@ -5,10 +5,10 @@
 use Rattle.std.specs.Prelude.{ℕ, ℤ, pos}
 use Rattle.scheme.specs.Scheme.{sixteen, Plan}
 use Rattle.plan.specs.Plan.{use_of, code_use}
-use Rattle.reading.specs.declared.Reading.{Reading}
-use Rattle.reading.specs.declared.Reading.TheVariants as read
-use Rattle.reading.specs.declared.Residue.{Residue}
-use Rattle.reading.specs.declared.Residue.TheVariants as given
+use Rattle.reading.specs.Read.{Reading}
+use Rattle.reading.specs.Read as read
+use Rattle.reading.specs.Given.{Residue}
+use Rattle.reading.specs.Given as given
 use Rattle.reading.specs.Reading.{reading, residue_answer}
 use Rattle.capi.specs.declared.meaning.CutawhenoReading.{CutawhenoReading}
 use Rattle.capi.specs.declared.meaning.CutawhenoResidue.{CutawhenoResidue}

@@ -13,8 +13,9 @@ ghost use Rattle.client.specs.Client.{begun, first_answer, message_left, reply_a
 ghost use Rattle.plan.specs.Plan.{code_plan, code_use};
 ghost use Rattle.capi.specs.Ends.{end_at, start_left, kept, part_answer};
 
-use client::Client;
-use plan::Plan;
+use super::plan_from;
+use client::{Client, Stage};
+use plan::Use;
 
 // The length of `end`.
 pub const END: usize = 8;
@@ -28,27 +29,31 @@ pub struct CutawhenoPart {
 }
 
 // What the numbers stand for.
+#[tactic(auto, using(crate::proofs::Laws::stage_back), unfolding(crate::specs::Ends::end_at))]
 fn end_at(end: &[u32; END]) -> Client
     ensures { result ≡ end_at end.now }
 {
-    let stage = client::stage_of_number(end[5]);
-    let usage = plan::use_of_number(end[6]);
-    let plan = Plan {
-        users: end[0],
-        threshold: end[1],
-        collusion: end[2],
-        blocks: end[3],
-    };
-    Client {
-        plan,
-        user: end[4],
-        usage,
-        round: end[7],
+    let [
+        users,
+        threshold,
+        collusion,
+        blocks,
+        user,
         stage,
+        usage,
+        round,
+    ] = *end;
+    Client {
+        plan: plan_from(users, threshold, collusion, blocks),
+        user,
+        usage: Use::from(usage),
+        round,
+        stage: Stage::from(stage),
     }
 }
 
 // "Start of an end: 1, 4."
+#[tactic(auto, using(crate::proofs::Laws::answered), unfolding(crate::specs::Ends::start_left))]
 #[unsafe(no_mangle)]
 pub extern "C" fn cutawheno_end_start(
     end: &mut [u32; END],
@@ -63,23 +68,20 @@ pub extern "C" fn cutawheno_end_start(
     ensures number { result ≡ (begun (code_plan users threshold collusion blocks) user (code_use is_signed) round).number }
     ensures left { end.new ≡ start_left (code_plan users threshold collusion blocks) user is_signed round end.old }
 {
-    let plan = Plan {
-        users,
-        threshold,
-        collusion,
-        blocks,
-    };
-    let refusal = plan::start_refusal(plan, user);
-    if refusal != 0 {
-        return refusal;
+    let plan = plan_from(users, threshold, collusion, blocks);
+    match plan::check_start(plan, user) {
+        Ok(()) => {
+            *end = [
+                users, threshold, collusion, blocks, user, 0, is_signed, round,
+            ];
+            0
+        }
+        Err(refusal) => u32::from(refusal),
     }
-    *end = [
-        users, threshold, collusion, blocks, user, 0, is_signed, round,
-    ];
-    0
 }
 
 // "First message: 18, 2, 3", and then 32. A taken one leaves the end at the stage sent.
+#[tactic(auto, using(crate::proofs::Laws::answered), unfolding(client::specs::Client::stage_number, client::specs::Client::stage_of))]
 #[unsafe(no_mangle)]
 pub extern "C" fn cutawheno_end_first_message(
     key: &[u16],
@@ -96,16 +98,17 @@ pub extern "C" fn cutawheno_end_first_message(
         end.old }
 {
     let client = end_at(end);
-    let answer = client.first_message(key, figures, message);
-    let number = answer.number;
-    if number != 0 {
-        return number;
+    match client.first_message(key, figures, message) {
+        Ok(_) => {
+            end[5] = 1;
+            0
+        }
+        Err(refusal) => u32::from(refusal),
     }
-    end[5] = 1;
-    0
 }
 
 // "Reply: 18, 2, 3, 5, 6, 19", and 33 between the last two. The part of the key is given by its place, which lies inside the key.
+#[tactic(auto, using(crate::proofs::Laws::answered), unfolding(client::specs::Client::stage_number, client::specs::Client::stage_of))]
 #[unsafe(no_mangle)]
 pub extern "C" fn cutawheno_end_reply(
     key: &[u16],
@@ -118,22 +121,20 @@ pub extern "C" fn cutawheno_end_reply(
     ensures left { end.new ≡ kept (reply_answer sixteen (end_at end.old) key.now set round) end.old }
 {
     let client = end_at(end);
-    let number = client.reply_refusal(key, set, round);
-    if number != 0 {
-        return CutawhenoPart {
-            number,
+    match client.check_reply(key, set, round) {
+        Ok(()) => {
+            let start = plan::reply_start(client.plan, client.user, set) as u32;
+            end[5] = set + 2;
+            CutawhenoPart {
+                number: 0,
+                start,
+                count: client.plan.blocks,
+            }
+        }
+        Err(refusal) => CutawhenoPart {
+            number: u32::from(refusal),
             start: 0,
             count: 0,
-        };
-    }
-    let plan = client.plan;
-    let user = client.user;
-    let start = plan::reply_start(plan, user, set) as u32;
-    let count = plan.blocks;
-    end[5] = set + 2;
-    CutawhenoPart {
-        number: 0,
-        start,
-        count,
+        },
     }
 }

@@ -6,8 +6,8 @@ ghost use Rattle.std.specs.Prelude.{◌≡◌};
 ghost use Rattle.plan.specs.Plan.{plan_of, code_plan};
 ghost use Rattle.capi.specs.Meaning.{total_read, residue_given};
 
-use plan::Plan;
-use reading::{Reading, Residue};
+use super::plan_from;
+use plan::Use;
 
 #[repr(C)]
 #[derive(Clone, Copy)]
@@ -24,17 +24,22 @@ pub struct CutawhenoResidue {
 }
 
 // 3. 0 counts, anything else signed.
+#[tactic(auto, using(crate::proofs::Laws::read_back), unfolding(crate::specs::Meaning::as_reading))]
 #[unsafe(no_mangle)]
 pub extern "C" fn cutawheno_read_total(total: u32, is_signed: u32) -> CutawhenoReading
     ensures { result ≡ total_read is_signed total }
 {
-    match reading::read_total(plan::use_of_number(is_signed), total) {
-        Reading::Refused(number) => CutawhenoReading { number, value: 0 },
-        Reading::Value(value) => CutawhenoReading { number: 0, value },
+    match reading::read_total(Use::from(is_signed), total) {
+        Ok(value) => CutawhenoReading { number: 0, value },
+        Err(refusal) => CutawhenoReading {
+            number: u32::from(refusal),
+            value: 0,
+        },
     }
 }
 
 // 1, then 32.
+#[tactic(auto, using(crate::proofs::Laws::read_back), unfolding(crate::specs::Meaning::as_residue))]
 #[unsafe(no_mangle)]
 pub extern "C" fn cutawheno_residue(
     value: i32,
@@ -45,14 +50,12 @@ pub extern "C" fn cutawheno_residue(
 ) -> CutawhenoResidue
     ensures { result ≡ residue_given (plan_of (code_plan users threshold collusion blocks)) value }
 {
-    let plan = Plan {
-        users,
-        threshold,
-        collusion,
-        blocks,
-    };
+    let plan = plan_from(users, threshold, collusion, blocks);
     match reading::residue_of(plan, value) {
-        Residue::Refused(number) => CutawhenoResidue { number, element: 0 },
-        Residue::Element(element) => CutawhenoResidue { number: 0, element },
+        Ok(element) => CutawhenoResidue { number: 0, element },
+        Err(refusal) => CutawhenoResidue {
+            number: u32::from(refusal),
+            element: 0,
+        },
     }
 }

@@ -13,9 +13,10 @@ ghost use Rattle.solve.specs.Solve.{laws16};
 ghost use Rattle.service.specs.Calls.{plan_step, open_step, first_refusal, first_left, close_step, reply_refusal, reply_left};
 ghost use Rattle.finish.specs.Finish.{finish_step};
 ghost use Rattle.plan.specs.Plan.{code_plan};
-ghost use Rattle.capi.specs.Lent.{arrays, state, phase_at, phase_number, head_at, numbers, plan_left, open_left, closed_answer, close_left, finished_answer, finish_left, finish_totals};
+ghost use Rattle.capi.specs.Lent.{arrays, state, phase_at, head_at, numbers, plan_left, open_left, closed_answer, close_left, finished_answer, finish_left, finish_totals};
 
-use plan::{CELLS, FIRSTS, MOST_PLACES, Plan};
+use super::{numbered, plan_from};
+use plan::{CELLS, FIRSTS, MOST_PLACES};
 use service::{Head, Phase};
 
 // The length of `head`.
@@ -35,65 +36,53 @@ pub struct CutawhenoFinished {
     pub aside: u32,
 }
 
-// A number above 3, which no call leaves, is read as replying.
+// A number above 3, which no call leaves, is read as replying. Number and phase belong to other crates, so that this is no `From`.
+#[tactic(auto, unfolding(crate::specs::Lent::phase_at), using(crate::proofs::Lent::phase_replying))]
 fn phase_at(number: u32) -> Phase
     ensures { result ≡ phase_at number }
 {
-    if number == 0 {
-        return Phase::Unplanned;
-    }
-    if number == 1 {
-        return Phase::Idle;
-    }
-    if number == 2 {
-        return Phase::Gathering;
-    }
-    Phase::Replying
-}
-
-fn phase_number(phase: Phase) -> u32
-    ensures { result ≡ phase_number phase }
-{
-    match phase {
-        Phase::Unplanned => 0,
-        Phase::Idle => 1,
-        Phase::Gathering => 2,
-        Phase::Replying => 3,
+    match number {
+        0 => Phase::Unplanned,
+        1 => Phase::Idle,
+        2 => Phase::Gathering,
+        _ => Phase::Replying,
     }
 }
 
 // What the head's numbers stand for, and back.
+#[tactic(auto, unfolding(crate::specs::Lent::head_at))]
 fn head_at(head: &[u32; NUMBERS]) -> Head
     ensures { result ≡ head_at head.now }
 {
-    let phase = phase_at(head[0]);
-    let plan = Plan {
-        users: head[1],
-        threshold: head[2],
-        collusion: head[3],
-        blocks: head[4],
-    };
-    Head {
+    let [
         phase,
-        plan,
-        places: head[5],
-        round: head[6],
-        survivors: head[7],
+        users,
+        threshold,
+        collusion,
+        blocks,
+        places,
+        round,
+        survivors,
+    ] = *head;
+    Head {
+        phase: phase_at(phase),
+        plan: plan_from(users, threshold, collusion, blocks),
+        places,
+        round,
+        survivors,
     }
 }
 
+#[tactic(auto, unfolding(crate::specs::Lent::numbers, crate::specs::Lent::phase_number))]
 fn numbers(head: Head) -> [u32; NUMBERS]
     ensures { result ≡ numbers head }
 {
-    let phase = head.phase;
-    let plan = head.plan;
-    let number = phase_number(phase);
     [
-        number,
-        plan.users,
-        plan.threshold,
-        plan.collusion,
-        plan.blocks,
+        head.phase as u32,
+        head.plan.users,
+        head.plan.threshold,
+        head.plan.collusion,
+        head.plan.blocks,
         head.places,
         head.round,
         head.survivors,
@@ -101,6 +90,7 @@ fn numbers(head: Head) -> [u32; NUMBERS]
 }
 
 // 11, 1.
+#[tactic(auto, using(crate::proofs::Lent::answered), unfolding(crate::specs::Lent::plan_left, service::specs::Calls::plan_step))]
 #[unsafe(no_mangle)]
 pub extern "C" fn cutawheno_service_plan(
     head: &mut [u32; NUMBERS],
@@ -116,24 +106,19 @@ pub extern "C" fn cutawheno_service_plan(
     ensures left { arrays head.new first.new reply.new
         ≡ plan_left (arrays head.old first.old reply.old) (code_plan users threshold collusion blocks) }
 {
-    let plan = Plan {
-        users,
-        threshold,
-        collusion,
-        blocks,
-    };
-    let held = head_at(head);
-    let step = service::plan_lent(held, first, reply, plan);
-    let number = step.number;
-    if number != 0 {
-        return number;
+    let plan = plan_from(users, threshold, collusion, blocks);
+    let mut held = head_at(head);
+    match service::plan_lent(&mut held, first, reply, plan) {
+        Ok(()) => {
+            *head = numbers(held);
+            0
+        }
+        Err(refusal) => u32::from(refusal),
     }
-    let planned = step.head;
-    *head = numbers(planned);
-    0
 }
 
 // 11, 17.
+#[tactic(auto, using(crate::proofs::Lent::answered), unfolding(crate::specs::Lent::open_left, service::specs::Calls::open_step))]
 #[unsafe(no_mangle)]
 pub extern "C" fn cutawheno_service_open(
     head: &mut [u32; NUMBERS],
@@ -145,15 +130,14 @@ pub extern "C" fn cutawheno_service_open(
     ensures left { arrays head.new first.new reply.new
         ≡ open_left (arrays head.old first.old reply.old) round }
 {
-    let held = head_at(head);
-    let step = service::open_lent(held, first, reply, round);
-    let number = step.number;
-    if number != 0 {
-        return number;
+    let mut held = head_at(head);
+    match service::open_lent(&mut held, first, reply, round) {
+        Ok(()) => {
+            *head = numbers(held);
+            0
+        }
+        Err(refusal) => u32::from(refusal),
     }
-    let opened = step.head;
-    *head = numbers(opened);
-    0
 }
 
 // 11, 12, 4, 8, 3, 13. The element that is held is taken again, and changes nothing.
@@ -168,11 +152,11 @@ pub extern "C" fn cutawheno_service_first_element(
     ensures number { result ≡ first_refusal sixteen (head_at head.now) first.old user place element }
     ensures left { first.new ≡ first_left sixteen (head_at head.now) first.old user place element }
 {
-    let held = head_at(head);
-    service::put_first(held, first, user, place, element)
+    numbered(service::put_first(head_at(head), first, user, place, element))
 }
 
 // 11, 12, 15.
+#[tactic(auto, using(crate::proofs::Lent::answered), unfolding(crate::specs::Lent::close_left))]
 #[unsafe(no_mangle)]
 pub extern "C" fn cutawheno_service_close(
     head: &mut [u32; NUMBERS],
@@ -183,16 +167,17 @@ pub extern "C" fn cutawheno_service_close(
     ensures left { arrays head.new first.now reply.new
         ≡ close_left (arrays head.old first.now reply.old) }
 {
-    let held = head_at(head);
-    let step = service::close_lent(held, first, reply);
-    let number = step.number;
-    let set = step.set;
-    if number != 0 {
-        return CutawhenoClosed { number, set };
+    let mut held = head_at(head);
+    match service::close_lent(&mut held, first, reply) {
+        Ok(set) => {
+            *head = numbers(held);
+            CutawhenoClosed { number: 0, set }
+        }
+        Err(refusal) => CutawhenoClosed {
+            number: u32::from(refusal),
+            set: 0,
+        },
     }
-    let replying = step.head;
-    *head = numbers(replying);
-    CutawhenoClosed { number, set }
 }
 
 // 11, 12, 4, 8, 3, 14, 13. The element that is held is taken again, and changes nothing.
@@ -207,11 +192,11 @@ pub extern "C" fn cutawheno_service_reply_element(
     ensures number { result ≡ reply_refusal sixteen (head_at head.now) reply.old user block element }
     ensures left { reply.new ≡ reply_left sixteen (head_at head.now) reply.old user block element }
 {
-    let held = head_at(head);
-    service::put_reply(held, reply, user, block, element)
+    numbered(service::put_reply(head_at(head), reply, user, block, element))
 }
 
 // 11, 12, 15, 16. The totals come in the first L places, with 0 behind them. The user set aside is 0 if there is none.
+#[tactic(auto, using(crate::proofs::Lent::answered), unfolding(crate::specs::Lent::finish_left, crate::specs::Lent::finish_totals))]
 #[unsafe(no_mangle)]
 pub extern "C" fn cutawheno_service_finish(
     head: &mut [u32; NUMBERS],
@@ -225,16 +210,20 @@ pub extern "C" fn cutawheno_service_finish(
         ≡ finish_left (arrays head.old first.old reply.old) }
     ensures totals { totals.new ≡ finish_totals (arrays head.old first.old reply.old) totals.old }
 {
-    let held = head_at(head);
-    let step = finish::finish_lent(held, first, reply);
-    let number = step.number;
-    let aside = step.aside;
-    let sums = step.totals;
-    if number != 0 {
-        return CutawhenoFinished { number, aside };
+    let mut held = head_at(head);
+    match finish::finish_lent(&mut held, first, reply) {
+        Ok(total) => {
+            let sums = total.totals;
+            *head = numbers(held);
+            *totals = sums;
+            CutawhenoFinished {
+                number: 0,
+                aside: total.aside.unwrap_or(0),
+            }
+        }
+        Err(refusal) => CutawhenoFinished {
+            number: u32::from(refusal),
+            aside: 0,
+        },
     }
-    let idle = step.head;
-    *head = numbers(idle);
-    *totals = sums;
-    CutawhenoFinished { number, aside }
 }

@@ -39,14 +39,14 @@ use Rattle.plan.specs.Found.{found}
 use Rattle.client.specs.declared.Stage.{Stage}
 use Rattle.client.specs.declared.Stage.TheVariants.{Fresh, Sent, Answered}
 use Rattle.client.specs.declared.Client.{Client}
-use Rattle.client.specs.declared.Moved.{Moved}
+use Rattle.client.specs.Client.{Moved}
 use Rattle.client.specs.Client.{begun, first_answer, message_left, answer_refusal, reply_answer, part_of}
-use Rattle.reading.specs.declared.Reading.TheVariants.{Refused, Value}
-use Rattle.reading.specs.declared.Residue.TheVariants as given
+use Rattle.reading.specs.Read.{Refused, Value}
+use Rattle.reading.specs.Given as given
 use Rattle.reading.specs.Reading.{reading, residue_answer}
 use Rattle.service.specs.declared.Service.{Service}
 use Rattle.service.specs.Calls.{new_service, plan_step, open_step, first_step, close_step, reply_step}
-use Rattle.finish.specs.declared.Finished.{Finished}
+use Rattle.finish.specs.Finish.{Finished}
 use Rattle.finish.specs.Finish.{finish_step}
 
 -- ---- PLANS, LISTS AND FIGURES

@@ -2,12 +2,8 @@
 --   other_round     a request for another round hands out nothing, and leaves the end as it is
 --   other_rounds    the statement of specs/History.antt, call by call
 -- Assumes nothing.
-use mathlib.Core.Path.{◌≡◌, refl, ap, ◌∙◌}
-use mathlib.Core.Logic.{◌≢◌}
-use mathlib.Core.List.{List, [], ◌∷◌}
-use Prim.Native.Nat.{ℕ, zero, suc}
+use Rattle.std.proofs.Common.{◌≡◌, refl, ap, ◌∙◌, ◌≢◌, List, [], ◌∷◌, ℕ, zero, suc, eq-eqb, ne_eqb}
 use native.Mathlib.Decide.{ℕ_discrete}
-use borrow.Author.Tests.{eq-eqb, ne_eqb}
 use Rattle.scheme.specs.Scheme.{Arithmetic, after}
 use Rattle.scheme.proofs.Refusals.{after_refused}
 use Rattle.client.specs.declared.Stage.{Stage}

@@ -3,23 +3,23 @@
 --   message_fits, message_clean, message_written    where a first message is taken: the buffer is no longer than figures and key, both are elements,
 --                                                   and the message fills it
 --   reply_own, reply_open                           where a reply is taken, its round is the key's, and no other set was answered
+--   refused_moves, taken_moves                      what a call hands back, by the refusal of its tests
+--   tested, answered                                by what the proofs of the tests, and of the calls, are found
 --   Answers, reply_answers, reply_taken, answers_held    what else holds there, and that it is taken
 -- Assumes nothing.
-use mathlib.Core.Path.{◌≡◌, refl, ap}
-use mathlib.Core.Bool.{true, false, ◌&&◌}
-use mathlib.Core.List.{List}
-use Prim.Native.Nat.{ℕ, zero, suc, ◌-◌, ◌≤◌}
-use native.Mathlib.Omega.{arith}
-use lib.Dec.{eqb}
-use lib.ListN.{length}
-use borrow.Author.Tests.{eqb-true, eq-eqb}
+use Rattle.std.proofs.Common.{◌≡◌, refl, sym, ap, ◌≢◌, true, false, ◌&&◌, List, ℕ, zero, suc, ◌-◌, ◌≤◌, arith, eqb, length, eqb-true, eq-eqb}
 use Rattle.scheme.specs.Scheme as scheme
 use Rattle.scheme.specs.Lists.{each}
-use Rattle.scheme.specs.Scheme.{Arithmetic, elements, places, in_set, usable, usable_with, key_length, first_message, is_fresh, open_to, start_refusal, message_refusal, reply_refusal, unless, ◌then◌}
+use Rattle.scheme.specs.Scheme.{Arithmetic, elements, places, in_set, usable, usable_with, key_length, first_message, is_fresh, open_to, start_refusal, message_refusal, reply_refusal, unless, ◌then◌, after}
 use Rattle.scheme.proofs.Tests.{and_both, and_joined}
-use Rattle.scheme.proofs.Refusals.{then_zero, unless_zero}
-use Rattle.scheme.proofs.PlanBounds.{masks_inside}
-use Rattle.client.specs.Client.{stage_of_number}
+use Rattle.scheme.proofs.Elements.{figures_elements}
+use Rattle.scheme.proofs.Refusals.{start_taken, after_taken, after_refused, then_stops, then_taken, then_zero, unless_held, unless_failed, unless_zero}
+use Rattle.scheme.proofs.Sets.{usable_below}
+use Rattle.scheme.proofs.PlanBounds.{masks_inside, with_usable, reply_inside}
+use Rattle.plan.proofs.Numbers.{refused_ne0}
+use Rattle.client.specs.declared.Stage.{Stage}
+use Rattle.client.specs.declared.Client.{Client}
+use Rattle.client.specs.Client.{stage_of_number, at_stage, Moved, moved}
 
 pub stage_answered : (s : ℕ) → (s ≡ 0 → ⊥) → (s ≡ 1 → ⊥) → stage_of_number s ≡ scheme.answered (s - 2)
 unfolding stage_of_number
@@ -98,3 +98,16 @@ module _ {A : Arithmetic} {p : scheme.Plan} {k : ℕ} {ks : List ℕ} {v : ℕ} 
   pub answers_held : Answers A p k ks v → usable_with p k v ≡ true
   unfolding usable_with
   answers_held a = and_joined a.whole a.member
+
+-- what a call hands back where its tests have refused it, and where they have taken it
+pub refused_moves : {n m : ℕ} → n ≡ m → n ≢ 0 → (c : Client) (g : Stage) → ◌≡◌ {A = Moved} (record { number = n; client = c }) (moved m c g)
+refused_moves e h c g = rw (sym e, after_refused {A = Client} h) refl
+
+pub taken_moves : {m : ℕ} → 0 ≡ m → (c : Client) (g : Stage) → ◌≡◌ {A = Moved} (record { number = 0; client = at_stage c g }) (moved m c g)
+unfolding after
+taken_moves e c g = rw (sym e) refl
+
+-- ---- what the calls' own proofs are found by
+pub ruleset tested = (start_taken, then_stops, then_taken, unless_held, unless_failed, figures_elements)
+
+pub ruleset answered = (start_taken, refused_ne0, after_taken, after_refused, refused_moves, taken_moves, message_fits, message_clean, message_written, reply_answers, answers_held, usable_below, with_usable, reply_inside)

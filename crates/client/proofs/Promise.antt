@@ -2,8 +2,7 @@
 --   same_part           the same set asked again gets the same part
 --   refused_unchanged   a refused call leaves client and buffer as they were, and no part
 -- Assumes nothing.
-use mathlib.Core.Path.{refl, sym, ◌∙◌}
-use borrow.Author.Tests.{eq-eqb}
+use Rattle.std.proofs.Common.{refl, sym, ◌∙◌, eq-eqb}
 use Rattle.scheme.specs.Scheme as scheme
 use Rattle.scheme.specs.Scheme.{Arithmetic, is_fresh, open_to}
 use Rattle.scheme.proofs.Refusals.{after_taken, after_refused}

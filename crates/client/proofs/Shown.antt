@@ -6,16 +6,9 @@
 --   seen_matched     a matching of the messages is one of the histories
 --   demand_3, demand_3_of_bytes      THE THIRD DEMAND over what the calls give, modulo 65521; from raw bytes
 -- Assumes nothing.
-use mathlib.Core.Path.{◌≡◌, refl, sym, ap, ap₂, ◌∙◌}
-use mathlib.Core.Bool.{Bool, true, false, cond}
-use mathlib.Core.List.{List, [], ◌∷◌}
+use Rattle.std.proofs.Common.{◌≡◌, refl, sym, ap, ap₂, ◌∙◌, Bool, true, false, cond, List, [], ◌∷◌, ℕ, zero, suc, ◌≤◌, arith, eqb, length, eqb-true, eq-eqb, ne_eqb}
 use mathlib.Core.Option.{Option, some}
-use Prim.Native.Nat.{ℕ, zero, suc, ◌≤◌}
 use native.Mathlib.Decide.{ℕ_discrete}
-use native.Mathlib.Omega.{arith}
-use lib.Dec.{eqb}
-use lib.ListN.{length}
-use borrow.Author.Tests.{eqb-true, eq-eqb, ne_eqb}
 use Rattle.scheme.specs.Scheme as scheme
 use Rattle.scheme.specs.Lists.{span}
 use Rattle.scheme.specs.Scheme.{Arithmetic, sixteen, elements, plan_good, places, figures_good, in_set, usable, users_in, key, key_length, first_message, reply, is_fresh, open_to, start_refusal, key_refusal, message_refusal, reply_refusal, unless, ◌then◌, after}

@@ -3,15 +3,8 @@
 --   stays_sound, stays_small      a new state is sound, and its replies are elements; so it is of every state that records lead to
 --   always_answers                the answer
 -- Assumes nothing.
-use mathlib.Core.Path.{◌≡◌, refl, sym, ap, ◌∙◌, subst}
-use mathlib.Core.Logic.{◌⊎◌, inl, inr, ⊎_elim}
-use mathlib.Core.Bool.{Bool, true, false, ◌&&◌, not, cond}
-use mathlib.Core.List.{List, [], ◌∷◌}
-use Prim.Native.Nat.{ℕ, zero, suc, ◌%◌, ◌≤◌, ◌<◌}
-use native.Mathlib.Nat.{mod-eq_of_lt, mod-lt, zero-lt-suc}
+use Rattle.std.proofs.Common.{◌≡◌, refl, sym, ap, ◌∙◌, subst, ◌⊎◌, inl, inr, ⊎_elim, Bool, true, false, ◌&&◌, not, cond, List, [], ◌∷◌, ℕ, zero, suc, ◌%◌, ◌≤◌, ◌<◌, mod-eq_of_lt, mod-lt, zero-lt-suc, eqb, lit<, length}
 use borrow.Author.Tests.{eqb-false}
-use lib.Dec.{eqb, lit<}
-use lib.ListN.{length}
 use Rattle.scheme.specs.Scheme.{q, sixteen, Plan, ones, users_in}
 use Rattle.scheme.specs.Laws.{Laws}
 use Rattle.scheme.specs.Totals.{explains_all, Choice, OneChoice}

@@ -2,13 +2,7 @@
 --   nothing_told        the third demand, from our Demand3
 --   totals_right        the second: its whole-number sums are ours
 -- Assumes nothing.
-use mathlib.Core.Path.{◌≡◌, refl, sym, ap, ap₂, ◌∙◌}
-use mathlib.Core.Bool.{Bool, true, false, cond}
-use mathlib.Core.List.{List, ◌∷◌}
-use Prim.Native.Nat.{ℕ, zero, suc, ◌+◌, ◌-◌, ◌≤◌}
-use native.Mathlib.Nat.{zero-add}
-use lib.Dec.{lit<}
-use lib.ListN.{get_or}
+use Rattle.std.proofs.Common.{◌≡◌, refl, sym, ap, ap₂, ◌∙◌, Bool, true, false, cond, List, ◌∷◌, ℕ, zero, suc, ◌+◌, ◌-◌, ◌≤◌, zero-add, lit<, get_or}
 use Rattle.scheme.specs.Lists.{keep, members}
 use Rattle.scheme.specs.Scheme.{q, sixteen, whole_sum, counts, in_set, users_in, whole_total}
 use Rattle.scheme.specs.Promise.{Table, rows_good, everyone, admissible, Demand3}

@@ -4,14 +4,9 @@
 --   unknown_small                    unknowns that explain are elements
 --   totals_same                      the totals from unknowns that explain
 -- Assumes nothing.
-use mathlib.Core.Path.{◌≡◌, refl, sym, ap, ap₂, ◌∙◌, fun_ext}
-use mathlib.Core.Bool.{Bool, true, false, ◌&&◌, ◌||◌, not}
-use mathlib.Core.List.{List, map, ◌∷◌}
-use Prim.Native.Nat.{ℕ, zero, suc, ◌+◌, ◌-◌, ◌/◌, ◌%◌, ◌≤◌, ◌<◌}
-use native.Mathlib.Nat.{mod-eq_of_lt, mul-zero, div-lt_iff_lt-mul, lt_of_mul-lt-mul_left}
-use native.Mathlib.Omega.{arith}
-use lib.Dec.{eqb}
-use lib.ListN.{length, get_or}
+use Rattle.std.proofs.Common.{◌≡◌, refl, sym, ap, ap₂, ◌∙◌, Bool, true, false, ◌&&◌, ◌||◌, not, List, map, ◌∷◌, ℕ, zero, suc, ◌+◌, ◌-◌, ◌/◌, ◌%◌, ◌≤◌, ◌<◌, mod-eq_of_lt, mul-zero, div-lt_iff_lt-mul, arith, eqb, length, get_or}
+use mathlib.Core.Path.{fun_ext}
+use native.Mathlib.Nat.{lt_of_mul-lt-mul_left}
 use Rattle.scheme.specs.Lists.{span, keep, members, all_of}
 use Rattle.scheme.specs.Scheme.{q, sixteen, sum, items, places, in_set, users_in, row_value}
 use Rattle.scheme.specs.Good.{Good}

@@ -1,11 +1,7 @@
 -- An airfield that can be set aside: ours modulo 65521 is document 03's, in a state with a good plan.
 --   fits_ours, fits_back     who fits in document 03's words is one of at least U + 2 who can be set aside in ours, and the other way round
 -- Assumes nothing.
-use mathlib.Core.Path.{◌≡◌, sym, ap, ◌∙◌}
-use mathlib.Core.List.{List}
-use Prim.Native.Nat.{ℕ, ◌+◌, ◌≤◌, ◌<◌}
-use native.Mathlib.Omega.{arith}
-use lib.ListN.{get_or}
+use Rattle.std.proofs.Common.{◌≡◌, sym, ap, ◌∙◌, List, ℕ, ◌+◌, ◌≤◌, ◌<◌, arith, get_or}
 use Rattle.scheme.specs.Lists.{span}
 use Rattle.scheme.specs.Scheme.{sixteen, in_set, ones}
 use Rattle.scheme.specs.Good.{Good}

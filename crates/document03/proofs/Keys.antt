@@ -3,14 +3,7 @@
 --   first_message_same         first messages from lists that are long enough
 --   reply_same                 replies to a usable set that holds the airfield
 -- Assumes nothing.
-use mathlib.Core.Path.{◌≡◌, refl, sym, ap, ap₂, ◌∙◌}
-use mathlib.Core.Bool.{true}
-use mathlib.Core.List.{List, [], ◌∷◌, ◌++◌, map}
-use Prim.Native.Nat.{ℕ, zero, suc, ◌+◌, ◌*◌, ◌-◌, ◌%◌, ◌^◌, ◌≤◌, ◌<◌, min}
-use native.Mathlib.Nat.{zero-add, suc-mul, mul-le-mul_right}
-use native.Mathlib.Omega.{arith}
-use lib.ListN.{length, get_or, take, drop, length-take, length-drop, length-append}
-use lib.Seq.{ext_get_or, get_or-take, get_or-drop, length-take-le}
+use Rattle.std.proofs.Common.{◌≡◌, refl, sym, ap, ap₂, ◌∙◌, true, List, [], ◌∷◌, ◌++◌, map, ℕ, zero, suc, ◌+◌, ◌*◌, ◌-◌, ◌%◌, ◌^◌, ◌≤◌, ◌<◌, min, zero-add, suc-mul, mul-le-mul_right, arith, length, get_or, take, drop, length-take, length-drop, length-append, ext_get_or, get_or-take, get_or-drop, length-take-le}
 use Rattle.scheme.specs.Lists.{span, rows}
 use Rattle.scheme.specs.Scheme.{q, sixteen, items, places, in_set, usable, usable_with, sets_with, list_length, mask, shares, key, first_message, reply}
 use Rattle.scheme.specs.Good.{Good}

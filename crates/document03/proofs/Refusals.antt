@@ -3,15 +3,10 @@
 --   is_user_same, fresh_same, open_same         the tests of an airfield's number and of a stage
 --   start_refusal_same .. part_refusal_same     the numbers of start, key maker, first message, and reply asked for the round of the key
 -- Assumes nothing.
-use mathlib.Core.Path.{◌≡◌, refl, sym, ap, ap₂, ◌∙◌}
-use mathlib.Core.Bool.{Bool, true, false, ◌&&◌, ◌||◌, not, cond}
-use mathlib.Core.List.{List}
-use Prim.Native.Nat.{ℕ, zero, suc, ◌+◌, ◌≤◌}
+use Rattle.std.proofs.Common.{◌≡◌, refl, sym, ap, ap₂, ◌∙◌, Bool, true, false, ◌&&◌, ◌||◌, not, cond, List, ℕ, zero, suc, ◌+◌, ◌≤◌, arith, le-ltb, lt-ltb, le-leb, eq-eqb, ne_eqb, ltb, leb, eqb, length}
 use native.Mathlib.Decide.{dec_le}
-use native.Mathlib.Omega.{arith}
-use borrow.Author.Tests.{le-ltb, lt-ltb, le-leb, lt-leb, eq-eqb, ne_eqb}
-use lib.Dec.{ltb, leb, eqb, eqb-suc-zero, eqb-suc-suc}
-use lib.ListN.{length}
+use borrow.Author.Tests.{lt-leb}
+use lib.Dec.{eqb-suc-zero, eqb-suc-suc}
 use Rattle.scheme.specs.Scheme.{sixteen, counts, plan_good, is_user, ◌then◌, unless, is_fresh, open_to, start_refusal, key_refusal, message_refusal, reply_refusal}
 use Rattle.scheme.proofs.Refusals.{then_assoc}
 use Rattle.client.specs.Client.{stage_of_number}

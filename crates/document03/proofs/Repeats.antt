@@ -2,13 +2,8 @@
 --   repeat_same             our answer to a repeat that is taken, and the state that it leads to
 --   Compared, compared      document 03's refusal beside ours: they are alike, or the record repeats
 -- Assumes nothing.
-use mathlib.Core.Path.{◌≡◌, refl, sym, ap, ◌∙◌}
-use mathlib.Core.Bool.{Bool, true, false, ◌&&◌, cond}
-use mathlib.Core.List.{List}
+use Rattle.std.proofs.Common.{◌≡◌, refl, sym, ap, ◌∙◌, Bool, true, false, ◌&&◌, cond, List, ℕ, eqb, eqb-true}
 use mathlib.Core.Option.{Option, none, some}
-use Prim.Native.Nat.{ℕ}
-use lib.Dec.{eqb}
-use borrow.Author.Tests.{eqb-true}
 use Rattle.scheme.specs.Scheme.{sixteen}
 use Rattle.scheme.specs.Service.{is_held, element_of, with_element, silent, refused, refusal, next_state, answer_of, is_finish}
 use Rattle.scheme.proofs.Tests.{holds, and_both}

@@ -2,13 +2,7 @@
 --   by_numbers                          what is said of an end, by document 03's numbers and a round
 --   key_says, first_says, reply_says    KeySays, FirstSays and ReplySays
 -- Assumes nothing.
-use mathlib.Core.Path.{◌≡◌, sym, ap, ◌∙◌}
-use mathlib.Core.Logic.{◌≢◌}
-use mathlib.Core.List.{List}
-use Prim.Native.Nat.{ℕ, zero, suc, ◌+◌}
-use native.Mathlib.Omega.{arith}
-use borrow.Author.Tests.{eqb-true}
-use lib.ListN.{length}
+use Rattle.std.proofs.Common.{◌≡◌, sym, ap, ◌∙◌, ◌≢◌, List, ℕ, zero, suc, ◌+◌, arith, eqb-true, length}
 use Rattle.scheme.specs.Scheme.{Plan, Use, counts, Stage, sixteen, key_length, first_message, reply_start, key_refusal, message_refusal, reply_refusal, after, key_left}
 use Rattle.scheme.proofs.Tests.{and_both}
 use Rattle.scheme.proofs.Refusals.{then_zero, start_taken, unless_zero, after_taken, after_refused}

@@ -5,15 +5,7 @@
 --   index_rank, usable_index, holding_index              the place of a set in a row of sets
 --   list_long_same, key_long_same, reply_start_same      lengths and places
 -- Assumes nothing.
-use mathlib.Core.Path.{◌≡◌, refl, sym, ap, ap₂, ◌∙◌}
-use mathlib.Core.Bool.{Bool, true, false, ◌&&◌, cond}
-use mathlib.Core.List.{List, ◌∷◌}
-use Prim.Native.Nat.{ℕ, zero, suc, ◌+◌, ◌*◌, ◌/◌, ◌%◌, ◌^◌, ◌<◌}
-use native.Mathlib.Nat.{add-zero, zero-add}
-use native.Mathlib.Omega.{arith}
-use borrow.Author.Tests.{eq-eqb, ne_eqb}
-use lib.Dec.{ltb, leb}
-use lib.ListN.{length}
+use Rattle.std.proofs.Common.{◌≡◌, refl, sym, ap, ap₂, ◌∙◌, Bool, true, false, ◌&&◌, cond, List, ◌∷◌, ℕ, zero, suc, ◌+◌, ◌*◌, ◌/◌, ◌%◌, ◌^◌, ◌<◌, add-zero, zero-add, arith, eq-eqb, ne_eqb, ltb, leb, length}
 use Rattle.scheme.specs.Lists.{keep, members, rank}
 use Rattle.scheme.specs.Scheme.{plan_good, items, places, in_set, ones, usable, usable_with, usable_sets, sets_with, list_length, key_length, reply_start}
 use Rattle.scheme.proofs.Tests.{and_joined, holds}

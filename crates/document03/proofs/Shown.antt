@@ -5,14 +5,7 @@
 --   from_ours                                         its third demand for tables of a kind follows from ours
 --   nothing_told                                      so it holds for all elements
 -- Assumes nothing.
-use mathlib.Core.Path.{◌≡◌, refl, sym, ap, ap₂, ◌∙◌}
-use mathlib.Core.Bool.{Bool, true, false, ◌&&◌, cond}
-use mathlib.Core.List.{List, [], ◌∷◌, map}
-use Prim.Native.Nat.{ℕ, zero, suc, ◌+◌, ◌-◌, ◌/◌, ◌≤◌}
-use native.Mathlib.Omega.{arith}
-use borrow.Author.Tests.{eqb-true}
-use lib.Dec.{ltb, leb, eqb}
-use lib.ListN.{length}
+use Rattle.std.proofs.Common.{◌≡◌, refl, sym, ap, ap₂, ◌∙◌, Bool, true, false, ◌&&◌, cond, List, [], ◌∷◌, map, ℕ, zero, suc, ◌+◌, ◌-◌, ◌/◌, ◌≤◌, arith, eqb-true, ltb, leb, eqb, length}
 use Rattle.scheme.specs.Lists.{span, keep, members, all_of}
 use Rattle.scheme.specs.Scheme.{q, sixteen, elements, within, Plan, plan_good, counts, reach, figure_bound, figures_good, in_set, usable, users_in, list_length, key, first_message, reply}
 use Rattle.scheme.specs.Promise.{Table, rows_good, element_rows, list_good, Shown, shown, Alike, Matching, NothingTold}

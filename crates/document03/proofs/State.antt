@@ -5,15 +5,10 @@
 --   quieted, refusal_same                       the numbers of all records: ours are document 03's, but 0 for the 13 of a repeat
 --   taken_same                                  a record that passes document 03's tests passes ours
 -- Assumes nothing.
-use mathlib.Core.Path.{◌≡◌, refl, sym, ap, ap₂, ◌∙◌}
-use mathlib.Core.Bool.{Bool, true, false, ◌&&◌, ◌||◌, not, cond}
-use mathlib.Core.List.{List, [], ◌∷◌}
+use Rattle.std.proofs.Common.{◌≡◌, refl, sym, ap, ap₂, ◌∙◌, Bool, true, false, ◌&&◌, ◌||◌, not, cond, List, [], ◌∷◌, ℕ, zero, suc, ◌+◌, ◌-◌, ◌^◌, ◌≤◌, arith, le-ltb, lt-ltb, le-leb, eq-eqb, ne_eqb, ltb, leb, eqb}
 use mathlib.Core.Option.{Option, none, some}
-use Prim.Native.Nat.{ℕ, zero, suc, ◌+◌, ◌-◌, ◌^◌, ◌≤◌}
 use native.Mathlib.Decide.{dec_le, ℕ_discrete}
-use native.Mathlib.Omega.{arith}
-use borrow.Author.Tests.{le-ltb, lt-ltb, le-leb, lt-leb, eq-eqb, ne_eqb}
-use lib.Dec.{ltb, leb, eqb}
+use borrow.Author.Tests.{lt-leb}
 use Rattle.scheme.specs.Lists.{span, all_of}
 use Rattle.scheme.specs.Scheme.{q, sixteen, places, is_user, ones, ◌then◌, unless}
 use Rattle.scheme.specs.Service.{has_plan, is_gathering, is_replying, plan_missing, second_plan, not_gathering, not_replying, is_held, element_of, with_element, takes, set_of, complete_set, gathered, replied, element_refusal, refusal}

@@ -4,13 +4,8 @@
 --   steps_same               for a step of document 03, ours has the step that belongs beside it
 --   steps_ours               a step of ours, from a state that stands for one of document 03's, belongs beside a step there
 -- Assumes nothing.
-use mathlib.Core.Path.{◌≡◌, refl, sym, ap, ap₂, ◌∙◌, subst}
-use mathlib.Core.Logic.{◌≢◌, ⊎_elim}
-use mathlib.Core.Bool.{Bool, true, false, not, cond}
-use mathlib.Core.List.{List}
-use Prim.Native.Nat.{ℕ, zero, suc, ◌+◌}
-use native.Mathlib.Omega.{arith}
-use borrow.Author.Tests.{not-true, eqb-true}
+use Rattle.std.proofs.Common.{◌≡◌, refl, sym, ap, ap₂, ◌∙◌, subst, ◌≢◌, ⊎_elim, Bool, true, false, not, cond, List, ℕ, zero, suc, ◌+◌, arith, eqb-true}
+use borrow.Author.Tests.{not-true}
 use Rattle.scheme.specs.Scheme.{sixteen, ones}
 use Rattle.scheme.specs.Good.{Good}
 use Rattle.scheme.specs.Aside.{all_agree, one_aside}

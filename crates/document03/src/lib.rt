@@ -9,7 +9,7 @@
 ghost use Rattle.document03.specs.Ours.{ClientOf};
 ghost use Rattle.document03.specs.Entry.{KeySays, FirstSays, ReplySays};
 
-use client::Client;
+use client::{Client, Stage};
 use plan::{Plan, Use};
 
 #[derive(Clone, Copy)]
@@ -26,6 +26,7 @@ pub struct Sent {
     pub stage: u32,
 }
 
+#[tactic(auto, using(crate::proofs::Says::key_says))]
 pub fn make_key(
     airfields: u32,
     least: u32,
@@ -43,7 +44,10 @@ pub fn make_key(
         collusion: colluders,
         blocks,
     };
-    keys::make_key(plan, airfield, random, output)
+    match keys::make_key(plan, airfield, random, output) {
+        Ok(()) => 0,
+        Err(refusal) => u32::from(refusal),
+    }
 }
 
 // The end that these numbers tell.
@@ -69,11 +73,12 @@ fn client_of(
         user: airfield,
         usage: Use::Counts,
         round,
-        stage: client::stage_of_number(stage),
+        stage: Stage::from(stage),
     }
 }
 
 // Of an end of any round.
+#[tactic(auto, using(crate::proofs::Says::first_says, plan::proofs::Numbers::refused_ne0))]
 pub fn first_message(
     airfields: u32,
     least: u32,
@@ -90,15 +95,20 @@ pub fn first_message(
         output.old output.new }
 {
     let client = client_of(airfields, least, colluders, blocks, airfield, round, stage);
-    let answer = client.first_message(key, figures, output);
-    let number = answer.number;
-    if number != 0 {
-        return Sent { number, stage };
+    match client.first_message(key, figures, output) {
+        Ok(_) => Sent {
+            number: 0,
+            stage: 1,
+        },
+        Err(refusal) => Sent {
+            number: u32::from(refusal),
+            stage,
+        },
     }
-    Sent { number, stage: 1 }
 }
 
 // Of an end of any round, asked for the round of the key: `round` is both. 33, of a request for another, is not document 03's.
+#[tactic(auto, using(crate::proofs::Says::reply_says, client::proofs::Laws::answered, scheme::proofs::PlanBounds::usable_le))]
 pub fn reply_part(
     airfields: u32,
     least: u32,
@@ -113,21 +123,18 @@ pub fn reply_part(
     ensures { ReplySays airfields least colluders blocks airfield stage key.now set result }
 {
     let client = client_of(airfields, least, colluders, blocks, airfield, round, stage);
-    let plan = client.plan;
-    let user = client.user;
-    let number = client.reply_refusal(key, set, round);
-    if number != 0 {
-        return Part {
-            number,
+    match client.check_reply(key, set, round) {
+        Ok(()) => Part {
+            number: 0,
+            start: plan::reply_start(client.plan, client.user, set) as u32,
+            count: blocks,
+            stage: 2 + set,
+        },
+        Err(refusal) => Part {
+            number: u32::from(refusal),
             start: 0,
             count: 0,
             stage,
-        };
-    }
-    Part {
-        number,
-        start: plan::reply_start(plan, user, set) as u32,
-        count: blocks,
-        stage: 2 + set,
+        },
     }
 }

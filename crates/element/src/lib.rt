@@ -59,10 +59,7 @@ pub fn subtract(a: u16, b: u16) -> u16
 fn over_if(test: bool) -> u16
     ensures { result ≡ (if test then word - q else 0) }
 {
-    if test {
-        return OVER16;
-    }
-    0
+    if test { OVER16 } else { 0 }
 }
 
 pub fn multiply(a: u16, b: u16) -> u16
@@ -152,10 +149,7 @@ pub fn coefficient(user: u32, column: u32) -> u16
 fn past(x: u16, most: u16) -> u16
     ensures { result ≡ x - most }
 {
-    if most < x {
-        return x - most;
-    }
-    0
+    x.saturating_sub(most)
 }
 
 // How far x is past the last element: 0 of an element.
@@ -170,10 +164,8 @@ pub fn all_within(list: &[u16], most: u16) -> bool
     ensures { result ≡ within most list.now }
 {
     let mut beyond: u16 = 0;
-    let mut i = 0;
-    while i < list.len() {
-        beyond = beyond | past(list[i], most);
-        i += 1;
+    for x in list {
+        beyond |= past(*x, most);
     }
     beyond == 0
 }
@@ -202,10 +194,8 @@ pub fn all_near(list: &[u16], most: u16) -> bool
     ensures { result ≡ near sixteen most list.now }
 {
     let mut beyond: u16 = 0;
-    let mut at = 0;
-    while at < list.len() {
-        beyond = beyond | far(list[at], most);
-        at += 1;
+    for element in list {
+        beyond |= far(*element, most);
     }
     beyond == 0
 }

@@ -8,10 +8,10 @@ use Prim.Native.Nat.{ℕ}
 use lib.IntN.{pos}
 use Rattle.scheme.proofs.Refusals.{after_refused}
 use Rattle.client.specs.declared.Stage.TheVariants.{Sent, Answered}
-use Rattle.reading.specs.declared.Reading.{Reading}
-use Rattle.reading.specs.declared.Reading.TheVariants as read
-use Rattle.reading.specs.declared.Residue.{Residue}
-use Rattle.reading.specs.declared.Residue.TheVariants as given
+use Rattle.reading.specs.Read.{Reading}
+use Rattle.reading.specs.Read as read
+use Rattle.reading.specs.Given.{Residue}
+use Rattle.reading.specs.Given as given
 use Rattle.service.specs.Calls.{first_left, reply_left}
 use Rattle.finish.specs.Finish.{finish_answer, finish_step}
 use Rattle.capi.specs.Ends.{end_at, start_left, part_by}

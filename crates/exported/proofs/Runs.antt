@@ -18,7 +18,7 @@ use Rattle.plan.specs.declared.Plan.{Plan}
 use Rattle.plan.specs.Plan.{plan_of}
 use Rattle.service.specs.declared.Service.{Service}
 use Rattle.service.specs.View.{phase_of, view, Formed}
-use Rattle.service.specs.declared.Stepped.{Stepped}
+use Rattle.service.specs.Calls.{Stepped}
 use Rattle.service.specs.Calls.{new_service, plan_refusal, planned, plan_step, open_refusal, open_step, first_step, reply_step}
 use Rattle.service.specs.Promise.{IsStep, NewFormed, PlanSteps, OpenSteps, FirstSteps, ReplySteps, CloseSteps}
 use Rattle.service.specs.Promise as calls

@@ -4,15 +4,8 @@
 --   explained_small                replies that something explains are elements
 --   choice_first                   where they are elements the closed solution explains the first U of them
 -- Assumes nothing.
-use mathlib.Core.Path.{◌≡◌, refl, sym, ◌∙◌, subst}
-use mathlib.Core.Bool.{true}
-use mathlib.Core.List.{List, map}
-use Prim.Native.Nat.{ℕ, ◌+◌, ◌≤◌, ◌<◌}
-use native.Mathlib.Omega.{arith}
-use lib.Dec.{eqb}
-use lib.ListN.{length, get_or, take, length-map}
-use lib.Seq.{take_at}
-use borrow.Author.Tests.{eqb-true}
+use Rattle.std.proofs.Common.{◌≡◌, refl, sym, ◌∙◌, subst, true, List, map, ℕ, ◌+◌, ◌≤◌, ◌<◌, arith, eqb, length, get_or, take, take_at, eqb-true}
+use lib.ListN.{length-map}
 use Rattle.scheme.specs.Limits.{most_users, most_threshold}
 use Rattle.scheme.specs.Lists.{span, all_of, padded, filled}
 use Rattle.scheme.specs.Scheme.{Arithmetic, Plan, ones, users_in, in_set}

@@ -5,16 +5,8 @@
 --   apart_right                 and replies that do not pass are apart
 --   aside_known, choice_known   what settles them is what is computed
 -- Assumes nothing.
-use mathlib.Core.Path.{◌≡◌, refl, sym, ap, ◌∙◌, subst}
-use mathlib.Core.Logic.{inl, inr}
-use mathlib.Core.Bool.{Bool, true, false, cond, ◌&&◌, ◌||◌}
-use mathlib.Core.List.{List, [], ◌∷◌}
-use Prim.Native.Nat.{ℕ, ◌+◌, ◌≤◌, ◌<◌}
+use Rattle.std.proofs.Common.{◌≡◌, refl, sym, ap, ◌∙◌, subst, inl, inr, Bool, true, false, cond, ◌&&◌, ◌||◌, List, [], ◌∷◌, ℕ, ◌+◌, ◌≤◌, ◌<◌, arith, ltb, leb, length, get_or, ltb-true, leb-true, lt-ltb, le-leb}
 use native.Mathlib.Decide.{dec_le}
-use native.Mathlib.Omega.{arith}
-use lib.Dec.{ltb, leb}
-use lib.ListN.{length, get_or}
-use borrow.Author.Tests.{ltb-true, leb-true, lt-ltb, le-leb}
 use Rattle.algebra.specs.Sums.{In}
 use Rattle.scheme.specs.Limits.{most_users, most_threshold}
 use Rattle.scheme.specs.Scheme.{Arithmetic, Plan, plan_good, in_set, ones, users_in}

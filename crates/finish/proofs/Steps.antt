@@ -4,13 +4,7 @@
 --   finish_same       on a well-formed state the tests of the plan and of the elements never act
 --   finish_steps, finish_right, finish_residues, aside_right, aside_residues, refused_unchanged     the statements of specs/Promise.antt
 -- Assumes nothing.
-use mathlib.Core.Path.{◌≡◌, refl, sym, ap, ◌∙◌, subst}
-use mathlib.Core.Bool.{Bool, true, false, ◌&&◌}
-use mathlib.Core.List.{List}
-use Prim.Native.Nat.{ℕ, zero, suc}
-use native.Mathlib.Omega.{arith}
-use lib.ListN.{take}
-use borrow.Author.Tests.{lt-ltb}
+use Rattle.std.proofs.Common.{◌≡◌, refl, sym, ap, ◌∙◌, subst, Bool, true, false, ◌&&◌, List, ℕ, zero, suc, arith, take, lt-ltb}
 use Rattle.scheme.specs.Limits.{most_users, most_threshold, most_blocks, most_places, firsts, cells}
 use Rattle.scheme.specs.Lists.{span, padded, filled}
 use Rattle.scheme.specs.Scheme.{Arithmetic, Plan, places, users_in, ◌then◌, unless, after}

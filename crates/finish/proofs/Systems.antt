@@ -4,15 +4,8 @@
 --   square, a_turn, cell_right            the system of a turn, what it is for the search, and its unknowns
 --   elements_right, elements_back         where the replies are elements
 -- Assumes nothing.
-use mathlib.Core.Path.{◌≡◌, refl, sym, ap, ◌∙◌, subst}
-use mathlib.Core.Bool.{Bool, true, cond}
-use mathlib.Core.List.{List}
-use Prim.Native.Nat.{ℕ, ◌+◌, ◌*◌, ◌-◌, ◌≤◌, ◌<◌}
+use Rattle.std.proofs.Common.{◌≡◌, refl, sym, ap, ◌∙◌, subst, Bool, true, cond, List, ℕ, ◌+◌, ◌*◌, ◌-◌, ◌≤◌, ◌<◌, arith, length, get_or, take, get_or-take, eq-eqb, eqb-true, lt-ltb, le-ltb, ltb-true}
 use native.Mathlib.Decide.{dec_lt}
-use native.Mathlib.Omega.{arith}
-use lib.ListN.{length, get_or, take}
-use lib.Seq.{get_or-take}
-use borrow.Author.Tests.{eq-eqb, eqb-true, lt-ltb, le-ltb, ltb-true}
 use Rattle.algebra.specs.Sums.{In}
 use Rattle.scheme.specs.Limits.{most_users, most_threshold, most_blocks, cells}
 use Rattle.scheme.specs.Lists.{span, filled}

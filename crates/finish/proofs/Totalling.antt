@@ -4,18 +4,9 @@
 --   totalling_start, totalling_room, totalling_more, totalling_end     the loop
 --   totals_same            what is written then are the totals of the survivors
 -- Assumes nothing.
-use mathlib.Core.Path.{◌≡◌, sym, ap, ap₂, ◌∙◌}
-use mathlib.Core.Logic.{◌≢◌}
-use mathlib.Core.Bool.{Bool, cond}
-use mathlib.Core.List.{List}
-use Prim.Native.Nat.{ℕ, ◌+◌, ◌*◌, ◌%◌, ◌≤◌, ◌<◌, ◌/◌}
-use native.Mathlib.Nat.{suc-mul, mul-zero, mul-le-mul_right, lt_of_mul-lt-mul_left, div-lt_iff_lt-mul, mod-lt, mod-add-mod, mod-add-div', zero-add}
-use native.Mathlib.Numerals.{add-one}
+use Rattle.std.proofs.Common.{◌≡◌, sym, ap, ap₂, ◌∙◌, ◌≢◌, Bool, cond, List, ℕ, ◌+◌, ◌*◌, ◌%◌, ◌≤◌, ◌<◌, ◌/◌, mul-zero, mul-le-mul_right, div-lt_iff_lt-mul, mod-lt, zero-add, arith, ltb, length, get_or, set, replicate, lt-ltb, le-ltb}
+use native.Mathlib.Nat.{lt_of_mul-lt-mul_left, mod-add-mod, mod-add-div'}
 use native.Mathlib.Decide.{dec_lt}
-use native.Mathlib.Omega.{arith}
-use lib.Dec.{ltb}
-use lib.ListN.{length, get_or, set, replicate}
-use borrow.Author.Tests.{lt-ltb, le-ltb}
 use Rattle.scheme.specs.Limits.{most_users, most_places}
 use Rattle.scheme.specs.Lists.{span, padded, filled}
 use Rattle.scheme.specs.Scheme.{Arithmetic, modular, sum, Plan, items, places, users_in}
@@ -34,10 +25,9 @@ next_same x t d = elim (dec_lt x t) [
   | no h ↦ le-ltb x t (omega arith) ∙ sym (le-ltb x (t + 1) (omega arith))
 ]
 
--- b blocks of item j are written, the next one at `at`
-pub record Totalling (A : Arithmetic) (xs ws : List ℕ) (n m j b at : ℕ) (out : List ℕ) : Type 0 where
+-- b blocks of item j are written
+pub record Totalling (A : Arithmetic) (xs ws : List ℕ) (n m j b : ℕ) (out : List ℕ) : Type 0 where
   pub high : b ≤ m
-  pub place : at ≡ b * n + j
   pub written : out ≡ some_totals A xs ws n m (j * m + b)
 
 -- sums, unknowns, U - T and M
@@ -55,33 +45,33 @@ module _ (A : Arithmetic) (xs ws : List ℕ) (n m : ℕ) (few : m * n ≤ most_p
   block_low i l some = (div-lt_iff_lt-mul {k = n} {x = i} {y = m} some).1 l
 
   module _ (j : ℕ) (inside : j < n) where
-    pub totalling_start : (out : List ℕ) → out ≡ some_totals A xs ws n m (j * m) → Totalling A xs ws n m j 0 j out
-    totalling_start out e = record { high = omega arith; place = omega arith; written = e ∙ ap (some_totals A xs ws n m) (omega arith) }
+    pub totalling_start : (out : List ℕ) → out ≡ some_totals A xs ws n m (j * m) → Totalling A xs ws n m j 0 out
+    totalling_start out e = record { high = omega arith; written = e ∙ ap (some_totals A xs ws n m) (omega arith) }
 
-    module _ (b at : ℕ) (out : List ℕ) (s : Totalling A xs ws n m j b at out) where
-      pub totalling_room : b < m → at < m * n
-      totalling_room l = omega (arith, s.place, digits_lt b m j n l inside)
+    module _ (b : ℕ) (out : List ℕ) (s : Totalling A xs ws n m j b out) where
+      pub totalling_room : b < m → b * n + j < m * n
+      totalling_room l = omega (arith, digits_lt b m j n l inside)
 
       -- the turn is no other place's
-      alone : b < m → (i : ℕ) → i < m * n → i ≢ at → turn_of n m i ≢ j * m + b
+      alone : b < m → (i : ℕ) → i < m * n → i ≢ b * n + j → turn_of n m i ≢ j * m + b
       alone l i k d e =
           let c = block_low i k (omega arith) in
           let x : i % n ≡ j = sym (quotient (i % n) (i / n) m c) ∙ ap (λ (t : ℕ). t / m) e ∙ quotient j b m l in
           let y : i / n ≡ b = sym (rest (i % n) (i / n) m c) ∙ ap (λ (t : ℕ). t % m) e ∙ rest j b m l in
-          d (omega (arith, s.place, mod-add-div' i n, ap (λ (t : ℕ). t * n) y))
+          d (omega (arith, mod-add-div' i n, ap (λ (t : ℕ). t * n) y))
 
-      pub totalling_more : (x : ℕ) → b < m → x ≡ A.subtract (get_or xs at 0) (cell ws j b) → Totalling A xs ws n m j (b + 1) (at + n) (set out at x)
+      pub totalling_more : (x : ℕ) → b < m → x ≡ A.subtract (get_or xs (b * n + j) 0) (cell ws j b) → Totalling A xs ws n m j (b + 1) (set out (b * n + j) x)
       unfolding some_totals place_total
       totalling_more x l e =
-          let hi : at / n ≡ b = ap (λ (i : ℕ). i / n) s.place ∙ quotient b j n inside in
-          let lo : at % n ≡ j = ap (λ (i : ℕ). i % n) s.place ∙ rest b j n inside in
+          let at : ℕ = b * n + j in
+          let hi : at / n ≡ b = quotient b j n inside in
+          let lo : at % n ≡ j = rest b j n inside in
           let t : ℕ = j * m + b in
           let here : turn_of n m at ≡ t = ap₂ (λ (i c : ℕ). i * m + c) lo hi in
           let value : x ≡ rule (t + 1) at = e ∙ ap₂ (λ (i c : ℕ). A.subtract (get_or xs at 0) (cell ws i c)) (sym lo) (sym hi)
           ∙ ap (λ (d : Bool). cond d (place_total A xs ws n at) 0) (sym (lt-ltb (turn_of n m at) (t + 1) (omega (arith, here)))) in
           record {
             high = omega arith;
-            place = omega (arith, s.place, suc-mul b n, ap (λ (k : ℕ). k * n) (add-one b));
             written = ap₂ (λ (o : List ℕ) (y : ℕ). set o at y) s.written value
                 ∙ filled_set most_places (m * n) (rule t) (rule (t + 1)) at few (totalling_room l) (λ i k d.
                 ap (λ (d : Bool). cond d (place_total A xs ws n i) 0) (next_same (turn_of n m i) t (alone l i k d)))

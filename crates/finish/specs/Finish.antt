@@ -1,7 +1,8 @@
 -- What the finish call answers and leaves, for every state value, over an arithmetic with its laws.
 --   rows_of, values_of, columns   the users of a set, and their replies of a block, in a place for each user; the columns' points
---   finished, finish_refused      the state after a finish; what a refused one hands back
---   finishing                     the answer where head and arrays stand apart
+--   finished, finish_refused      the state after a finish; what a refused one answers and leaves
+--   aside_told                    the user whom a call says it set aside, 0 if none
+--   Finished, finishing           what the call answers and leaves: the number, the user set aside, 0 if none, the totals, and the state
 --   all_elements                  replies that are elements
 --   choice_of                     the sums and noise of each block: the closed solution of the first U replies of a set
 --   agree, fitting                whether it explains all of them; the users without whose reply it does
@@ -10,7 +11,7 @@
 --   finish_refusal                11, 12, 15, 16; on a well-formed state the tests of the plan and of the elements never act
 --   finish_answer, finish_step    the whole answer, of a refusal's number and of a state
 -- Assumes nothing: these are definitions.
-use Rattle.std.specs.Prelude.{Bool, cond, ◌&&◌, ◌||◌, List, map, ℕ, ◌+◌, ltb, leb, length, get_or, replicate}
+use Rattle.std.specs.Prelude.{unwrap_or, Option, Result, Ok, Err, Bool, cond, ◌&&◌, ◌||◌, List, map, ℕ, ◌+◌, ltb, leb, length, get_or, replicate}
 use Rattle.scheme.specs.Limits.{most_users, most_threshold, most_places}
 use Rattle.scheme.specs.Lists.{span, members, all_of, padded}
 use Rattle.scheme.specs.Scheme.{Arithmetic, Plan, plan_good, in_set, ones, users_in, ◌then◌, unless, after}
@@ -19,14 +20,15 @@ use Rattle.scheme.specs.Solve.{unknown_at}
 use Rattle.scheme.specs.Totals.{explains_all}
 use Rattle.scheme.specs.Aside.{without}
 use Rattle.scheme.specs.Service.{not_replying, replied, values, totals_by}
+use Rattle.plan.specs.declared.refusal.Refusal.{Refusal}
+use Rattle.plan.specs.Numbers.{number_of}
 use Rattle.plan.specs.Plan.{plan_of}
 use Rattle.service.specs.declared.Phase.TheVariants.{Idle}
 use Rattle.service.specs.declared.Head.{Head}
 use Rattle.service.specs.declared.Service.{Service}
 use Rattle.service.specs.View.{phase_of, view}
-use Rattle.service.specs.Calls.{lent, nothing_first, nothing_reply}
-use Rattle.finish.specs.declared.FinishedHead.{FinishedHead}
-use Rattle.finish.specs.declared.Finished.{Finished}
+use Rattle.service.specs.Calls.{nothing_first, nothing_reply}
+use Rattle.finish.specs.declared.Total.{Total}
 
 unfoldable pub rows_of : Plan → (set : ℕ) → List ℕ
 rows_of p r = padded most_users (users_in p r)
@@ -46,13 +48,24 @@ finished h =
       reply = nothing_reply;
     }
 
+pub record Finished : Type 0 where
+  pub number : ℕ
+  pub aside : ℕ
+  pub totals : List ℕ
+  pub service : Service
+
 -- a refused finish hands back its number alone: no user is set aside, and the totals are 0
 abbrev pub finish_refused : (number : ℕ) → Service → Finished
 finish_refused n s = record { number = n; aside = 0; totals = replicate most_places 0; service = s }
 
--- where head and arrays stand apart
-abbrev pub finishing : FinishedHead → (first reply : List ℕ) → Finished
-finishing r xs ys = record { number = r.number; aside = r.aside; totals = r.totals; service = lent r.head xs ys }
+abbrev pub aside_told : Result (Option ℕ) Refusal → ℕ
+aside_told (Ok k) = unwrap_or k 0
+aside_told (Err r) = 0
+
+-- what a call handed back, and the state after it
+abbrev pub finishing : Result Total Refusal → Service → Finished
+finishing (Ok t) s = record { number = 0; aside = unwrap_or t.aside 0; totals = t.totals; service = s }
+finishing (Err r) s = finish_refused (number_of r) s
 
 -- no state that calls make has a reply that is no element
 unfoldable pub all_elements : Arithmetic → Plan → (set : ℕ) → (replies : (k block : ℕ) → ℕ) → Bool

@@ -9,12 +9,12 @@
 --   turn_of, some_totals                 the turn of a place, item by item; the totals of the first turns
 -- Over an arithmetic with its laws:
 --   solution_fits                        whether a row has the values that follow from the closed solution of the first U rows
---   RowsSolved                          of the closed solution of the first U rows the unknowns that are needed, and the first two further
+--   RowsSolved                           of the closed solution of the first U rows the unknowns that are needed, and the first two further
 --                                        rows that it does not fit
---   ExplainedRight                      what settles the replies of a set
---   Totalled, Answered                   the numbers and the totals: of a set of complete replies, of a state
+--   ExplainedRight                       what settles the replies of a set
+--   Totalled, Answered                   the number, the user set aside and the totals: of a set of complete replies, of a state
 -- Assumes nothing: these are definitions.
-use Rattle.std.specs.Prelude.{◌≡◌, Bool, cond, ◌&&◌, List, ℕ, ◌+◌, ◌*◌, ◌-◌, ◌/◌, ◌%◌, ◌≤◌, ◌<◌, ltb, length, get_or, replicate}
+use Rattle.std.specs.Prelude.{unwrap_or, ◌≡◌, Option, Result, IfSome, Bool, cond, ◌&&◌, List, ℕ, ◌+◌, ◌*◌, ◌-◌, ◌/◌, ◌%◌, ◌≤◌, ◌<◌, ltb, length, get_or, replicate}
 use Rattle.scheme.specs.Limits.{most_users, most_threshold, most_blocks, most_places}
 use Rattle.scheme.specs.Lists.{span, padded, filled}
 use Rattle.scheme.specs.Scheme.{Arithmetic, modular, sum, Plan, items, users_in, unless, after}
@@ -22,12 +22,13 @@ use Rattle.scheme.specs.Laws.{Laws}
 use Rattle.scheme.specs.Solve.{cell, grid, block, unknown_at, unknowns_of, row_fits, FirstMisfit}
 use Rattle.scheme.specs.Totals.{totals}
 use Rattle.element.specs.Word.{most_word}
+use Rattle.plan.specs.declared.refusal.Refusal.{Refusal}
+use Rattle.plan.specs.Numbers.{numbered}
 use Rattle.service.specs.declared.Service.{Service}
 use Rattle.service.specs.View.{held_in}
 use Rattle.finish.specs.declared.Users.{Users}
 use Rattle.finish.specs.declared.Misfits.{Misfits}
-use Rattle.finish.specs.declared.Numbers.{Numbers}
-use Rattle.finish.specs.Finish.{rows_of, columns, choice_of, aside_of, heard, all_elements, is_settled, finish_refusal, finish_answer}
+use Rattle.finish.specs.Finish.{rows_of, columns, choice_of, aside_of, heard, all_elements, is_settled, finish_refusal, finish_answer, aside_told}
 
 pub record Listed (p : Plan) (v : ℕ) (us : Users) : Type 0 where
   pub list_right : us.list ≡ rows_of p v
@@ -89,22 +90,24 @@ module _ (A : Arithmetic) (L : Laws A most_users most_threshold) where
   -- of m rows with their values
   pub record RowsSolved (p : Plan) (rows values : List ℕ) (m : ℕ) (s : Misfits) (unknowns : List ℕ) : Type 0 where
     pub unknowns_right : (i b : ℕ) → i < items p → b < p.blocks → cell unknowns i b ≡ unknown_at A L rows columns (block values b) p.threshold i
-    pub first_right : FirstMisfit (solution_fits p rows values) p.threshold m s.first
-    pub second_right : s.first < m → FirstMisfit (solution_fits p rows values) (s.first + 1) m s.second
+    pub first_right : FirstMisfit (solution_fits p rows values) p.threshold m (unwrap_or s.first m)
+    pub first_low : IfSome s.first (λ a. a < m)
+    pub second_right : IfSome s.first (λ a. FirstMisfit (solution_fits p rows values) (a + 1) m (unwrap_or s.second m))
+    pub second_low : IfSome s.second (λ a. a < m)
 
-  pub record ExplainedRight (p : Plan) (r : ℕ) (reply : List ℕ) (n : Numbers) (unknowns : List ℕ) : Type 0 where
-    pub number_right : let y = held_in most_blocks reply in n.number ≡ unless (all_elements A p r y && is_settled A L p r y) 16
-    pub aside_right : n.aside ≡ after n.number (aside_of A L p r (held_in most_blocks reply)) 0
-    pub unknowns_right : n.number ≡ 0 → (i b : ℕ) → i < items p → b < p.blocks
+  pub record ExplainedRight (p : Plan) (r : ℕ) (reply : List ℕ) (told : Result (Option ℕ) Refusal) (unknowns : List ℕ) : Type 0 where
+    pub number_right : let y = held_in most_blocks reply in numbered told ≡ unless (all_elements A p r y && is_settled A L p r y) 16
+    pub aside_right : aside_told told ≡ after (numbered told) (aside_of A L p r (held_in most_blocks reply)) 0
+    pub unknowns_right : numbered told ≡ 0 → (i b : ℕ) → i < items p → b < p.blocks
         → cell unknowns i b ≡ get_or (choice_of A L p (heard A L p r (held_in most_blocks reply)) (held_in most_blocks reply) b) i 0
 
-  pub record Totalled (p : Plan) (r v : ℕ) (first reply : List ℕ) (n : Numbers) (out : List ℕ) : Type 0 where
-    pub number_right : let y = held_in most_blocks reply in n.number ≡ unless (all_elements A p r y && is_settled A L p r y) 16
-    pub aside_right : n.aside ≡ after n.number (aside_of A L p r (held_in most_blocks reply)) 0
-    pub totals_right : let y = held_in most_blocks reply in out ≡ after n.number
+  pub record Totalled (p : Plan) (r v : ℕ) (first reply : List ℕ) (told : Result (Option ℕ) Refusal) (out : List ℕ) : Type 0 where
+    pub number_right : let y = held_in most_blocks reply in numbered told ≡ unless (all_elements A p r y && is_settled A L p r y) 16
+    pub aside_right : aside_told told ≡ after (numbered told) (aside_of A L p r (held_in most_blocks reply)) 0
+    pub totals_right : let y = held_in most_blocks reply in out ≡ after (numbered told)
         (padded most_places (totals A p v (held_in most_places first) (choice_of A L p (heard A L p r y) y))) (replicate most_places 0)
 
-  pub record Answered (s : Service) (n : Numbers) (out : List ℕ) : Type 0 where
-    pub number_right : n.number ≡ finish_refusal A L s
-    pub aside_right : n.aside ≡ (finish_answer A L n.number s).aside
-    pub totals_right : out ≡ (finish_answer A L n.number s).totals
+  pub record Answered (s : Service) (told : Result (Option ℕ) Refusal) (out : List ℕ) : Type 0 where
+    pub number_right : numbered told ≡ finish_refusal A L s
+    pub aside_right : aside_told told ≡ (finish_answer A L (numbered told) s).aside
+    pub totals_right : out ≡ (finish_answer A L (numbered told) s).totals

@@ -1,41 +1,39 @@
 // The random list from raw bytes: first the bytes are counted, then the list is filled, so that a refused call has written nothing.
-//   refusal                      tests 1, 2, 31
+//   check_list                   tests 1, 2, 31
 //   is_enough                    whether the bytes fill a list
-//   fill, row_of, fill_row       the list, at most ROW numbers at a time
+//   fill, fill_row               the list, at most ROW numbers at a time
 //   copy_numbers, pick_elements  a row in which no number is skipped; any row
 //   count_skipped                how many numbers are skipped
-//   number_at, pair              a number of two bytes
+//   number_at                    a number of two bytes
 ghost use Rattle.std.specs.Prelude.{◌≡◌, true, ◌+◌, ◌*◌, ◌-◌, ◌≤◌, ◌<◌, length, get_or};
 ghost use Rattle.scheme.specs.Limits.{most_list};
 ghost use Rattle.scheme.specs.Scheme.{sixteen};
 ghost use Rattle.scheme.specs.Drawn.{byte, fills, drawn, list_refusal};
 ghost use Rattle.scheme.specs.DrawnParts.{Skipped, DrawnTo};
 ghost use Rattle.plan.specs.Plan.{plan_of};
+ghost use Rattle.plan.specs.Numbers.{numbered};
 
 use element::{Q16, excess};
-use plan::{Plan, is_good, list_of};
+use plan::{Plan, Refusal, is_good, list_of};
 
 // So many numbers are copied at a time, since few are skipped. Nothing tells the compiler that bytes and list do not overlap: it copies a
 // row of this length by vectors after a look at the pointers, and a much shorter one number by number.
 const ROW: usize = 64;
 
-// What 8 bits count to.
-const BYTE: u16 = 256;
-
 // 1, 2, 31. `n` is the length of the lent list.
-pub fn refusal(plan: Plan, bytes: &[u8], n: usize) -> u32
-    ensures { result ≡ list_refusal sixteen (plan_of plan) bytes.now n }
+pub fn check_list(plan: Plan, bytes: &[u8], n: usize) -> Result<(), Refusal>
+    ensures { numbered result ≡ list_refusal sixteen (plan_of plan) bytes.now n }
 {
     if !is_good(plan) {
-        return 1;
+        return Err(Refusal::BadPlan);
     }
     if n != list_of(plan) {
-        return 2;
+        return Err(Refusal::BadLength);
     }
     if !is_enough(bytes, n) {
-        return 31;
+        return Err(Refusal::BytesRunOut);
     }
-    0
+    Ok(())
 }
 
 // As many numbers are looked through as elements are missing, until none is.
@@ -67,21 +65,10 @@ pub fn fill(bytes: &[u8], list: &mut [u16])
     let mut at = 0;
     let mut filled = 0;
     while filled < len {
-        let n = row_of(len - filled);
+        let n = ROW.min(len - filled);
         filled = fill_row(bytes, at, list, filled, n);
         at += 2 * n;
     }
-}
-
-// How many numbers the next row has, where so many elements are missing.
-fn row_of(missing: usize) -> usize
-    requires { 0 < missing }
-    ensures { (0 < result) × (result ≤ missing) }
-{
-    if missing < ROW {
-        return missing;
-    }
-    ROW
 }
 
 // The list has room for n elements more. Hands back how far it is filled.
@@ -107,14 +94,10 @@ fn copy_numbers(bytes: &[u8], from: usize, list: &mut [u16], to: usize, n: usize
     ensures kept { DrawnTo sixteen bytes.now (length list.old) list.new to from }
 {
     let mut past: u16 = 0;
-    let mut at = from;
-    let mut i = 0;
-    while i < n {
-        let x = number_at(bytes, at);
+    for i in 0..n {
+        let x = number_at(bytes, from + 2 * i);
         list[to + i] = x;
-        past = past | excess(x);
-        at += 2;
-        i += 1;
+        past |= excess(x);
     }
     past == 0
 }
@@ -124,17 +107,13 @@ fn pick_elements(bytes: &[u8], from: usize, list: &mut [u16], to: usize, n: usiz
     requires n_in_bounds { (to + n ≤ length list.old) × (from + 2 * n ≤ length bytes.now) }
     ensures { DrawnTo sixteen bytes.now (length list.old) list.new result (from + 2 * n) }
 {
-    let mut at = from;
     let mut filled = to;
-    let mut i = 0;
-    while i < n {
-        let x = number_at(bytes, at);
+    for i in 0..n {
+        let x = number_at(bytes, from + 2 * i);
         if x < Q16 {
             list[filled] = x;
             filled += 1;
         }
-        at += 2;
-        i += 1;
     }
     filled
 }
@@ -145,28 +124,18 @@ fn count_skipped(bytes: &[u8], from: usize, n: usize) -> usize
     ensures { Skipped sixteen bytes.now from n result }
 {
     let mut skipped: u16 = 0;
-    let mut at = from;
-    let mut i = 0;
-    while i < n {
-        if Q16 <= number_at(bytes, at) {
+    for i in 0..n {
+        if Q16 <= number_at(bytes, from + 2 * i) {
             skipped += 1;
         }
-        at += 2;
-        i += 1;
     }
     skipped as usize
 }
 
+// "Low byte first."
 fn number_at(bytes: &[u8], at: usize) -> u16
     requires { at + 2 ≤ length bytes.now }
     ensures { result ≡ get_or bytes.now (at + 1) 0 * byte + get_or bytes.now at 0 }
 {
-    pair(bytes[at], bytes[at + 1])
-}
-
-// "Low byte first."
-fn pair(low: u8, high: u8) -> u16
-    ensures { result ≡ high * byte + low }
-{
-    high as u16 * BYTE + low as u16
+    u16::from_le_bytes([bytes[at], bytes[at + 1]])
 }

@@ -3,7 +3,7 @@
 //   write_blocks, write_blocks_of   sums plus numbers times coefficients, block by block
 //   coefficients                    those of some columns
 //   weigh, times, reduced           numbers times coefficients; a sum reduced
-//   no_row                          zeros
+//   zeros                           as many as an array has
 ghost use Rattle.std.specs.Prelude.{◌≡◌, map, ℕ, ◌+◌, ◌*◌, ◌≤◌, ◌<◌, length, get_or, replicate};
 ghost use Rattle.std.proofs.lemmas.List.Edits.{sets};
 ghost use Rattle.scheme.specs.Limits.{most_blocks, most_items, points};
@@ -19,28 +19,25 @@ use plan::{BLOCKS, MOST_ITEMS, USERS};
 // n numbers of each, lane by lane, into a row of its own: nothing tells the compiler that lent lists do not overlap. With n told by the caller
 // the loop is short until it is part of the caller, which alone lets the compiler take it in at both places.
 pub fn add_rows(a: &[u16], i: usize, c: &[u16], j: usize, n: usize) -> [u16; BLOCKS]
-    requires n_le_most_blocks { (n ≤ most_blocks) × (i + n ≤ length a.now) × (j + n ≤ length c.now) }
-    requires by_index { (b : ℕ) → b < n → get_or a.now (i + b) 0 < q }
-    requires by_index_2 { (b : ℕ) → b < n → get_or c.now (j + b) 0 < q }
+    requires room { (n ≤ most_blocks) × (i + n ≤ length a.now) × (j + n ≤ length c.now) }
+    requires a_small { (b : ℕ) → b < n → get_or a.now (i + b) 0 < q }
+    requires c_small { (b : ℕ) → b < n → get_or c.now (j + b) 0 < q }
     ensures { result ≡ filled most_blocks n (λ b. sixteen.add (get_or a.now (i + b) 0) (get_or c.now (j + b) 0)) }
 {
-    let mut row = no_row();
-    let mut b = 0;
-    while b < n {
+    let mut row = zeros();
+    for b in 0..n {
         row[b] = add(a[i + b], c[j + b]);
-        b += 1;
     }
     row
 }
 
+// Number by number: by `copy_from_slice` a key takes longer.
 pub fn put_row(row: &[u16; BLOCKS], out: &mut [u16], at: usize)
     requires { at + most_blocks ≤ length out.old }
     ensures { out.new ≡ sets out.old at (map (λ b. get_or row.now b 0) (span most_blocks 0)) }
 {
-    let mut b = 0;
-    while b < BLOCKS {
+    for b in 0..BLOCKS {
         out[at + b] = row[b];
-        b += 1;
     }
 }
 
@@ -87,12 +84,8 @@ pub fn write_blocks_of(
 {
     // a copy, which no write to out can change
     let own = *row;
-    let mut from = start;
-    let mut b = 0;
-    while b < blocks {
-        out[at + b] = reduced(sums[b], weigh(&own, n, list, from));
-        from += n;
-        b += 1;
+    for b in 0..blocks {
+        out[at + b] = reduced(sums[b], weigh(&own, n, list, start + b * n));
     }
 }
 
@@ -101,11 +94,9 @@ pub fn coefficients(user: u32, first: u32, n: u32) -> [u16; USERS]
     requires { (user + (first + n) ≤ points) × (n ≤ most_items) }
     ensures { Coefficients sixteen user first n result }
 {
-    let mut row = [0u16; USERS];
-    let mut i: u32 = 0;
-    while i < n {
+    let mut row = zeros();
+    for i in 0..n {
         row[i as usize] = coefficient(user, first + i);
-        i += 1;
     }
     row
 }
@@ -116,10 +107,8 @@ fn weigh(row: &[u16; USERS], n: usize, list: &[u16], from: usize) -> u64
     ensures { Unreduced q most_product (λ i. get_or row.now i 0 * get_or list.now (from + i) 0) 0 n result }
 {
     let mut sum: u64 = 0;
-    let mut i = 0;
-    while i < n {
-        sum = sum + times(row[i], list[from + i]);
-        i += 1;
+    for i in 0..n {
+        sum += times(row[i], list[from + i]);
     }
     sum
 }
@@ -137,8 +126,8 @@ fn reduced(a: u16, b: u64) -> u16
     ((a as u64 + b) % Q as u64) as u16
 }
 
-pub fn no_row() -> [u16; BLOCKS]
-    ensures { result ≡ replicate most_blocks 0 }
+pub fn zeros<const N: usize>() -> [u16; N]
+    ensures { result ≡ replicate N 0 }
 {
-    [0u16; BLOCKS]
+    [0; N]
 }

@@ -1,21 +1,18 @@
 -- Texts written behind one another.
 --   take_sets                        what stands before the text's end
 --   put_none, put_append, put_as     of Put: no text, two texts, an equal text
---   put_more, put_all                one byte more of a text, and the whole of it
 --   put_length                       the buffer keeps its length
---   put_spell, put_decimal           a number's digits: those of a high part, then those of the low part
+--   wrote_none, wrote_append, wrote_as, wrote_more    of Wrote: no text, two texts, an equal text, one byte more
+--   put_through                      the buffer behind a writer that is done with
+--   wrote_spell, wrote_decimal       a number's digits: those of a high part, then those of the low part
 --   numbers_more                     numbers, one more of a list
 -- Assumes nothing.
-use mathlib.Core.Path.{◌≡◌, refl, sym, ap, ap₂, ◌∙◌}
-use mathlib.Core.List.{List, [], ◌∷◌, ◌++◌, append_assoc, append-nil}
-use Prim.Native.Nat.{ℕ, ◌+◌, ◌/◌, ◌%◌, ◌^◌, ◌≤◌, ◌<◌}
-use native.Mathlib.Numerals.{add-one}
-use native.Mathlib.Omega.{arith}
-use lib.ListN.{length, get_or, take, set, length-append}
-use lib.Seq.{sets, sets-eq, length-sets, take_at, take-suc, take-length, length-take-le}
+use Rattle.std.proofs.Common.{◌≡◌, refl, sym, ap, ap₂, ◌∙◌, List, [], ◌∷◌, ◌++◌, append_assoc, append-nil, ℕ, ◌+◌, ◌/◌, ◌%◌, ◌^◌, ◌≤◌, ◌<◌, add-one, arith, length, get_or, take, length-append, take_at, take-suc, length-take-le}
+use lib.Seq.{sets, sets-eq, length-sets}
 use Rattle.scheme.proofs.Lists.{sets_append}
 use Rattle.lines.specs.Text.{decimal, spell, numbers}
-use Rattle.lines.specs.Put.{Put}
+use Rattle.lines.specs.declared.Writer.{Writer}
+use Rattle.lines.specs.Put.{Put, Wrote}
 use Rattle.lines.proofs.Decimals.{spell_parts, decimal_parts}
 
 -- ---- sets
@@ -38,25 +35,36 @@ put_append {o} {p} {q} {at} {a} {b} {xs} {ys} x y =
 pub put_as : {o p : List ℕ} {at a : ℕ} {xs ys : List ℕ} → Put o p at a xs → xs ≡ ys → Put o p at a ys
 put_as x e = rw e at x
 
-pub put_more : {o p : List ℕ} {at : ℕ} (t : List ℕ) (i : ℕ) → i < length t → Put o p at (at + i) (take i t)
-    → Put o (set p (at + i) (get_or t i 0)) at (at + (i + 1)) (take (i + 1) t)
-put_more {o} {p} {at} t i h x =
-    let e : take (i + 1) t ≡ take i t ++ (get_or t i 0 ∷ []) = ap (λ (n : ℕ). take n t) (add-one i) ∙ take-suc t i 0 h in
-    put_as (put_append x (record { place = omega arith; bytes = refl })) (sym e)
-
-pub put_all : {o p : List ℕ} {at : ℕ} (t : List ℕ) (i : ℕ) → i ≡ length t → Put o p at (at + i) (take i t) → Put o p at (at + length t) t
-put_all t i e x = put_as (rw e at x) (take-length t)
-
 pub put_length : {o p : List ℕ} {at a : ℕ} {xs : List ℕ} → Put o p at a xs → length p ≡ length o
 put_length {o} {p} {at} {a} {xs} x = ap length x.bytes ∙ length-sets o at xs
 
-module _ {o p q : List ℕ} {at a b : ℕ} where
-  pub put_spell : (j k n : ℕ) → Put o p at a (spell j (n / 10 ^ k)) → Put p q a b (spell k (n % 10 ^ k)) → Put o q at b (spell (j + k) n)
-  put_spell j k n x y = put_as (put_append x y) (spell_parts j k n)
+-- ---- Wrote
+pub wrote_none : (r : Writer) → Wrote r r []
+wrote_none r = record { same = refl; long = refl; put = put_none _ _ }
 
-  pub put_decimal : (k n : ℕ) → 10 ^ k ≤ n → n < 10 ^ 20
-      → Put o p at a (decimal (n / 10 ^ k)) → Put p q a b (spell k (n % 10 ^ k)) → Put o q at b (decimal n)
-  put_decimal k n lo hi x y = put_as (put_append x y) (decimal_parts k n lo hi)
+pub wrote_append : {r s t : Writer} {xs ys : List ℕ} → Wrote r s xs → Wrote s t ys → Wrote r t (xs ++ ys)
+wrote_append x y = record { same = y.same ∙ x.same; long = y.long ∙ x.long; put = put_append x.put y.put }
+
+pub wrote_as : {r s : Writer} {xs ys : List ℕ} → Wrote r s xs → xs ≡ ys → Wrote r s ys
+wrote_as x e = rw e at x
+
+-- one byte more of a text
+pub wrote_more : {r : Writer} {s t : Writer} (l : List ℕ) (i : ℕ) → i < length l → Wrote r s (take i l) → Wrote s t (get_or l i 0 ∷ []) → Wrote r t (take (i + 1) l)
+wrote_more l i h x y =
+    let e : take (i + 1) l ≡ take i l ++ (get_or l i 0 ∷ []) = ap (λ (n : ℕ). take n l) (add-one i) ∙ take-suc l i 0 h in
+    wrote_as (wrote_append x y) (sym e)
+
+-- what the buffer holds then
+pub put_through : {r s : Writer} {p xs ys : List ℕ} → Wrote r s xs → p ≡ s.out.now → xs ≡ ys → Put r.out.now p r.at s.at ys
+put_through x d e = rw (d, ← e) x.put
+
+module _ {r s t : Writer} where
+  pub wrote_spell : (j k n : ℕ) → Wrote r s (spell j (n / 10 ^ k)) → Wrote s t (spell k (n % 10 ^ k)) → Wrote r t (spell (j + k) n)
+  wrote_spell j k n x y = wrote_as (wrote_append x y) (spell_parts j k n)
+
+  pub wrote_decimal : (k n : ℕ) → 10 ^ k ≤ n → n < 10 ^ 20
+      → Wrote r s (decimal (n / 10 ^ k)) → Wrote s t (spell k (n % 10 ^ k)) → Wrote r t (decimal n)
+  wrote_decimal k n lo hi x y = wrote_as (wrote_append x y) (decimal_parts k n lo hi)
 
 -- ---- numbers
 numbers_append : (l k : List ℕ) → numbers (l ++ k) ≡ numbers l ++ numbers k

@@ -4,11 +4,13 @@
 --   room                      the bytes that the text of any answer fits into
 --   Put                       a text, written over a list from a place on, and the place behind it
 --   Says                      so the text of an answer that names no offset
+--   Wrote                     a text, written through a writer that goes on behind it
 -- Assumes nothing: these are definitions.
 use Rattle.std.specs.Prelude.{◌≡◌, List, ℕ, ◌+◌, ◌*◌, length}
 use Rattle.std.proofs.lemmas.List.Edits.{sets}
 use Rattle.scheme.specs.Limits.{most_places}
 use Rattle.scheme.specs.Service.{Answer}
+use Rattle.lines.specs.declared.Writer.{Writer}
 use Rattle.lines.specs.Text.{line}
 
 -- 64 bits are 20 digits at most, and 16 bits are 5
@@ -33,3 +35,9 @@ pub record Put (before after : List ℕ) (at next : ℕ) (text : List ℕ) : Typ
 
 abbrev pub Says : (before after : List ℕ) → (at next : ℕ) → Answer → Type 0
 Says before after at next answer = (offset : ℕ) → Put before after at next (line offset answer)
+
+-- into the same buffer, which keeps its length
+pub record Wrote (before after : Writer) (text : List ℕ) : Type 0 where
+  pub same : after.out.ghost_name ≡ before.out.ghost_name
+  pub long : length after.out.now ≡ length before.out.now
+  pub put : Put before.out.now after.out.now before.at after.at text

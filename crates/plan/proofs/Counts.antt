@@ -6,17 +6,10 @@
 --   sets_few              at most most_sets
 --   sets_entry            the table's entry of a number of users and a threshold
 -- Assumes nothing.
-use mathlib.Core.Path.{◌≡◌, refl, sym, ap, ap₂, ◌∙◌}
-use mathlib.Core.Bool.{Bool, true, false, ◌&&◌, cond}
-use Prim.Native.Nat.{ℕ, zero, suc, ◌+◌, ◌*◌, ◌-◌, ◌/◌, ◌%◌, ◌^◌, ◌≤◌, ◌<◌}
-use native.Mathlib.Nat.{zero-add, mul_comm, pow-suc, div-one, div-div-eq-div-mul}
-use native.Mathlib.Numerals.{add-one}
+use Rattle.std.proofs.Common.{◌≡◌, refl, sym, ap, ap₂, ◌∙◌, Bool, true, false, ◌&&◌, cond, ℕ, zero, suc, ◌+◌, ◌*◌, ◌-◌, ◌/◌, ◌%◌, ◌^◌, ◌≤◌, ◌<◌, zero-add, mul_comm, pow-suc, div-one, add-one, arith, ltb, leb, eqb, length, pow_mono, lt-ltb, le-leb}
+use native.Mathlib.Nat.{div-div-eq-div-mul}
 use native.Mathlib.Decide.{dec_le}
-use native.Mathlib.Omega.{arith}
-use lib.Dec.{ltb, leb, eqb}
-use lib.ListN.{length}
-use lib.Pow.{pow_mono}
-use borrow.Author.Tests.{lt-ltb, le-leb, lt-leb}
+use borrow.Author.Tests.{lt-leb}
 use Rattle.scheme.specs.Limits.{most_users, most_sets}
 use Rattle.scheme.specs.Lists.{rank}
 use Rattle.scheme.specs.Scheme.{Plan, in_set, ones, usable, usable_with, usable_sets, sets_with}

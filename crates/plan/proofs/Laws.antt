@@ -2,12 +2,7 @@
 --   ones_same                                the machine's count of ones is the definition's, of a number of k bits
 --   Counting, counting_start, counting_more_in, counting_more_out, counting_end   a loop that counts the numbers that pass a test
 -- Assumes nothing.
-use mathlib.Core.Path.{◌≡◌, sym, ap, ◌∙◌}
-use mathlib.Core.Logic.{◌≢◌}
-use mathlib.Core.Bool.{Bool, true, false}
-use Prim.Native.Nat.{ℕ, zero, suc, ◌+◌, ◌/◌, ◌%◌, ◌^◌, ◌≤◌, ◌<◌}
-use native.Mathlib.Nat.{pow-suc}
-use native.Mathlib.Omega.{arith}
+use Rattle.std.proofs.Common.{◌≡◌, sym, ap, ◌∙◌, ◌≢◌, Bool, true, false, ℕ, zero, suc, ◌+◌, ◌/◌, ◌%◌, ◌^◌, ◌≤◌, ◌<◌, pow-suc, arith}
 use lib.Count as machine
 use Rattle.scheme.specs.Lists.{rank}
 use Rattle.scheme.specs.Scheme.{ones}

@@ -1,10 +1,7 @@
 -- A lookup that is taken finds the shares.
 --   found_right   from the start on they lie in the key, by the law of replies
 -- Assumes nothing.
-use mathlib.Core.Path.{ap, ◌∙◌}
-use Prim.Native.Nat.{ℕ}
-use native.Mathlib.Omega.{arith}
-use lib.ListN.{take, drop}
+use Rattle.std.proofs.Common.{ap, ◌∙◌, ℕ, arith, take, drop}
 use Rattle.scheme.specs.Scheme.{Arithmetic, usable_with, key, reply_start, reply}
 use Rattle.scheme.proofs.Tests.{and_joined}
 use Rattle.scheme.proofs.Refusals.{lookup_taken, after_taken}

@@ -2,6 +2,7 @@
 -- table. Lengths: how long the lists are that a caller lends, and how far from zero a figure may lie. Found: what a lookup answers.
 -- Promise: what holds of a lookup that is taken.
 pub mod Plan
+pub mod Numbers
 pub mod Limits
 pub mod Counts
 pub mod Lengths

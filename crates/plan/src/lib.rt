@@ -2,19 +2,20 @@
 //   Plan                                              K, U, T and M, as they come
 //   MOST_USERS .., USERS ..                           their limits; the lengths of arrays
 //   Limits, document_limits                           all of them, which the contract holds to those of document 01
-//   is_good, start_refusal                            tests 1 and 4
+//   Refusal                                           why a call is refused, with document 01's number
+//   is_good, check_start                              tests 1 and 4
 //   holds, is_usable, has_enough, is_usable_with      sets of users
 //   row_length, list_length, key_length               how long lent lists are: 0 for what tests 1 and 4 refuse
 //   places_of, list_of, key_of                        the same of what those tests have let pass
-//   Use, use_of_number                                whether figures are counts or signed; where a use is kept as a number
+//   Use                                               whether figures are counts or signed; from the number that a use is kept as
 //   reach_of                                          how far from zero a total can be told
 //   figure_bound, bound_of                            how far from zero a figure may lie: 0 for what test 1 refuses; of what it has let pass
 //   count_sets, reply_start                           how many sets; where a reply lies in the key
-//   Found, find_reply                                 where a reply lies, of any plan, user and set, or the number of tests 1, 4, 5 and 6
+//   find_reply                                        where a reply lies, of any plan, user and set, or why not: tests 1, 4, 5 and 6
 // Document 01's airfield is a user here. What has a `requires` is for plans that passed test 1.
 #![tactic(auto)]
 
-ghost use Rattle.std.specs.Prelude.{◌≡◌, ◌+◌, ◌*◌, ◌^◌, ◌≤◌, ◌<◌, length};
+ghost use Rattle.std.specs.Prelude.{◌≡◌, ◌+◌, ◌*◌, ◌^◌, ◌≤◌, ◌<◌, length, IfOk};
 ghost use Rattle.scheme.specs.Limits.{most_users, most_places, most_sets, most_list, most_key};
 ghost use Rattle.scheme.specs.Lists.{rank};
 ghost use Rattle.scheme.specs.Scheme.{q, sixteen, plan_good, reach, figure_bound, start_refusal, in_set, usable, usable_with, usable_sets, sets_with, places, list_length, key_length, reply_start, lookup_refusal};
@@ -23,7 +24,12 @@ ghost use Rattle.plan.specs.Plan.{plan_of, use_of, code_use};
 ghost use Rattle.plan.specs.Limits.{document_limits};
 ghost use Rattle.plan.specs.Counts.{fewest, counts, sets_of, sets_rule};
 ghost use Rattle.plan.specs.Lengths.{row_len, list_len, key_len, largest_figure};
-ghost use Rattle.plan.specs.Found.{found};
+ghost use Rattle.plan.specs.Numbers.{numbered};
+ghost use Rattle.plan.specs.Found.{found_by, found};
+
+mod refusal;
+
+pub use refusal::Refusal;
 
 // "K airfields, 3 to 8 .. T at least 1 .. M blocks, 1 to 16"
 pub const LEAST_USERS: u32 = 3;
@@ -95,6 +101,8 @@ pub fn document_limits() -> Limits
     }
 }
 
+// Any four numbers are a plan. That test 1 lets them pass is a clause of what needs it, and no type: these functions are for everybody, and of
+// their callers a type would ask more than the clause.
 #[derive(Clone, Copy)]
 pub struct Plan {
     pub users: u32,
@@ -110,21 +118,16 @@ pub enum Use {
     Signed,
 }
 
-// What a lookup answers: 0 or the refusal's number, and where the shares start, 0 after a refusal.
-#[derive(Clone, Copy)]
-pub struct Found {
-    pub number: u32,
-    pub start: usize,
-}
-
 // 0 is counts, anything else is signed.
-pub fn use_of_number(number: u32) -> Use
-    ensures { result ≡ code_use number }
-{
-    if number == 0 {
-        return Use::Counts;
+impl From<u32> for Use {
+    ghost from_gives = { λ number usage. usage ≡ code_use number };
+
+    fn from(number: u32) -> Use {
+        match number {
+            0 => Use::Counts,
+            _ => Use::Signed,
+        }
     }
-    Use::Signed
 }
 
 // Test 1.
@@ -156,22 +159,19 @@ pub fn is_good(p: Plan) -> bool
 }
 
 // "Start of an end: 1, 4."
-pub fn start_refusal(p: Plan, user: u32) -> u32
-    ensures { result ≡ start_refusal (plan_of p) user }
+pub fn check_start(p: Plan, user: u32) -> Result<(), Refusal>
+    ensures { numbered result ≡ start_refusal (plan_of p) user }
 {
     if !is_good(p) {
-        return 1;
+        return Err(Refusal::BadPlan);
     }
-    if user < 1 {
-        return 4;
+    if user < 1 || p.users < user {
+        return Err(Refusal::BadUser);
     }
-    if p.users < user {
-        return 4;
-    }
-    0
+    Ok(())
 }
 
-// Bit user - 1 of the set.
+// Bit user - 1 of the set, which is a number, as document 01 names it.
 pub fn holds(set: u32, user: u32) -> bool
     requires { (1 ≤ user) × (user ≤ 32) }
     ensures { result ≡ in_set set user }
@@ -192,10 +192,7 @@ pub fn is_usable(p: Plan, set: u32) -> bool
     requires { Good (plan_of p) }
     ensures { result ≡ usable (plan_of p) set }
 {
-    if count_sets(p) <= set {
-        return false;
-    }
-    has_enough(p, set)
+    set < count_sets(p) && has_enough(p, set)
 }
 
 // Of a set with no member above K.
@@ -211,10 +208,7 @@ fn is_usable_with(p: Plan, user: u32, set: u32) -> bool
     requires { (set < 2 ^ p.users) × (1 ≤ user) × (user ≤ most_users) }
     ensures { result ≡ usable_with (plan_of p) user set }
 {
-    if holds(set, user) {
-        return has_enough(p, set);
-    }
-    false
+    holds(set, user) && has_enough(p, set)
 }
 
 // The counts have a row for each number of users, from one less than the least K on, and in it an entry for each threshold below USERS.
@@ -319,7 +313,8 @@ pub fn bound_of(p: Plan, usage: Use) -> u16
     (reach_of(usage) / p.users) as u16
 }
 
-// How long a row of figures is, and a first message.
+// How long a row of figures is, and a first message. This and the lengths below cannot fail: they are 0 where a test refuses. The guard is a line
+// in each, which a function over the four would not shorten.
 pub fn row_length(p: Plan) -> usize
     ensures { (result ≡ row_len (plan_of p)) × (result ≤ most_places) }
 {
@@ -341,10 +336,10 @@ pub fn list_length(p: Plan) -> usize
 pub fn key_length(p: Plan, user: u32) -> usize
     ensures { (result ≡ key_len (plan_of p) user) × (result ≤ most_key) }
 {
-    if start_refusal(p, user) != 0 {
-        return 0;
+    match check_start(p, user) {
+        Ok(()) => key_of(p, user),
+        Err(_) => 0,
     }
-    key_of(p, user)
 }
 
 // How far from zero a figure may lie.
@@ -366,30 +361,24 @@ pub fn reply_start(p: Plan, user: u32, set: u32) -> usize
 }
 
 // 1, 4, 5, 6, of a lookup.
-fn lookup_refusal(p: Plan, user: u32, set: u32) -> u32
-    ensures { result ≡ lookup_refusal (plan_of p) user set }
+fn check_lookup(p: Plan, user: u32, set: u32) -> Result<(), Refusal>
+    ensures { numbered result ≡ lookup_refusal (plan_of p) user set }
 {
-    let number = start_refusal(p, user);
-    if number != 0 {
-        return number;
-    }
+    check_start(p, user)?;
     if !is_usable(p, set) {
-        return 5;
+        return Err(Refusal::SetUnusable);
     }
     if !holds(set, user) {
-        return 6;
+        return Err(Refusal::NotInSet);
     }
-    0
+    Ok(())
 }
 
 // Where the M shares for a set start, of any plan, user and set. It needs no key, and hands out no share.
-pub fn find_reply(p: Plan, user: u32, set: u32) -> Found
-    ensures { (result ≡ found (plan_of p) user set) × (result.start ≤ most_key) }
+pub fn find_reply(p: Plan, user: u32, set: u32) -> Result<usize, Refusal>
+    ensures found { found_by result ≡ found (plan_of p) user set }
+    ensures small { IfOk result (λ start. start ≤ most_key) }
 {
-    let number = lookup_refusal(p, user, set);
-    if number != 0 {
-        return Found { number, start: 0 };
-    }
-    let start = reply_start(p, user, set);
-    Found { number: 0, start }
+    check_lookup(p, user, set)?;
+    Ok(reply_start(p, user, set))
 }

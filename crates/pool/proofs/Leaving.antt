@@ -1,60 +1,51 @@
 -- What the code leaves in its values and buffers.
 --   fills_inside, asked, asked_due                   one read, and none where none is due
---   front_sets, same_sets                            the front of a buffer
+--   front_sets, same_sets, copied_front              the front of a buffer
 --   here_fits, used_inside, fed_leaves               one feed, and what it leaves
 --   wrote_inside                                     the text that any step leaves lies in the buffer
 --   silent_leaves, none_left, some_left, seven_leaves     what a silent step leaves, the end of the input, and the line of refusal 7
 --   step_as, bytes_fed                               one step, by what comes next and what a read brought
 -- Assumes nothing.
-use mathlib.Core.Path.{◌≡◌, refl, sym, ap, ◌∙◌, subst}
-use mathlib.Core.Bool.{Bool, true, false, cond}
-use mathlib.Core.List.{List, [], ◌∷◌, ◌++◌}
-use Prim.Native.Nat.{ℕ, zero, suc, ◌+◌, ◌-◌, ◌^◌, ◌≤◌, ◌<◌}
-use native.Mathlib.Nat.{zero-add}
+use Rattle.std.proofs.Common.{◌≡◌, refl, sym, ap, ap₂, ◌∙◌, subst, Bool, true, false, cond, List, [], ◌∷◌, ◌++◌, ℕ, zero, suc, ◌+◌, ◌-◌, ◌^◌, ◌≤◌, ◌<◌, zero-add, arith, ◌⊎◌, inl, inr, length, take, drop, take-append-drop, length-append, length-drop, take-take, length-take-le, ne_eqb, le-leb, Result, Ok, Err, pos}
 use native.Mathlib.Decide.{dec_le}
-use native.Mathlib.Omega.{arith}
-use lib.ListN.{length, take, drop, take-append-drop, length-append, length-drop}
-use lib.Seq.{sets, sets-eq, take-take, length-take-le, length-sets}
-use borrow.Author.Tests.{ne_eqb, le-leb}
-use Rattle.std.specs.Prelude.{Result, Ok, Err}
+use lib.Seq.{paste, sets, sets-eq, length-sets}
+use Rattle.std.proofs.lemmas.List.{drop-take}
 use Rattle.std.specs.declared.io.Error.{Error}
 use Rattle.std.specs.IoError.{kind_at}
-use Rattle.std.specs.Prelude.{pos}
 use Rattle.scheme.specs.Service.{refused}
 use Rattle.service.specs.declared.Service.{Service}
 use Rattle.lines.specs.Text.{numbers, line}
 use Rattle.lines.specs.Put.{room}
 use Rattle.lines.proofs.Decimals.{decimal_twenty}
 use Rattle.lines.proofs.Lines.{take_sets}
-use Rattle.stream.specs.declared.Fed.{Fed}
-use Rattle.stream.specs.Stream.{fed, lines, cut_length, cut_left}
+use Rattle.stream.specs.Stream.{Fed, fed, lines, cut_length, cut_left}
 use Rattle.stream.specs.Promise.{FedSays, FedRight}
 use Rattle.stream.proofs.Promise.{fed_right}
 use Rattle.stream.proofs.Feeding.{fed_far}
 use Rattle.pool.specs.declared.Read.{Read}
-use Rattle.pool.specs.declared.Read.TheVariants.{Bytes, Again, Failed}
+use Rattle.pool.specs.declared.Read.TheVariants.{Bytes, End, Again}
 use Rattle.pool.specs.declared.Why.{Why}
 use Rattle.pool.specs.declared.Why.TheVariants.{EndOfInput, CutShort}
 use Rattle.pool.specs.declared.Next.{Next}
-use Rattle.pool.specs.declared.Next.TheVariants.{Await, Refuse, Over}
+use Rattle.pool.specs.declared.Next.TheVariants.{Await, Feed, Refuse, Over}
 use Rattle.pool.specs.declared.Live.{Live}
 use Rattle.pool.specs.Turns.{again, Turn, comes, fed_turn, at_end, silent, step_by}
 use Rattle.pool.specs.Pool.{silent_live, Leaves, brought, Untouched, interrupted, Moves, read_as, Fills, step_of}
 
 -- ---- one read
 -- a read that brings bytes brings one at least, and no more than there is room for
-module _ (b b' : List ℕ) (have : ℕ) (r : Read) (g : Fills b b' have r) (n : ℕ) (e : r ≡ Bytes n) where
+module _ (b b' : List ℕ) (have : ℕ) (r : Result Read Error) (g : Fills b b' have r) (n : ℕ) (e : r ≡ Ok (Bytes n)) where
   pub fills_inside : (have < n) × (n ≤ length b)
   unfolding read_as
   fills_inside = pick g.got g.moved (sym g.result ∙ e)
     where
-      pick : (q : Result ℕ Error) → Moves (length b - have) q → read_as have q ≡ Bytes n → (have < n) × (n ≤ length b)
-      pick (Ok zero) m x = let z : ◌≡◌ {A = ℕ} 0 1 = cc in absurd (omega arith)
-      pick (Ok (suc k)) m x = let u : Bytes (have + suc k) ≡ Bytes n = rw (ne_eqb (suc k) 0 (λ z. omega arith)) at x in
+      pick : (q : Result ℕ Error) → Moves (length b - have) q → read_as have q ≡ Ok (Bytes n) → (have < n) × (n ≤ length b)
+      pick (Ok zero) m x = let u : ◌≡◌ {A = Result Read Error} (Ok End) (Ok (Bytes n)) = x in let z : ◌≡◌ {A = ℕ} 0 1 = cc in absurd (omega arith)
+      pick (Ok (suc k)) m x = let u : ◌≡◌ {A = Result Read Error} (Ok (Bytes (have + suc k))) (Ok (Bytes n)) = rw (ne_eqb (suc k) 0 (λ z. omega arith)) at x in
           let z : have + suc k ≡ n = cc in (omega arith, omega (arith, g.inside))
       pick (Err q) m x = other (interrupted q) x
         where
-          other : (y : Bool) → cond y Again Failed ≡ Bytes n → (have < n) × (n ≤ length b)
+          other : (y : Bool) → cond y (Ok Again) (Err q) ≡ Ok (Bytes n) → (have < n) × (n ≤ length b)
           other true z = let u : ◌≡◌ {A = ℕ} 0 1 = cc in absurd (omega arith)
           other false z = let u : ◌≡◌ {A = ℕ} 0 1 = cc in absurd (omega arith)
 
@@ -63,12 +54,20 @@ module _ (b b' : List ℕ) (have : ℕ) (r : Read) (g : Fills b b' have r) (n : 
 interruption : Error
 interruption = record { repr = 1; kind = 35; len = 0; code = pos 0; message = record { 0 = 0; 1 = 0; 2 = 0; 3 = 0; 4 = 0; 5 = 0; 6 = 0; 7 = 0; 8 = 0; 9 = 0 } }
 
-pub asked : (x y : Next) {b : List ℕ} {have : ℕ} → have ≤ length b → x ≡ y → Untouched y Again b b → Fills b b have Again × Untouched x Again b b
-unfolding read_as interrupted kind_at interruption
-asked x y {b} h e u =
-    (record { got = Err interruption; front = refl; inside = h; moved = tt; result = refl }, subst (λ (z : Next). Untouched z Again b b) (sym e) u)
+abbrev pub Undue : Next → Type 0
+Undue x = (x ≡ Feed) ⊎ (((y : Why) × (x ≡ Refuse y)) ⊎ ((y : Why) × (x ≡ Over y)))
 
-pub asked_due : (x : Next) (r : Read) (b b' : List ℕ) → x ≡ Await → Untouched x r b b'
+untouched : (x : Next) (b : List ℕ) → Undue x → Untouched x (Ok Again) b b
+unfolding Untouched
+untouched x b (inl e) = rw e (refl, refl)
+untouched x b (inr (inl p)) = rw p.1 (refl, refl)
+untouched x b (inr (inr p)) = rw p.1 (refl, refl)
+
+pub asked : (x : Next) {b : List ℕ} {have : ℕ} → have ≤ length b → Undue x → Fills b b have (Ok Again) × Untouched x (Ok Again) b b
+unfolding read_as interrupted kind_at interruption
+asked x {b} h u = (record { got = Err interruption; front = refl; inside = h; moved = tt; result = refl }, untouched x b u)
+
+pub asked_due : (x : Next) (r : Result Read Error) (b b' : List ℕ) → x ≡ Await → Untouched x r b b'
 unfolding Untouched
 asked_due x r b b' e = rw e tt
 
@@ -80,6 +79,14 @@ same_sets : (b : List ℕ) (h : ℕ) → h ≤ length b → b ≡ sets b 0 (take
 same_sets b h l =
     let e : 0 + length (take h b) ≡ h = omega (arith, length-take-le h b l) in
     sym (sets-eq (take h b) b 0 (omega (arith, length-take-le h b l)) ∙ ap (λ (i : ℕ). take h b ++ drop i b) e ∙ take-append-drop h b)
+
+-- the bytes from i to j, copied to the front
+pub copied_front : (b : List ℕ) (i j : ℕ) → i ≤ j → j ≤ length b → paste b 0 (drop i b) (j - i) ≡ sets b 0 (drop i (take j b))
+copied_front b i j h l =
+    let k : i + (j - i) ≡ j = omega arith in
+    let d : drop i (take j b) ≡ take (j - i) (drop i b) = ap (λ (n : ℕ). drop i (take n b)) (sym k) ∙ drop-take i (j - i) b in
+    let e : length (drop i (take j b)) ≡ j - i = omega (arith, length-drop i (take j b), length-take-le j b l) in
+    sym (sets-eq (drop i (take j b)) b 0 (omega arith) ∙ ap₂ (λ (c : List ℕ) (n : ℕ). c ++ drop (0 + n) b) d e)
 
 -- ---- one feed
 pub here_fits : (s : Service) (b : List ℕ) (o n : ℕ) (f : Fed) → f ≡ fed s b o n → o < 2 ^ 64 → o + f.at < 2 ^ 64
@@ -177,12 +184,12 @@ module _ (l : Live) (b : List ℕ) (h : l.have ≤ length b) where
 
 -- ---- one step, by what comes next and what a read brought
 module _ (n : ℕ) (l : Live) (b : List ℕ) {b' out out' : List ℕ} {r : Live} where
-  pub step_as : (x : Next) (c : Read) {y : Next} {read : Read} → y ≡ x → read ≡ c
+  pub step_as : (x : Next) (c : Result Read Error) {y : Next} {read : Result Read Error} → y ≡ x → read ≡ c
       → Leaves (step_of n x (brought c l.have b) l b) b b' out out' r → Leaves (step_of n y (brought read l.have b) l b) b b' out out' r
   step_as x c e d g = rw (e, d) g
 
   pub bytes_fed : (k : ℕ) → l.have < k → Leaves (fed_turn n l.service (take k b) l.offset) b b' out out' r
-      → Leaves (step_of n Await (brought (Bytes k) l.have b) l b) b b' out out' r
+      → Leaves (step_of n Await (brought (Ok (Bytes k)) l.have b) l b) b b' out out' r
   unfolding step_by brought
   bytes_fed k h g =
       let d : List ℕ = drop l.have (take k b) in

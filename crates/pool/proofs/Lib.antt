@@ -1,6 +1,5 @@
--- Moving: bytes moved to the front of a buffer. Standing: where a run stands behind each turn. Promise: the statements of specs/Promise.antt.
+-- Standing: where a run stands behind each turn. Promise: the statements of specs/Promise.antt.
 -- Leaving: what the code leaves in its values and buffers. Carrying: the bytes of reader and writer. Running: the turns of a run.
-pub mod Moving
 pub mod Standing
 pub mod Promise
 pub mod Leaving

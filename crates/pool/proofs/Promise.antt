@@ -6,14 +6,9 @@
 --   over_said              a run that is over has said all
 --   reads_right            what is printed over any reads are the lines of the whole input
 -- Assumes nothing.
-use mathlib.Core.Path.{◌≡◌, refl, sym, ap, ap₂, ◌∙◌, subst}
-use mathlib.Core.Bool.{true}
-use mathlib.Core.List.{List, [], ◌∷◌, ◌++◌, append-nil, append_assoc}
-use Prim.Native.Nat.{ℕ, zero, suc, ◌+◌, ◌-◌, ◌^◌, ◌≤◌, ◌<◌}
+use Rattle.std.proofs.Common.{◌≡◌, refl, sym, ap, ap₂, ◌∙◌, subst, true, List, [], ◌∷◌, ◌++◌, append-nil, append_assoc, ℕ, zero, suc, ◌+◌, ◌-◌, ◌^◌, ◌≤◌, ◌<◌, arith, lit<, length, take, drop, length-append, length-drop}
 use native.Mathlib.Decide.{dec_le}
-use native.Mathlib.Omega.{arith}
-use lib.Dec.{lit<}
-use lib.ListN.{length, take, drop, length-append, length-drop, get_or-append}
+use lib.ListN.{get_or-append}
 use Rattle.scheme.specs.Scheme.{sixteen}
 use Rattle.scheme.proofs.Tests.{holds}
 use Rattle.service.specs.declared.Service.{Service}
@@ -54,8 +49,8 @@ ends_said EndOfInput u b w h e = h.1 ∙ sym (ap said (ap (λ (c : List ℕ). u 
 ends_said CutShort u b w h e = h.1
 ends_said UnknownKind u b w h e = h.1
 ends_said TooFar u b w h e = absurd (holds e)
-ends_said ReadFailed u b w h e = absurd (holds e)
-ends_said WriteFailed u b w h e = absurd (holds e)
+ends_said (ReadFailed q) u b w h e = absurd (holds e)
+ends_said (WriteFailed q) u b w h e = absurd (holds e)
 
 pub output_right : OutputRight
 unfolding OutputRight RunRight Stands
@@ -76,8 +71,8 @@ SureWhy EndOfInput l = whole l ≡ []
 SureWhy CutShort l = whole l ≡ []
 SureWhy UnknownKind l = Unit {0}
 SureWhy TooFar l = Unit {0}
-SureWhy ReadFailed l = ⊥
-SureWhy WriteFailed l = ⊥
+SureWhy (ReadFailed q) l = ⊥
+SureWhy (WriteFailed q) l = ⊥
 
 unfoldable Sure : Next → (reads : List (List ℕ)) → Type 0
 Sure Await l = Unit {0}
@@ -169,8 +164,8 @@ module _ (u b w : List ℕ) (l : List (List ℕ)) (taken : all_taken (items 0 u)
       h.1 ∙ seven_said u taken UnknownKind b h.0
       ∙ sym (ap said (append_assoc u b (whole l)) ∙ seven_said u taken UnknownKind (b ++ whole l) (unknown_more h.0))
   over_said TooFar h e = absurd (omega arith)
-  over_said ReadFailed h e = absurd e
-  over_said WriteFailed h e = absurd e
+  over_said (ReadFailed q) h e = absurd e
+  over_said (WriteFailed q) h e = absurd e
 
   last_said : (x : Next) (k : ℕ) → Stands x u b w → Sure x l → cost x k ≤ 0 → w ≡ said ((u ++ b) ++ whole l)
   unfolding Stands Sure cost

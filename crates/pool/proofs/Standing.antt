@@ -4,16 +4,7 @@
 --   fed_so_far                 the bytes that are there are fed
 --   step_so_far, sent_so_far   one turn; how far its text is written
 -- Assumes nothing.
-use mathlib.Core.Path.{◌≡◌, refl, sym, ap, ◌∙◌, subst}
-use mathlib.Core.Bool.{true}
-use mathlib.Core.List.{List, [], ◌∷◌, ◌++◌, append-nil, append_assoc}
-use Prim.Native.Nat.{ℕ, ◌+◌, ◌≤◌}
-use native.Mathlib.Nat.{zero-add, add-zero}
-use native.Mathlib.Decide.{ℕ_discrete}
-use native.Mathlib.Omega.{arith}
-use lib.ListN.{length, get_or, take, drop, take-append-drop, length-append, length-drop}
-use lib.Seq.{get_or-drop, length-take-le, take_all}
-use borrow.Author.Tests.{eq-eqb, ne_eqb}
+use Rattle.std.proofs.Common.{◌≡◌, refl, sym, ap, ◌∙◌, subst, true, List, [], ◌∷◌, ◌++◌, append-nil, append_assoc, ℕ, ◌+◌, zero-add, add-zero, arith, length, get_or, take, drop, take-append-drop, length-append, length-drop, get_or-drop, length-take-le, take_all, Result, Ok, Err}
 use Rattle.scheme.specs.Service.{refused}
 use Rattle.service.specs.declared.Service.{Service}
 use Rattle.service.specs.Calls.{new_service}
@@ -28,7 +19,8 @@ use Rattle.pool.specs.declared.Why.{Why}
 use Rattle.pool.specs.declared.Why.TheVariants.{EndOfInput, CutShort, UnknownKind, TooFar, ReadFailed, WriteFailed}
 use Rattle.pool.specs.declared.Next.{Next}
 use Rattle.pool.specs.declared.Next.TheVariants.{Await, Feed, Refuse, Over}
-use Rattle.pool.specs.Turns.{Came, bytes, ended, again, failed, came_bytes, Turn, comes, fed_turn, at_end, silent, step_by, step, sent, Due}
+use Rattle.pool.specs.declared.GivenUp.{GivenUp}
+use Rattle.pool.specs.Turns.{Came, bytes, ended, again, failed, came_bytes, Turn, comes, fed_turn, at_end, silent, step_by, step, written_of, sent, Due, GivesUp}
 use Rattle.pool.specs.Promise.{said, Unfinished, Broken, Ends, Stands, SoFar}
 
 -- ---- whole records u, the state behind them, and what follows
@@ -55,8 +47,8 @@ module _ (u : List ℕ) (whole : all_taken (items 0 u) ≡ true) where
   seven_said UnknownKind b h = said_more b ∙ ap (λ (l : List ℕ). said u ++ l) (lines_broken (behind u) (length u) b h.0 (λ ne. absurd (ne h.1)))
   seven_said EndOfInput b h = absurd h
   seven_said TooFar b h = absurd h
-  seven_said ReadFailed b h = absurd h
-  seven_said WriteFailed b h = absurd h
+  seven_said (ReadFailed e) b h = absurd h
+  seven_said (WriteFailed e) b h = absurd h
 
   begins_used : (b w : List ℕ) → w ≡ said u → (rest : List ℕ) × (w ++ rest ≡ said (u ++ b))
   begins_used b w e = (lines (behind u) (length u) b, ap (λ (l : List ℕ). l ++ lines (behind u) (length u) b) e ∙ sym (said_more b))
@@ -67,8 +59,8 @@ module _ (u : List ℕ) (whole : all_taken (items 0 u) ≡ true) where
   begins_over CutShort b w h = ([], append-nil w ∙ h.1)
   begins_over UnknownKind b w h = ([], append-nil w ∙ h.1)
   begins_over TooFar b w h = begins_used b w h.1
-  begins_over ReadFailed b w h = begins_used b w h
-  begins_over WriteFailed b w h = h
+  begins_over (ReadFailed e) b w h = begins_used b w h
+  begins_over (WriteFailed e) b w h = h
 
   begins : (x : Next) (b w : List ℕ) → Stands x u b w → (rest : List ℕ) × (w ++ rest ≡ said (u ++ b))
   unfolding Stands
@@ -140,8 +132,8 @@ module _ (u : List ℕ) (whole : all_taken (items 0 u) ≡ true) where
     ends_seven UnknownKind w h e = (h, ap (λ (l : List ℕ). l ++ line (length u) (refused 7)) e ∙ sym (seven_said UnknownKind b h))
     ends_seven EndOfInput w h e = absurd h
     ends_seven TooFar w h e = absurd h
-    ends_seven ReadFailed w h e = absurd h
-    ends_seven WriteFailed w h e = absurd h
+    ends_seven (ReadFailed q) w h e = absurd h
+    ends_seven (WriteFailed q) w h e = absurd h
 
     step_stands : (x : Next) (c : Came) (w : List ℕ) → Stands x u b w → Due x c
         → SoFar (step_by n x c (behind u) b (length u)) ((u ++ b) ++ came_bytes c) (w ++ (step_by n x c (behind u) b (length u)).text)
@@ -149,7 +141,7 @@ module _ (u : List ℕ) (whole : all_taken (items 0 u) ≡ true) where
     step_stands Await (bytes r) w h d = rw (append_assoc u b r) (fed_so_far n (b ++ r) w h.1)
     step_stands Await ended w h d = nothing_read ended refl (silent_rests (at_end b) w (ends w h.0 h.1))
     step_stands Await again w h d = nothing_read again refl (silent_rests Await w h)
-    step_stands Await failed w h d = nothing_read failed refl (silent_rests (Over ReadFailed) w h.1)
+    step_stands Await (failed e) w h d = nothing_read (failed e) refl (silent_rests (Over (ReadFailed e)) w h.1)
     step_stands Feed c w h d = nothing_read c (ap came_bytes d) (fed_so_far n b w h)
     step_stands (Refuse y) c w h d = nothing_read c (ap came_bytes d) (rests (Over y) (ends_seven y w h.0 h.1))
     step_stands (Over y) c w h d = nothing_read c (ap came_bytes d) (silent_rests (Over y) w h)
@@ -164,26 +156,21 @@ module _ (n : ℕ) (t : Turn) (read w : List ℕ) (g : SoFar t read w) where
       (w ++ (step_by n t.next c s t.waiting (length g.used)).text)) (sym g.state)
       (step_stands g.used g.taken n t.waiting t.next c w g.stands d)))
 
-pub sent_so_far : (t : Turn) (read w : List ℕ) (i : ℕ) → SoFar t read (w ++ t.text) → i ≤ length t.text
-    → SoFar (sent i t) read (w ++ take i t.text)
+pub sent_so_far : (t : Turn) (read w : List ℕ) (p : Result Unit GivenUp) → SoFar t read (w ++ t.text) → GivesUp (length t.text) p
+    → SoFar (sent p t) read (w ++ take (written_of (length t.text) p) t.text)
 unfolding sent Stands Ends
-sent_so_far t read w i g h = pick (ℕ_discrete i (length t.text))
-  where
-    pick : Dec (i ≡ length t.text) → SoFar (sent i t) read (w ++ take i t.text)
-    pick (yes e) =
-        rw (eq-eqb i (length t.text) e)
-        (subst (λ (l : List ℕ). SoFar t read (w ++ l)) (sym (ap (λ (k : ℕ). take k t.text) e ∙ take_all (length t.text) t.text (omega arith))) g)
-    pick (no e) =
-        let a = begins g.used g.taken t.next t.waiting (w ++ t.text) g.stands in
-        rw (ne_eqb i (length t.text) e) (record {
-          used = g.used;
-          same = g.same;
-          taken = g.taken;
-          state = g.state;
-          place = g.place;
-          stands = (
-            drop i t.text ++ a.0,
-            sym (append_assoc (w ++ take i t.text) (drop i t.text) a.0) ∙ ap (λ (l : List ℕ). l ++ a.0)
-                (append_assoc w (take i t.text) (drop i t.text) ∙ ap (λ (l : List ℕ). w ++ l) (take-append-drop i t.text)) ∙ a.1,
-          );
-        })
+sent_so_far t read w (Ok u) g h = subst (λ (l : List ℕ). SoFar t read (w ++ l)) (sym (take_all (length t.text) t.text (omega arith))) g
+sent_so_far t read w (Err q) g h =
+    let a = begins g.used g.taken t.next t.waiting (w ++ t.text) g.stands in
+    record {
+      used = g.used;
+      same = g.same;
+      taken = g.taken;
+      state = g.state;
+      place = g.place;
+      stands = (
+        drop q.at t.text ++ a.0,
+        sym (append_assoc (w ++ take q.at t.text) (drop q.at t.text) a.0) ∙ ap (λ (l : List ℕ). l ++ a.0)
+            (append_assoc w (take q.at t.text) (drop q.at t.text) ∙ ap (λ (l : List ℕ). w ++ l) (take-append-drop q.at t.text)) ∙ a.1,
+      );
+    }

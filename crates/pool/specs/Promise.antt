@@ -34,8 +34,8 @@ Broken CutShort b = (0 < length b) × Unfinished b
 Broken UnknownKind b = (0 < length b) × (record_length (get_or b 0 0) ≡ 0)
 Broken EndOfInput b = ⊥
 Broken TooFar b = ⊥
-Broken ReadFailed b = ⊥
-Broken WriteFailed b = ⊥
+Broken (ReadFailed e) b = ⊥
+Broken (WriteFailed e) b = ⊥
 
 -- why the run is over, where whole records are used, the bytes b wait, and w is written: all lines of the input, with refusal 7 where it
 -- is broken; the lines of what is used; or, behind a failed write, the first bytes of the input's lines
@@ -44,8 +44,8 @@ Ends EndOfInput u b w = (b ≡ []) × (w ≡ said u)
 Ends CutShort u b w = Broken CutShort b × (w ≡ said (u ++ b))
 Ends UnknownKind u b w = Broken UnknownKind b × (w ≡ said (u ++ b))
 Ends TooFar u b w = (2 ^ 64 ≤ length u + length b) × (w ≡ said u)
-Ends ReadFailed u b w = w ≡ said u
-Ends WriteFailed u b w = (rest : List ℕ) × (w ++ rest ≡ said (u ++ b))
+Ends (ReadFailed e) u b w = w ≡ said u
+Ends (WriteFailed e) u b w = (rest : List ℕ) × (w ++ rest ≡ said (u ++ b))
 
 unfoldable pub Stands : Next → (used b w : List ℕ) → Type 0
 Stands Await u b w = Unfinished b × (w ≡ said u)
@@ -70,8 +70,8 @@ by_itself EndOfInput = true
 by_itself CutShort = true
 by_itself UnknownKind = true
 by_itself TooFar = false
-by_itself ReadFailed = false
-by_itself WriteFailed = false
+by_itself (ReadFailed e) = false
+by_itself (WriteFailed e) = false
 
 unfoldable pub OutputRight : Type 0
 OutputRight = (n : ℕ) (r : Live) (y : Why) → room ≤ n → (g : Ran n r) → r.next ≡ Over y → by_itself y ≡ true → g.written ≡ said g.read

@@ -4,12 +4,14 @@
 --   comes, fed_turn                 a turn that feeds the bytes that are there
 --   at_end, silent                  what comes where the input ends; a turn that writes nothing
 --   step_by, step                   one turn, by what comes next and what a read brings
---   sent                            a turn of whose text only the first bytes could be written
---   Due, Turns                      a read is made only where one is due; turns from the start on, with what they read and wrote
+--   written_of, sent                how far a text is written; a turn of whose text only the first bytes could be written
+--   Due, GivesUp, Turns             a read is made only where one is due; a text is given up only where some of it is not written; turns from
+--                                   the start on, with what they read and wrote
 --   next_came, left_reads           what a list of reads brings
 --   printed_from, whole, printed    what is printed over a list of reads, and the whole input
 -- Assumes nothing: these are definitions.
-use Rattle.std.specs.Prelude.{◌≡◌, cond, List, [], ◌∷◌, ◌++◌, ℕ, zero, suc, ◌+◌, ◌≤◌, eqb, length, take, drop}
+use Rattle.std.specs.Prelude.{◌≡◌, List, [], ◌∷◌, ◌++◌, ℕ, zero, suc, ◌+◌, ◌<◌, length, take, drop, Result, Ok, Err, IfErr}
+use Rattle.std.specs.declared.io.Error.{Error}
 use Rattle.scheme.specs.Service.{refused}
 use Rattle.service.specs.declared.Service.{Service}
 use Rattle.service.specs.Calls.{new_service}
@@ -20,19 +22,20 @@ use Rattle.stream.specs.Stream.{lines, fed}
 use Rattle.pool.specs.declared.Why.TheVariants.{EndOfInput, CutShort, UnknownKind, TooFar, ReadFailed, WriteFailed}
 use Rattle.pool.specs.declared.Next.{Next}
 use Rattle.pool.specs.declared.Next.TheVariants.{Await, Feed, Refuse, Over}
+use Rattle.pool.specs.declared.GivenUp.{GivenUp}
 
--- bytes, the end of the input, an interruption, or a failure
+-- bytes, the end of the input, an interruption, or a failure with its error
 pub data Came : Type 0 where
   bytes : (more : List ℕ) → Came
   ended : Came
   again : Came
-  failed : Came
+  failed : (error : Error) → Came
 
 unfoldable pub came_bytes : Came → List ℕ
 came_bytes (bytes r) = r
 came_bytes ended = []
 came_bytes again = []
-came_bytes failed = []
+came_bytes (failed e) = []
 
 pub record Turn : Type 0 where
   pub service : Service
@@ -77,7 +80,7 @@ unfoldable pub step_by : (n : ℕ) → Next → Came → Service → (b : List �
 step_by n Await (bytes r) s b o = fed_turn n s (b ++ r) o
 step_by n Await ended s b o = silent (at_end b) s b o
 step_by n Await again s b o = silent Await s b o
-step_by n Await failed s b o = silent (Over ReadFailed) s b o
+step_by n Await (failed e) s b o = silent (Over (ReadFailed e)) s b o
 step_by n Feed c s b o = fed_turn n s b o
 step_by n (Refuse y) c s b o = record { service = s; waiting = b; offset = o; next = Over y; text = line o (refused 7) }
 step_by n (Over y) c s b o = silent (Over y) s b o
@@ -86,11 +89,16 @@ step_by n (Over y) c s b o = silent (Over y) s b o
 abbrev pub step : (n : ℕ) → Came → Turn → Turn
 step n c t = step_by n t.next c t.service t.waiting t.offset
 
--- the first i bytes of its text are written: all, or a write failed
-unfoldable pub sent : (i : ℕ) → Turn → Turn
-sent i t =
-    cond (eqb i (length t.text)) t
-    (record { service = t.service; waiting = t.waiting; offset = t.offset; next = Over WriteFailed; text = take i t.text })
+-- of a text of n bytes: all are written, or it was given up
+abbrev pub written_of : (n : ℕ) → Result Unit GivenUp → ℕ
+written_of n (Ok u) = n
+written_of n (Err g) = g.at
+
+-- its text is written; or only these first bytes of it are, for a write failed with this error
+unfoldable pub sent : Result Unit GivenUp → Turn → Turn
+sent (Ok u) t = t
+sent (Err g) t =
+    record { service = t.service; waiting = t.waiting; offset = t.offset; next = Over (WriteFailed g.error); text = take g.at t.text }
 
 -- ---- MANY TURNS
 unfoldable pub Due : Next → Came → Type 0
@@ -99,11 +107,16 @@ Due Feed c = c ≡ again
 Due (Refuse y) c = c ≡ again
 Due (Over y) c = c ≡ again
 
+-- a text of n bytes is given up only where some of them are not written
+abbrev pub GivesUp : (n : ℕ) → Result Unit GivenUp → Type 0
+GivesUp n r = IfErr r (λ g. g.at < n)
+
 -- so many turns from the start on, whatever their reads bring and their writes take, read and wrote these bytes, and the last left this
 pub data Turns (n : ℕ) : (count : ℕ) (read written : List ℕ) → Turn → Type 0 where
   none : Turns n 0 [] [] first_turn
-  more : (k : ℕ) (read written : List ℕ) (t : Turn) (c : Came) (i : ℕ) → Turns n k read written t → Due t.next c
-      → i ≤ length (step n c t).text → Turns n (k + 1) (read ++ came_bytes c) (written ++ take i (step n c t).text) (sent i (step n c t))
+  more : (k : ℕ) (read written : List ℕ) (t : Turn) (c : Came) (p : Result Unit GivenUp) → Turns n k read written t → Due t.next c
+      → GivesUp (length (step n c t).text) p
+      → Turns n (k + 1) (read ++ came_bytes c) (written ++ take (written_of (length (step n c t).text) p) (step n c t).text) (sent p (step n c t))
 
 -- ---- A LIST OF READS
 unfoldable pub next_came : Next → (reads : List (List ℕ)) → Came

@@ -3,20 +3,19 @@
 --   below_zero                            an element above the reach as itself less q
 --   bad_plan, beyond, given               a figure of a bad plan, one beyond the bound, and one within it
 --   negative, not_negative                by its sign: how far from zero, and the element
+--   read, answered                        by what the proofs of the two functions are found
 -- Assumes nothing.
-use mathlib.Core.Path.{◌≡◌, refl, sym, ap, ◌∙◌}
-use mathlib.Core.Bool.{Bool, true, false, cond}
-use Prim.Native.Nat.{ℕ, suc, ◌-◌, ◌≤◌, ◌<◌}
-use native.Mathlib.Omega.{arith}
-use lib.IntN.{ℤ, pos, negsuc, nat_abs, ◌-ℤ◌}
+use Rattle.std.proofs.Common.{◌≡◌, refl, sym, ap, ◌∙◌, Bool, true, false, cond, ℕ, suc, ◌-◌, ◌≤◌, ◌<◌, arith, ℤ, pos, negsuc, nat_abs, ◌-ℤ◌, ltb-true, lt-ltb, le-ltb, le-leb}
 use lib.Signed.{mag, lt_z}
-use borrow.Author.Tests.{ltb-true, lt-ltb, le-ltb, le-leb, lt-leb}
+use borrow.Author.Tests.{lt-leb}
 use Rattle.scheme.specs.Scheme.{q, sixteen, Plan, plan_good, Use, signed, reach, figure_bound, unless, ◌then◌}
 use Rattle.scheme.specs.Signed.{residue, meant}
+use mir.ValLaws.{to_z-of_z}
+use Rattle.scheme.proofs.Good.{good}
 use Rattle.scheme.proofs.Tests.{holds}
 use Rattle.scheme.proofs.Signed.{read_itself, read_less}
-use Rattle.reading.specs.declared.Reading.TheVariants.{Refused, Value}
-use Rattle.reading.specs.declared.Residue.TheVariants as given_by
+use Rattle.reading.specs.Read.{Refused, Value}
+use Rattle.reading.specs.Given as given_by
 use Rattle.reading.specs.Reading.{reading, residue_refusal, residue_by, residue_answer}
 
 pub below_zero : (t : ℕ) → t < q → pos t -ℤ pos q ≡ negsuc (q - suc t)
@@ -63,3 +62,8 @@ pub not_negative : (z : ℤ) → lt_z z (pos 0) ≡ false → (z ≡ pos (nat_ab
 unfolding residue
 not_negative (pos n) e = (refl, refl, λ h. omega arith)
 not_negative (negsuc n) e = absurd (holds (sym e))
+
+-- ---- what the two functions' own proofs are found by
+pub ruleset read = (reads_itself, reads_less, refuses, below_zero, to_z-of_z)
+
+pub ruleset answered = (good, bad_plan, beyond, given, negative, not_negative, to_z-of_z)

@@ -1,20 +1,12 @@
 -- The statements of specs/Promise.antt.
 -- Assumes nothing.
-use mathlib.Core.Path.{◌≡◌, ap, ◌∙◌}
-use mathlib.Core.Bool.{Bool, cond}
-use Prim.Native.Nat.{ℕ, ◌≤◌}
-use native.Mathlib.Nat.{div-le_self}
-use native.Mathlib.Omega.{arith}
-use lib.Dec.{leb→le}
-use lib.IntN.{ℤ, pos, negsuc, nat_abs}
-use lib.Signed.{◌≤ℤ◌}
-use borrow.Author.Tests.{lt-ltb, leb-true}
+use Rattle.std.proofs.Common.{◌≡◌, ap, ◌∙◌, Bool, cond, ℕ, ◌≤◌, div-le_self, arith, leb→le, ℤ, pos, negsuc, nat_abs, ◌≤ℤ◌, lt-ltb, leb-true}
 use Rattle.scheme.specs.Scheme.{q, sixteen, signed, reach, figure_bound}
 use Rattle.scheme.specs.Signed as scheme
 use Rattle.scheme.specs.Signed.{residue, meant}
 use Rattle.scheme.proofs.Refusals.{then_zero, unless_zero}
 use Rattle.scheme.proofs.Signed as proved
-use Rattle.reading.specs.declared.Reading.TheVariants.{Refused, Value}
+use Rattle.reading.specs.Read.{Refused, Value}
 use Rattle.reading.specs.Reading.{reading, residue_refusal, residue_by}
 use Rattle.reading.specs.Promise.{ReadBack, GoesRound, CountsRead}
 use Rattle.reading.proofs.Laws.{reads_itself}

@@ -6,8 +6,8 @@
 use Rattle.std.specs.Prelude.{◌≡◌, ℕ, ◌<◌, ℤ, pos, negsuc, ◌≤ℤ◌}
 use Rattle.scheme.specs.Scheme.{q, sixteen, Plan, counts, signed}
 use Rattle.scheme.specs.Signed.{residue}
-use Rattle.reading.specs.declared.Reading.TheVariants.{Value}
-use Rattle.reading.specs.declared.Residue.TheVariants.{Element}
+use Rattle.reading.specs.Read.{Value}
+use Rattle.reading.specs.Given.{Element}
 use Rattle.reading.specs.Reading.{reading, residue_refusal, residue_answer}
 
 -- negsuc 32759 is −32760

@@ -40,7 +40,7 @@ use Rattle.service.specs.declared.Service.{Service}
 use Rattle.service.specs.View.{view, Formed}
 use Rattle.finish.specs.Promise as finish
 use Rattle.finish.proofs.Steps as finish-proved
-use Rattle.reading.specs.declared.Reading.TheVariants.{Refused, Value}
+use Rattle.reading.specs.Read.{Refused, Value}
 use Rattle.reading.specs.Reading.{reading}
 use Rattle.round.specs.Round.{SentIn, Room, RoundResidues, RoundRight, SignedTotal, AsideResidues, AsideRight, AsideSigned}
 

@@ -23,7 +23,7 @@ use Rattle.scheme.specs.Service.{finish_record, refusal, replied, values}
 use Rattle.plan.specs.declared.Use.{Use}
 use Rattle.plan.specs.declared.Use.TheVariants.{Counts, Signed}
 use Rattle.plan.specs.Plan.{plan_of, use_of}
-use Rattle.reading.specs.declared.Reading.TheVariants.{Value}
+use Rattle.reading.specs.Read.{Value}
 use Rattle.reading.specs.Reading.{reading}
 use Rattle.client.specs.History.{Handed, calls, plainly, message_in, part_in}
 use Rattle.service.specs.declared.Service.{Service}

@@ -1,47 +1,26 @@
 -- Lists that are written.
---   copying_start, copying_more, copying_end   a loop that writes a list into another, from a place on
---   shares_to, shares_start, shares_more, shares_short_end, shares_whole_end   a loop that copies a share for each block
+--   copied_in    a list in a part of another
+--   read_back    what is written is read back
 -- Assumes nothing.
-use Rattle.std.proofs.Common.{◌≡◌, ℕ, suc, ◌+◌, ◌<◌, ◌≤◌, List, length, get_or, take, drop, set, replicate, sym, refl, ap, ◌∙◌, add-zero, arith, drop_of_length-le, length-take-le, take_all, drop-cons, take-suc}
-use lib.Seq.{sets}
-use Rattle.scheme.specs.Limits.{most_blocks}
-use Rattle.scheme.specs.Lists.{padded}
-use Rattle.scheme.proofs.Padded.{padded_more}
-use Rattle.rounds.specs.Replied.{shares_of}
+use Rattle.std.proofs.Common.{◌≡◌, ℕ, ◌+◌, ◌-◌, ◌≤◌, Bool, true, cond, leb, List, ◌++◌, length, take, drop, sym, refl, ap, ◌∙◌, arith, take_all, length-take-le, append_assoc}
+use Rattle.std.proofs.lemmas.Bool.{leb-true}
+use Rattle.std.proofs.lemmas.List.{take_at, drop_at}
+use borrow.Rule.Slice.PartMut.{put_mid}
+use lib.Seq.{sets, sets-eq}
+use Rattle.std.proofs.lemmas.Slice.{put_mid-paste}
 
--- ---- i elements of s are written, and the others are to follow: all gives t
-pub copying_start : (s : List ℕ) (at : ℕ) (out : List ℕ) → sets out (at + 0) (drop 0 s) ≡ sets out at s
-copying_start s at out = rw (add-zero at)
+-- a part of a list holds another list
+pub copied_in : (s out : List ℕ) (at : ℕ) → at + length s ≤ length out → put_mid at (at + length s - at) out s ≡ sets out at s
+copied_in s out at h =
+    put_mid-paste at (at + length s - at) out s s (length s) refl (omega arith) refl
+    ∙ rw (take_all (length s) s (omega arith)) (sym (sets-eq s out at h))
 
-module _ (s t : List ℕ) (at : ℕ) where
-  pub copying_more : (out : List ℕ) (i : ℕ) → i < length s → sets out (at + i) (drop i s) ≡ t
-      → sets (set out (at + i) (get_or s i 0)) (at + (i + 1)) (drop (i + 1) s) ≡ t
-  copying_more out i h e =
-      let n : at + (i + 1) ≡ suc (at + i) = omega arith in
-      let k : i + 1 ≡ suc i = omega arith in
-      rw (n, k) (ap (sets out (at + i)) (sym (drop-cons s i 0 h)) ∙ e)
-
-  pub copying_end : (out : List ℕ) (i : ℕ) → length s ≤ i → sets out (at + i) (drop i s) ≡ t → out ≡ t
-  copying_end out i h e = ap (sets out (at + i)) (sym (drop_of_length-le s h)) ∙ e
-
--- ---- i shares are copied
-abbrev pub shares_to : (l : List ℕ) → (i : ℕ) → List ℕ
-shares_to l i = padded most_blocks (take i l)
-
-pub shares_start : (l : List ℕ) → replicate most_blocks 0 ≡ shares_to l 0
-unfolding padded
-shares_start l = refl
-
-module _ (l o : List ℕ) (i : ℕ) (e : o ≡ shares_to l i) where
-  pub shares_more : i < length l → i < most_blocks → set o i (get_or l i 0) ≡ shares_to l (i + 1)
-  shares_more h few =
-      let k : i + 1 ≡ suc i = omega arith in
-      rw (k, take-suc l i 0 h)
-      (ap (λ (w : List ℕ). set w i (get_or l i 0)) e ∙ padded_more most_blocks (take i l) (get_or l i 0) i (length-take-le i l (omega arith)) few)
-
-  -- fewer than a share for each block, and one for each
-  pub shares_short_end : length l ≤ i → i < most_blocks → o ≡ shares_of l
-  shares_short_end h few = e ∙ ap (padded most_blocks) (take_all i l h ∙ sym (take_all most_blocks l (omega arith)))
-
-  pub shares_whole_end : i ≡ most_blocks → o ≡ shares_of l
-  shares_whole_end n = e ∙ ap (shares_to l) n
+-- what is written where it fits is read back
+pub read_back : (s out new : List ℕ) (at : ℕ) → leb (at + length s) (length out) ≡ true
+    → new ≡ cond (leb (at + length s) (length out)) (sets out at s) out → take (length s) (drop at new) ≡ s
+read_back s out new at fits left =
+    let h : at + length s ≤ length out = leb-true _ _ fits in
+    let e : new ≡ sets out at s = left ∙ ap (λ (b : Bool). cond b (sets out at s) out) fits in
+    ap (λ (l : List ℕ). take (length s) (drop at l)) (e ∙ sets-eq s out at h ∙ append_assoc (take at out) s (drop (at + length s) out))
+    ∙ ap (take (length s)) (drop_at (take at out) (s ++ drop (at + length s) out) at (length-take-le at out (omega arith)))
+    ∙ take_at s (drop (at + length s) out) (length s) refl

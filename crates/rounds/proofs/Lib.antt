@@ -1,7 +1,6 @@
--- Tests: laws of the tests of lists. Copies: laws of lists that are written. Stages: a stage and its number. Started: a line s. Values: the
--- lines of values.
+-- Tests: laws of the tests of lists. Copies: a list in a part of another. Started, Replied, Values: the lines s and r, and those of values.
 pub mod Tests
 pub mod Copies
-pub mod Stages
 pub mod Started
+pub mod Replied
 pub mod Values

@@ -1,35 +1,36 @@
 -- What a line shows of a call's answer.
 --   judged                the first that differs: number, stage, elements; or that the answer agrees
---   judged_pair           the same of a number and what comes with it: a set, a start
+--   judged_second         the same of a number and what comes with it
+--   judged_pair           where that is a number too: a set, a start
 --   agreed                whether a line agrees
 --   lent_right            a list that is lent must fit
+--   Checked, shown        what a line leaves and shows
 --   served, opened, closed   what the lines o and c leave and show
 --   end_of, begun_as, started     what the line s leaves and shows: the fresh end, or after a refusal the old one
 --   found_shown, lookup_shown     what the line w shows: the case stays
---   value_of, same_value          the value that two numbers of a line stand for; whether two values are the same
+--   value_of                      the value that two numbers of a line stand for
 --   judged_value                  the first that differs of a reading: number, value
 --   read_shown, total_shown       what the line v shows: the case stays
 --   given_shown, residue_shown    what the line x shows: the case stays
 -- Assumes nothing: these are definitions.
-use Rattle.std.specs.Prelude.{ℕ, zero, suc, Bool, true, false, cond, List, ℤ, pos, negsuc, neg_ℤ, ◌==◌, slice_index}
+use Rattle.std.specs.Prelude.{ℕ, zero, suc, Bool, true, false, cond, List, ℤ, pos, neg_ℤ, ◌==◌, slice_index}
+use Rattle.std.specs.Ordering.{int_eq}
 use Rattle.std.proofs.Math.Option.{Option, none, some}
 use Rattle.scheme.specs.Scheme.{sixteen}
 use Rattle.plan.specs.Plan.{plan_of, use_of, code_use}
-use Rattle.plan.specs.declared.Found.{Found}
-use Rattle.plan.specs.Found.{found}
+use Rattle.plan.specs.Found.{Found, found}
 use Rattle.client.specs.declared.Client.{Client}
 use Rattle.client.specs.Client.{Begun, begun}
-use Rattle.reading.specs.declared.Reading.{Reading}
-use Rattle.reading.specs.declared.Reading.TheVariants as read
-use Rattle.reading.specs.declared.Residue.{Residue}
-use Rattle.reading.specs.declared.Residue.TheVariants as given
+use Rattle.reading.specs.Read.{Reading}
+use Rattle.reading.specs.Read as read
+use Rattle.reading.specs.Given.{Residue}
+use Rattle.reading.specs.Given as given
 use Rattle.reading.specs.Reading.{reading, residue_answer}
 use Rattle.service.specs.declared.Service.{Service}
 use Rattle.service.specs.Calls.{open_step, close_step}
 use Rattle.rounds.specs.declared.calls.Verdict.{Verdict}
 use Rattle.rounds.specs.declared.calls.Verdict.TheVariants as verdict
 use Rattle.rounds.specs.declared.calls.Case.{Case}
-use Rattle.rounds.specs.declared.calls.Checked.{Checked}
 use Rattle.rounds.specs.Lists.{round_of}
 
 unfoldable pub judged : (got wanted : ℕ) (stage elements : Bool) → Verdict
@@ -37,8 +38,11 @@ judged got wanted stage elements =
     cond (got == wanted) (cond stage (cond elements verdict.Agrees verdict.Elements) verdict.Stage) verdict.Number
 
 -- the last is the verdict where what comes with the number differs
-unfoldable pub judged_pair : (number wanted second expected : ℕ) → Verdict → Verdict
-judged_pair number wanted second expected otherwise = cond (number == wanted) (cond (second == expected) verdict.Agrees otherwise) verdict.Number
+unfoldable pub judged_second : (number wanted : ℕ) (same : Bool) → Verdict → Verdict
+judged_second number wanted same otherwise = cond (number == wanted) (cond same verdict.Agrees otherwise) verdict.Number
+
+abbrev pub judged_pair : (number wanted second expected : ℕ) → Verdict → Verdict
+judged_pair number wanted second expected otherwise = judged_second number wanted (second == expected) otherwise
 
 unfoldable pub agreed : Verdict → Bool
 agreed verdict.Agrees = true
@@ -54,8 +58,15 @@ agreed verdict.Elements = false
 unfoldable pub lent_right : (fits : Bool) → Verdict
 lent_right fits = cond fits verdict.Agrees verdict.Damaged
 
+pub record Checked : Type 0 where
+  pub case : Case
+  pub verdict : Verdict
+
+abbrev pub shown : Case → Verdict → Checked
+shown c v = record { case = c; verdict = v }
+
 abbrev pub served : Case → Service → Verdict → Checked
-served c s v = record { case = record { plan = c.plan; list = c.list; key = c.key; end = c.end; service = s }; verdict = v }
+served c s v = record { case = record { plan = c.plan; lent = c.lent; end = c.end; service = s }; verdict = v }
 
 abbrev pub opened : Case → (line : List ℕ) → Checked
 opened c l =
@@ -73,7 +84,7 @@ end_of c (some e) = e
 abbrev pub begun_as : Case → Begun → (wanted : ℕ) → Checked
 begun_as c b wanted =
     record {
-      case = record { plan = c.plan; list = c.list; key = c.key; end = end_of c b.client; service = c.service };
+      case = record { plan = c.plan; lent = c.lent; end = end_of c b.client; service = c.service };
       verdict = judged b.number wanted true true;
     }
 
@@ -91,14 +102,8 @@ unfoldable pub value_of : (below size : ℕ) → ℤ
 value_of zero n = pos n
 value_of (suc b) n = neg_ℤ (pos n)
 
-unfoldable pub same_value : ℤ → ℤ → Bool
-same_value (pos a) (pos b) = a == b
-same_value (pos a) (negsuc b) = false
-same_value (negsuc a) (pos b) = false
-same_value (negsuc a) (negsuc b) = a == b
-
-unfoldable pub judged_value : (got wanted : ℕ) (value expected : ℤ) → Verdict
-judged_value got wanted value expected = cond (got == wanted) (cond (same_value value expected) verdict.Agrees verdict.Value) verdict.Number
+abbrev pub judged_value : (got wanted : ℕ) (value expected : ℤ) → Verdict
+judged_value got wanted value expected = judged_second got wanted (int_eq value expected) verdict.Value
 
 unfoldable pub read_shown : Reading → (wanted : ℕ) (expected : ℤ) → Verdict
 read_shown (read.Refused n) wanted expected = judged_value n wanted (pos 0) expected

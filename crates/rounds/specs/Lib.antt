@@ -1,4 +1,4 @@
--- Lists: the lists that are lent, the round of a line, and what the tests of lists answer. Replied: a reply whose part is copied.
+-- Lists: the lists that are lent, and the round of a line. Replied: what the line r shows.
 -- Judged: what a line shows.
 pub mod Lists
 pub mod Replied

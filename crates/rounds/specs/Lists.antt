@@ -1,21 +1,22 @@
--- The lists that the program lends, the round that a line names, and what the tests of lists answer.
---   lent_length, key_start, key_room, mark   the lent list, where the key starts in it; a buffer, and the number that it has throughout
---   round_of  the round that two numbers of a line stand for, from a place on
---   Exactly   the answer is true exactly if the claim holds
+-- The lists that the program lends, and the round that a line names.
+--   key_start         the place of the key behind the random list
+--   list_of, key_of   the random list and the key that are lent
+--   mark              the number that a buffer has throughout
+--   round_of          the round that two numbers of a line stand for, from a place on
 -- Assumes nothing: these are definitions.
-use Rattle.std.specs.Prelude.{◌≡◌, ℕ, ◌+◌, ◌*◌, Bool, true, List, slice_index}
-use Rattle.scheme.specs.Limits.{most_list, most_key}
+use Rattle.std.specs.Prelude.{ℕ, ◌+◌, ◌*◌, List, take, drop, slice_index}
+use Rattle.scheme.specs.Limits.{most_list}
+use Rattle.rounds.specs.declared.lists.Lent.{Lent}
 
 -- past every random list
 abbrev pub key_start : ℕ
 key_start = most_list
 
--- past every key
-abbrev pub key_room : ℕ
-key_room = most_key
+abbrev pub list_of : Lent → List ℕ
+list_of l = take l.list l.numbers
 
-abbrev pub lent_length : ℕ
-lent_length = key_start + key_room
+abbrev pub key_of : Lent → List ℕ
+key_of l = take l.key (drop key_start l.numbers)
 
 abbrev pub mark : ℕ
 mark = 7
@@ -23,7 +24,3 @@ mark = 7
 -- its low sixteen bits come first
 unfoldable pub round_of : (line : List ℕ) → (i : ℕ) → ℕ
 round_of l i = slice_index l i + 65536 * slice_index l (i + 1)
-
-pub record Exactly (answer : Bool) (claim : Type 0) : Type 0 where
-  pub sound : answer ≡ true → claim
-  pub whole : claim → answer ≡ true

@@ -4,13 +4,14 @@
 //   meaning                    the lines of the reader of totals, and of the way in for a signed figure
 //   lookup                     the line of a lookup
 //   input, line                the input, line by line; one line
-//   Verdict, Case, Checked     whether a call answered as the line says, or what differs; what the lines of a case have made so far; both
-//   judge, agree, judge_pair   what differs first
-//   new_case                   a case of a plan
-//   fits, check                how many numbers a line has; the call of one line
+//   Verdict, Case              whether a call answered as the line says, or what differs; what the lines of a case have made so far
+//   number_of, number_in_part  the number of an answer
+//   judge, agree, judge_second what differs first
+//   check                      the call of one line
 // Every answer is compared whole: number, stage, set, airfield set aside, start, value, and the lent buffer to its end.
 ghost use Rattle.std.specs.Prelude.{◌≡◌, true};
-ghost use Rattle.rounds.specs.Judged.{judged, judged_pair};
+ghost use Rattle.plan.specs.Numbers.{numbered};
+ghost use Rattle.rounds.specs.Judged.{agreed, judged, judged_second};
 
 pub mod ends;
 pub mod input;
@@ -20,15 +21,17 @@ pub mod maker;
 pub mod meaning;
 pub mod pooling;
 
-use crate::lists::SPACE;
+use crate::lists::Lent;
 use client::{Client, Stage};
-use plan::{Plan, Use};
+use plan::{Plan, Refusal, Use};
 use service::Service;
+use std::fmt;
 
-// Stands for the answer where a line asks for a larger buffer than there is; no call answers it.
+// What a line may want of a larger buffer than there is; no call answers it. A line has numbers alone, so this is one too.
 const NO_ROOM: u32 = 99;
 
-#[derive(Clone, Copy)]
+// No Result, since what is judged of a line is told in either case by the same definitions.
+#[derive(Clone, Copy, Debug, PartialEq, Eq)]
 pub enum Verdict {
     Agrees,
     Damaged,
@@ -41,20 +44,74 @@ pub enum Verdict {
     Elements,
 }
 
-// The plan; how many elements of the list and of the key are lent; the airfield end, and the service.
+impl Verdict {
+    #[tactic(auto, unfolding(crate::specs::Judged::agreed))]
+    fn agrees(self) -> bool
+        ensures { result ≡ agreed self }
+    {
+        matches!(self, Verdict::Agrees)
+    }
+}
+
+impl fmt::Display for Verdict {
+    fn fmt<W: fmt::Write>(&self, f: &mut fmt::Formatter<W>) -> fmt::Result {
+        f.write_str(match self {
+            Verdict::Agrees => "agrees",
+            Verdict::Damaged => "no line of a case",
+            Verdict::Number => "another number is answered",
+            Verdict::Stage => "the end is at another stage",
+            Verdict::Set => "another set is handed back",
+            Verdict::Aside => "another airfield is set aside",
+            Verdict::Start => "another start is told",
+            Verdict::Value => "another value is read",
+            Verdict::Elements => "other elements are handed back",
+        })
+    }
+}
+
+// The plan; what is lent; the airfield end, and the service.
 #[derive(Drop)]
 pub struct Case {
     pub plan: Plan,
-    pub list: usize,
-    pub key: usize,
+    pub lent: Lent,
     pub end: Client,
     pub service: Service,
 }
 
-#[derive(Drop)]
-pub struct Checked {
-    pub case: Case,
-    pub verdict: Verdict,
+impl Case {
+    // A case of a plan, with a service that has nothing yet.
+    fn new(plan: Plan) -> Case {
+        Case {
+            plan,
+            lent: Lent::new(),
+            end: Client {
+                plan,
+                user: 0,
+                usage: Use::Counts,
+                round: 0,
+                stage: Stage::Fresh,
+            },
+            service: Service::new(),
+        }
+    }
+}
+
+// The number of an answer: 0, or the refusal's.
+fn number_of<T>(answer: &Result<T, Refusal>) -> u32
+    ensures { result ≡ numbered answer.now }
+{
+    match answer {
+        Ok(_) => 0,
+        Err(refusal) => u32::from(*refusal),
+    }
+}
+
+// The same of a call for whose answer a part of a buffer is lent, where the buffer has such a part.
+fn number_in_part<T>(answer: &Option<Result<T, Refusal>>) -> u32 {
+    match answer {
+        Some(answer) => number_of(answer),
+        None => NO_ROOM,
+    }
 }
 
 // Number, stage and elements of an answer, the first that differs.
@@ -80,70 +137,39 @@ fn agree(got: u32, wanted: u32) -> Verdict
     judge(got, wanted, true, true)
 }
 
-// Number of an answer and what comes with it, the first that differs; `otherwise` is the verdict where it is the second.
-#[tactic(auto, unfolding(crate::specs::Judged::judged_pair))]
-fn judge_pair(number: u32, wanted: u32, second: u32, expected: u32, otherwise: Verdict) -> Verdict
-    ensures { result ≡ judged_pair number wanted second expected otherwise }
+// Number of an answer, and whether what comes with it is the same; `otherwise` is the verdict where that differs.
+#[tactic(auto, unfolding(crate::specs::Judged::judged_second))]
+fn judge_second(number: u32, wanted: u32, same: bool, otherwise: Verdict) -> Verdict
+    ensures { result ≡ judged_second number wanted same otherwise }
 {
     if number != wanted {
         return Verdict::Number;
     }
-    if second != expected {
+    if !same {
         return otherwise;
     }
     Verdict::Agrees
 }
 
-// A case of a plan, with a service that has nothing yet.
-fn new_case(plan: Plan, service: Service) -> Case {
-    let end = Client {
-        plan,
-        user: 0,
-        usage: Use::Counts,
-        round: 0,
-        stage: Stage::Fresh,
-    };
-    Case {
-        plan,
-        list: 0,
-        key: 0,
-        end,
-        service,
-    }
-}
-
-// Whether a line with this letter has so many numbers.
-fn fits(letter: u8, count: usize) -> bool {
-    match letter {
-        b'p' | b's' | b'v' => count == 5,
-        b'w' | b'x' => count == 4,
-        b'o' | b'c' => count == 2,
-        b't' => 2 <= count,
-        b'd' | b'k' | b'e' | b'a' => 3 <= count,
-        b'f' => 4 <= count,
-        b'r' => 5 <= count,
-        b'l' | b'y' => true,
-        _ => false,
-    }
-}
-
-// Makes the call of a line and compares; the random list and the key are lent.
-fn check(case: Case, letter: u8, line: &[u16], lent: &mut [u16; SPACE]) -> Checked {
-    if !fits(letter, line.len()) {
-        let verdict = Verdict::Damaged;
-        return Checked { case, verdict };
-    }
-    match letter {
-        b'l' => maker::lend_list(case, line, lent),
-        b'y' => maker::lend_key(case, line, lent),
-        b'd' => maker::check_list(case, line, lent),
-        b'k' => maker::check_key(case, line, lent),
-        b's' => ends::check_start(case, line),
-        b'f' => ends::check_first(case, line, lent),
-        b'r' => ends::check_reply(case, line, lent),
-        b'w' => lookup::check_found(case, line),
-        b'v' => meaning::check_total(case, line),
-        b'x' => meaning::check_residue(case, line),
-        _ => pooling::check_service(case, letter, line),
+// Makes the call of a line and compares. A line with this letter has so many numbers.
+fn check(case: &mut Case, letter: u8, line: &[u16]) -> Verdict {
+    match (letter, line.len()) {
+        (b'l', _) => maker::lend_list(case, line),
+        (b'y', _) => maker::lend_key(case, line),
+        (b'd', 3..) => maker::check_list(case, line),
+        (b'k', 3..) => maker::check_key(case, line),
+        (b's', 5) => ends::check_start(case, line),
+        (b'f', 4..) => ends::check_first(case, line),
+        (b'r', 5..) => ends::check_reply(case, line),
+        (b'p', 5) => pooling::check_plan(case, line),
+        (b'o', 2) => pooling::check_open(case, line),
+        (b'e', 3..) => pooling::check_elements(case, line),
+        (b'c', 2) => pooling::check_close(case, line),
+        (b'a', 3..) => pooling::check_answers(case, line),
+        (b't', 2..) => pooling::check_finish(case, line),
+        (b'w', 4) => lookup::check_found(case, line),
+        (b'v', 5) => meaning::check_total(case, line),
+        (b'x', 4) => meaning::check_residue(case, line),
+        _ => Verdict::Damaged,
     }
 }

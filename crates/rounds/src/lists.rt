@@ -1,18 +1,16 @@
 // Lists of numbers, read without a requirement: past the end stands 0, and a list has no more than its own elements.
-//   SPACE, space, KEY_AT        what is lent, and where the key starts in it
-//   ROOM, MARK, marked          a buffer for a key or a message
-//   marked_list, no_bytes       a buffer for a random list; one for bytes
+//   SPACE, KEY_AT, ROOM, MARK   what is lent, and where the key starts in it; a buffer, and the number that it has throughout
 //   number_at, round_at         a number; a round, which takes two of them
 //   front, rest                 the first n; those from a place on
-//   key_of                      the key that is lent
-//   same, all_are               two lists that are equal; a list with one number throughout
 //   copy_to                     writes a list
+//   Lent                        a random list and a key that are lent to calls
 //   all_bytes, copy_bytes       numbers that are bytes; writes them as such
-//   holds_just, marked_behind, list_marked_behind   a list, and one number throughout behind it
-ghost use Rattle.std.specs.Prelude.{◌≡◌, ℕ, ◌+◌, ◌-◌, ◌<◌, ◌≤◌, leb, ◌++◌, length, take, drop, replicate, if◌then◌else◌, nat_le, slice_index};
+//   all_are                     a list with one number throughout
+//   holds_just, marked_behind   a list, and one number throughout behind it
+ghost use Rattle.std.specs.Prelude.{◌≡◌, ℕ, ◌+◌, ◌-◌, ◌<◌, ◌≤◌, ◌↔◌, leb, ◌++◌, [], length, take, drop, replicate, if◌then◌else◌, nat_le, slice_index, IsTrue};
 ghost use Rattle.std.proofs.lemmas.List.Edits.{sets};
 ghost use Rattle.scheme.specs.Drawn.{byte};
-ghost use Rattle.rounds.specs.Lists.{lent_length, key_start, key_room, mark, round_of, Exactly};
+ghost use Rattle.rounds.specs.Lists.{list_of, key_of, mark, round_of};
 
 use plan::{BLOCKS, FIRSTS, MOST_PLACES, MOST_SETS};
 
@@ -22,50 +20,16 @@ pub const SPACE: usize = KEY_AT + ROOM;
 // Past every random list.
 pub const KEY_AT: usize = FIRSTS + MOST_SETS * MOST_PLACES;
 
-pub fn space() -> [u16; SPACE]
-    ensures { result ≡ replicate lent_length 0 }
-{
-    [0; SPACE]
-}
-
-// A buffer for a key or a message, with the mark throughout.
+// Room for a key or a message.
 pub const ROOM: usize = MOST_PLACES + MOST_SETS * BLOCKS;
 
+// A buffer that is lent to a call has it throughout.
 pub const MARK: u16 = 7;
-
-pub fn marked() -> [u16; ROOM]
-    ensures { result ≡ replicate key_room mark }
-{
-    [MARK; ROOM]
-}
-
-// A buffer for a random list, with the mark throughout.
-pub fn marked_list() -> [u16; KEY_AT]
-    ensures { result ≡ replicate key_start mark }
-{
-    [MARK; KEY_AT]
-}
-
-// Room for the bytes of a line.
-pub fn no_bytes() -> [u8; SPACE]
-    ensures { result ≡ replicate lent_length 0 }
-{
-    [0; SPACE]
-}
-
-fn wide(x: u16) -> u32
-    ensures { (result ≡ x) × (result ≤ 65535) }
-{
-    x as u32
-}
 
 pub fn number_at(s: &[u16], i: usize) -> u32
     ensures { (result ≡ slice_index s.now i) × (result ≤ 65535) }
 {
-    if i < s.len() {
-        return wide(s[i]);
-    }
-    0
+    s.get(i).map_or(0, |x| u32::from(*x))
 }
 
 // A round's low sixteen bits come first.
@@ -75,63 +39,20 @@ const HIGH: u32 = 65536;
 pub fn round_at(s: &[u16], i: usize) -> u32
     ensures { result ≡ round_of s.now i }
 {
-    if i < s.len() {
-        return number_at(s, i) + HIGH * number_at(s, i + 1);
-    }
-    0
+    let low_first = rest(s, i);
+    number_at(low_first, 0) + HIGH * number_at(low_first, 1)
 }
 
 pub fn front(s: &[u16], n: usize) -> &[u16]
     ensures { result.now ≡ take n s.now }
 {
-    if s.len() < n {
-        return s;
-    }
-    &s[..n]
+    &s[..n.min(s.len())]
 }
 
 pub fn rest(s: &[u16], from: usize) -> &[u16]
     ensures { result.now ≡ drop from s.now }
 {
-    if s.len() < from {
-        return &s[0..0];
-    }
-    &s[from..]
-}
-
-pub fn key_of(lent: &[u16; SPACE], n: usize) -> &[u16]
-    ensures { result.now ≡ take n (drop key_start lent.now) }
-{
-    front(rest(lent, KEY_AT), n)
-}
-
-pub fn same(a: &[u16], b: &[u16]) -> bool
-    ensures { Exactly result (a.now ≡ b.now) }
-{
-    if a.len() != b.len() {
-        return false;
-    }
-    let mut i = 0;
-    while i < a.len() {
-        if a[i] != b[i] {
-            return false;
-        }
-        i += 1;
-    }
-    true
-}
-
-pub fn all_are(s: &[u16], x: u16) -> bool
-    ensures { Exactly result (s.now ≡ replicate (length s.now) x) }
-{
-    let mut i = 0;
-    while i < s.len() {
-        if s[i] != x {
-            return false;
-        }
-        i += 1;
-    }
-    true
+    &s[from.min(s.len())..]
 }
 
 // Writes s into out from `at` on, and answers whether it fits.
@@ -140,34 +61,69 @@ pub fn copy_to(s: &[u16], out: &mut [u16], at: usize) -> bool
     ensures left { out.new
         ≡ (if leb (at + length s.now) (length out.old) then sets out.old at s.now else out.old) }
 {
-    if out.len() < at {
+    if out.len() < at || out.len() - at < s.len() {
         return false;
     }
-    if out.len() - at < s.len() {
-        return false;
-    }
-    let mut i = 0;
-    while i < s.len() {
-        out[at + i] = s[i];
-        i += 1;
-    }
+    out[at..at + s.len()].copy_from_slice(s);
     true
+}
+
+// A random list and a key that are lent to calls, the key behind the longest list; how many elements they have.
+#[derive(Drop)]
+pub struct Lent {
+    pub numbers: [u16; SPACE],
+    pub list: usize,
+    pub key: usize,
+}
+
+impl Lent {
+    // Nothing yet.
+    pub fn new() -> Lent
+        ensures { (list_of result ≡ []) × (key_of result ≡ []) }
+    {
+        Lent {
+            numbers: [0; SPACE],
+            list: 0,
+            key: 0,
+        }
+    }
+
+    pub fn list(&self) -> &[u16]
+        ensures { result.now ≡ list_of self.now }
+    {
+        front(&self.numbers, self.list)
+    }
+
+    pub fn key(&self) -> &[u16]
+        ensures { result.now ≡ key_of self.now }
+    {
+        front(rest(&self.numbers, KEY_AT), self.key)
+    }
+
+    // Lends another list, and answers whether it fits.
+    pub fn lend_list(&mut self, list: &[u16]) -> bool
+        ensures { IsTrue result → list_of self.new ≡ list.now }
+    {
+        self.list = list.len();
+        copy_to(list, &mut self.numbers, 0) && list.len() <= KEY_AT
+    }
+
+    // The same of a key.
+    pub fn lend_key(&mut self, key: &[u16]) -> bool
+        ensures { IsTrue result → key_of self.new ≡ key.now }
+    {
+        self.key = key.len();
+        copy_to(key, &mut self.numbers, KEY_AT)
+    }
 }
 
 // A byte is a number below this.
 const BYTE: u16 = 256;
 
 pub fn all_bytes(s: &[u16]) -> bool
-    ensures { Exactly result ((j : ℕ) → j < length s.now → slice_index s.now j < byte) }
+    ensures { IsTrue result ↔ ((j : ℕ) → j < length s.now → slice_index s.now j < byte) }
 {
-    let mut i = 0;
-    while i < s.len() {
-        if BYTE <= s[i] {
-            return false;
-        }
-        i += 1;
-    }
-    true
+    s.iter().all(|x| *x < BYTE)
 }
 
 // Writes s, whose numbers are bytes, into out, and answers whether it fits.
@@ -180,33 +136,34 @@ pub fn copy_bytes(s: &[u16], out: &mut [u8]) -> bool
     if out.len() < s.len() {
         return false;
     }
-    let mut i = 0;
-    while i < s.len() {
-        out[i] = s[i] as u8;
-        i += 1;
+    // by index, since a zip of out would leave to its loans what it holds
+    for (i, x) in s.iter().enumerate() {
+        out[i] = *x as u8;
     }
     true
 }
 
+pub fn all_are(s: &[u16], x: u16) -> bool
+    ensures { IsTrue result ↔ (s.now ≡ replicate (length s.now) x) }
+{
+    s.iter().all(|y| *y == x)
+}
+
 // Whether s is the wanted list, then x throughout.
 pub fn holds_just(s: &[u16], wanted: &[u16], x: u16) -> bool
-    ensures { Exactly result (s.now ≡ wanted.now ++ replicate (length s.now - length wanted.now) x) }
+    ensures { IsTrue result
+        ↔ (s.now ≡ wanted.now ++ replicate (length s.now - length wanted.now) x) }
 {
-    if !same(front(s, wanted.len()), wanted) {
-        return false;
+    match s.strip_prefix(wanted) {
+        Some(behind) => all_are(behind, x),
+        None => false,
     }
-    all_are(rest(s, wanted.len()), x)
 }
 
-// Whether a buffer is the wanted list, then the mark throughout. One function for each length of a buffer.
-pub fn marked_behind(s: &[u16; ROOM], wanted: &[u16]) -> bool
-    ensures { Exactly result (s.now ≡ wanted.now ++ replicate (key_room - length wanted.now) mark) }
-{
-    holds_just(s, wanted, MARK)
-}
-
-pub fn list_marked_behind(s: &[u16; KEY_AT], wanted: &[u16]) -> bool
-    ensures { Exactly result (s.now ≡ wanted.now ++ replicate (key_start - length wanted.now) mark) }
+// Whether a buffer is the wanted list, then the mark throughout.
+pub fn marked_behind(s: &[u16], wanted: &[u16]) -> bool
+    ensures { IsTrue result
+        ↔ (s.now ≡ wanted.now ++ replicate (length s.now - length wanted.now) mark) }
 {
     holds_just(s, wanted, MARK)
 }

@@ -14,232 +14,145 @@ mod lists;
 
 use calls::maker::make_into;
 use client::Client;
-use lists::{front, marked};
-use plan::{Plan, Use};
+use lists::{MARK, ROOM, front};
+use plan::{Plan, Refusal, Use};
 use service::Service;
 use std::io;
-use stream::{Fed, Stop};
+use stream::Stop;
 
 // "Plan 8 2 1 16: random list 4080, each key 2048 elements."
-const EXAMPLE_USERS: u32 = 8;
+const EXAMPLE: Plan = Plan {
+    users: 8,
+    blocks: Client::MOST_BLOCKS,
+    ..LEAST
+};
 
 const LIST: usize = 4080;
 
 const KEY: usize = 2048;
 
-fn lengths_right() -> bool {
-    let plan = Plan {
-        users: EXAMPLE_USERS,
-        threshold: 2,
-        collusion: Client::LEAST_COLLUSION,
-        blocks: Client::MOST_BLOCKS,
-    };
-    let mut user: u32 = 1;
-    while user <= EXAMPLE_USERS {
-        if plan::key_length(plan, user) != KEY {
-            return false;
-        }
-        user += 1;
-    }
-    plan::list_length(plan) == LIST
-}
-
-fn plan_of(users: u32, threshold: u32, collusion: u32, blocks: u32) -> Plan {
-    Plan {
-        users,
-        threshold,
-        collusion,
-        blocks,
-    }
-}
-
 // The smallest plan: 3 2 1 1.
-fn least() -> Plan {
-    plan_of(
-        Client::LEAST_USERS,
-        2,
-        Client::LEAST_COLLUSION,
-        Client::LEAST_BLOCKS,
-    )
+const LEAST: Plan = Plan {
+    users: Client::LEAST_USERS,
+    threshold: 2,
+    collusion: Client::LEAST_COLLUSION,
+    blocks: Client::LEAST_BLOCKS,
+};
+
+fn lengths_right() -> bool {
+    (1..=EXAMPLE.users).all(|user| plan::key_length(EXAMPLE, user) == KEY)
+        && plan::list_length(EXAMPLE) == LIST
 }
 
 // Whether the largest figures of a plan, counts and signed ones, are these.
 fn bounds_are(plan: Plan, counts: u32, signed: u32) -> bool {
-    if plan::figure_bound(plan, Use::Counts) != counts {
-        return false;
-    }
-    plan::figure_bound(plan, Use::Signed) == signed
+    plan::figure_bound(plan, Use::Counts) == counts
+        && plan::figure_bound(plan, Use::Signed) == signed
 }
 
 // Document 02: "a figure is at most 65520 / K, rounded down: 8190 for eight airfields, 21840 for three" (item 2), and "a signed figure
 // lies within 32760 / K of zero, rounded down, −4095 to 4095 for eight" (item 3).
 fn bounds_right() -> bool {
-    if !bounds_are(plan_of(8, 2, 1, 1), 8190, 4095) {
-        return false;
-    }
-    bounds_are(plan_of(3, 2, 1, 1), 21840, 10920)
+    let of_eight = Plan { users: 8, ..LEAST };
+    bounds_are(of_eight, 8190, 4095) && bounds_are(LEAST, 21840, 10920)
 }
 
 // Whether the plan at a limit has lengths and largest figures, and the one past it has none.
 fn limit_between(at: Plan, past: Plan) -> bool {
-    if plan::row_length(at) == 0 {
-        return false;
-    }
-    if plan::list_length(at) == 0 {
-        return false;
-    }
-    if plan::key_length(at, 1) == 0 {
-        return false;
-    }
-    if plan::figure_bound(at, Use::Counts) == 0 {
-        return false;
-    }
-    if plan::figure_bound(at, Use::Signed) == 0 {
-        return false;
-    }
-    if plan::row_length(past) != 0 {
-        return false;
-    }
-    if plan::list_length(past) != 0 {
-        return false;
-    }
-    if plan::key_length(past, 1) != 0 {
-        return false;
-    }
-    bounds_are(past, 0, 0)
+    plan::row_length(at) != 0
+        && plan::list_length(at) != 0
+        && plan::key_length(at, 1) != 0
+        && plan::figure_bound(at, Use::Counts) != 0
+        && plan::figure_bound(at, Use::Signed) != 0
+        && plan::row_length(past) == 0
+        && plan::list_length(past) == 0
+        && plan::key_length(past, 1) == 0
+        && bounds_are(past, 0, 0)
 }
 
 fn least_right() -> bool {
-    let blocks = Client::LEAST_BLOCKS;
-    let collusion = Client::LEAST_COLLUSION;
-    let users = Client::LEAST_USERS;
-    if !limit_between(least(), plan_of(users - 1, 2, collusion, blocks)) {
-        return false;
-    }
-    if !limit_between(least(), plan_of(users, 2, collusion - 1, blocks)) {
-        return false;
-    }
-    limit_between(least(), plan_of(users, 2, collusion, blocks - 1))
+    let fewer_users = Plan {
+        users: LEAST.users - 1,
+        ..LEAST
+    };
+    let less_collusion = Plan {
+        collusion: LEAST.collusion - 1,
+        ..LEAST
+    };
+    let fewer_blocks = Plan {
+        blocks: LEAST.blocks - 1,
+        ..LEAST
+    };
+    limit_between(LEAST, fewer_users)
+        && limit_between(LEAST, less_collusion)
+        && limit_between(LEAST, fewer_blocks)
 }
 
 fn limits_right() -> bool {
-    let blocks = Client::MOST_BLOCKS;
-    let collusion = Client::LEAST_COLLUSION;
-    let users = Client::MOST_USERS;
-    let most = plan_of(users, users - 1, collusion, blocks);
-    if !limit_between(most, plan_of(users + 1, users - 1, collusion, blocks)) {
-        return false;
-    }
-    if !limit_between(most, plan_of(users, users - 1, collusion, blocks + 1)) {
-        return false;
-    }
-    if plan::row_length(most) != Client::MOST_PLACES {
-        return false;
-    }
-    least_right()
-}
-
-fn throughout(x: u16) -> [u16; Client::MOST_PLACES] {
-    [x; Client::MOST_PLACES]
+    let most = Plan {
+        users: Client::MOST_USERS,
+        threshold: Client::MOST_USERS - 1,
+        collusion: Client::LEAST_COLLUSION,
+        blocks: Client::MOST_BLOCKS,
+    };
+    let more_users = Plan {
+        users: most.users + 1,
+        ..most
+    };
+    let more_blocks = Plan {
+        blocks: most.blocks + 1,
+        ..most
+    };
+    limit_between(most, more_users)
+        && limit_between(most, more_blocks)
+        && plan::row_length(most) == Client::MOST_PLACES
+        && least_right()
 }
 
 // The key maker's answer to a random list with one number throughout.
-fn answer_to(x: u16) -> u32 {
-    let plan = least();
-    let list = throughout(x);
-    let mut key = marked();
+fn answer_to(x: u16) -> Option<Result<(), Refusal>> {
+    let list = [x; Client::MOST_PLACES];
+    let mut key = [MARK; ROOM];
     make_into(
-        plan,
+        LEAST,
         1,
-        front(&list, plan::list_length(plan)),
+        front(&list, plan::list_length(LEAST)),
         &mut key,
-        plan::key_length(plan, 1),
+        plan::key_length(LEAST, 1),
     )
 }
 
 fn elements_right() -> bool {
-    if answer_to(Client::Q as u16) != 3 {
-        return false;
-    }
-    answer_to((Client::Q - 1) as u16) == 0
+    answer_to(Client::Q as u16) == Some(Err(Refusal::BadElement))
+        && answer_to((Client::Q - 1) as u16) == Some(Ok(()))
 }
 
 // Room for a chunk of the input, and for the lines of the example.
 const BYTES: usize = 65536;
 
+// The bytes of s within these bounds, or none.
 fn piece(s: &[u8], from: usize, end: usize) -> &[u8] {
-    if end < from {
-        return &s[0..0];
-    }
-    if s.len() < end {
-        return &s[0..0];
-    }
-    &s[from..end]
+    s.get(from..end).unwrap_or(&[])
 }
 
-// Feeds b, its lines behind the first `wrote` bytes of text; no room answers as feed does.
-fn feed_behind(service: Service, b: &[u8], offset: u64, text: &mut [u8], wrote: usize) -> Fed {
-    if text.len() < wrote {
-        return Fed {
-            service,
-            at: 0,
-            wrote: 0,
-            stop: Stop::Full,
-        };
-    }
-    stream::feed(service, b, offset, &mut text[wrote..])
-}
-
-fn all_used(stop: Stop) -> bool {
-    match stop {
-        Stop::Used => true,
-        Stop::Unknown => false,
-        Stop::Partial => false,
-        Stop::Full => false,
-        Stop::Far => false,
-    }
-}
-
-// Whether the lines stand in the bytes that two feeds wrote.
-fn lines_are(text: &[u8], wrote: usize, more: usize, lines: &[u8]) -> bool {
-    if text.len() < wrote {
-        return false;
-    }
-    if text.len() - wrote < more {
-        return false;
-    }
-    piece(text, 0, wrote + more) == lines
-}
-
-// The first `cut` bytes are fed, then the rest from where feed stopped.
+// The first `cut` bytes are fed, then the rest from where feed stopped, whose lines stand behind the first ones.
 fn cut_lines(input: &[u8], lines: &[u8], cut: usize, text: &mut [u8; BYTES]) -> bool {
-    let first = stream::feed(Service::new(), piece(input, 0, cut), 0, text);
-    let service = first.service;
-    let at = first.at;
-    let wrote = first.wrote;
-    let second = feed_behind(
-        service,
-        piece(input, at, input.len()),
-        at as u64,
-        text,
-        wrote,
-    );
-    let stop = second.stop;
-    if !all_used(stop) {
+    let mut service = Service::new();
+    let first = stream::feed(&mut service, piece(input, 0, cut), 0, text);
+    let Some(behind) = text.get_mut(first.wrote..) else {
         return false;
-    }
-    lines_are(text, wrote, second.wrote, lines)
+    };
+    let second = stream::feed(
+        &mut service,
+        piece(input, first.at, input.len()),
+        first.at as u64,
+        behind,
+    );
+    second.stop == Stop::Used && piece(text, 0, first.wrote.saturating_add(second.wrote)) == lines
 }
 
 fn every_cut(input: &[u8], lines: &[u8], text: &mut [u8; BYTES]) -> bool {
-    let mut cut = 0;
-    while cut < input.len() {
-        if !cut_lines(input, lines, cut, text) {
-            return false;
-        }
-        cut += 1;
-    }
-    cut_lines(input, lines, cut, text)
+    (0..=input.len()).all(|cut| cut_lines(input, lines, cut, text))
 }
 
 // The example input of document 01, a record a line, and its output; and the line of a record cut short at offset 34.

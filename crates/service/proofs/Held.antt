@@ -3,14 +3,8 @@
 --   first_tested, reply_tested    the refusals: those before 13, and then 13 where another element is held
 --   first_held, reply_held        the statements of specs/Promise.antt
 -- Assumes nothing.
-use mathlib.Core.Path.{◌≡◌, refl, sym, ap, ◌∙◌}
-use mathlib.Core.Logic.{◌≢◌}
-use mathlib.Core.Bool.{true}
-use mathlib.Core.List.{List}
+use Rattle.std.proofs.Common.{◌≡◌, refl, sym, ap, ◌∙◌, ◌≢◌, true, List, ℕ, zero, suc, arith, get_or, set}
 use mathlib.Core.Option.{some}
-use Prim.Native.Nat.{ℕ, zero, suc}
-use native.Mathlib.Omega.{arith}
-use lib.ListN.{get_or, set}
 use lib.Seq.{set-get_or}
 use Rattle.scheme.specs.Limits.{most_blocks, most_places, firsts, cells}
 use Rattle.scheme.specs.Scheme.{Arithmetic, ◌then◌, unless, after}

@@ -2,15 +2,8 @@
 --   plan_same, open_same, first_same, reply_same, close_same     the refusals
 --   new_view, planned_view, opened_view, first_view, reply_view, closed_view     the states
 -- Assumes nothing.
-use mathlib.Core.Path.{◌≡◌, refl, sym, ap, ◌∙◌}
-use mathlib.Core.Bool.{true}
-use mathlib.Core.List.{List}
+use Rattle.std.proofs.Common.{◌≡◌, refl, sym, ap, ◌∙◌, true, List, ℕ, ◌<◌, arith, ltb, get_or, lt-ltb}
 use mathlib.Core.Option.{Option, none}
-use Prim.Native.Nat.{ℕ, ◌<◌}
-use native.Mathlib.Omega.{arith}
-use lib.Dec.{ltb}
-use lib.ListN.{get_or}
-use borrow.Author.Tests.{lt-ltb}
 use Rattle.scheme.specs.Limits.{most_blocks, most_places, firsts, cells}
 use Rattle.scheme.specs.Scheme.{Arithmetic, places, ◌then◌, unless}
 use Rattle.scheme.specs.Good.{Good}

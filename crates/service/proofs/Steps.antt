@@ -4,14 +4,8 @@
 --   told_after                 an answer tells the new value
 --   first_long, reply_long     the lengths of empty arrays
 -- Assumes nothing.
-use mathlib.Core.Path.{◌≡◌, refl, sym, ◌∙◌}
-use mathlib.Core.Logic.{◌≢◌}
-use mathlib.Core.Bool.{true, false}
-use mathlib.Core.List.{List}
-use Prim.Native.Nat.{ℕ, zero, suc, ◌<◌}
-use native.Mathlib.Omega.{arith}
-use lib.ListN.{length, length-set, length-replicate}
-use borrow.Author.Tests.{lt-ltb, ltb-true}
+use Rattle.std.proofs.Common.{◌≡◌, refl, sym, ◌∙◌, ◌≢◌, true, false, List, ℕ, zero, suc, ◌<◌, arith, length, length-set, lt-ltb, ltb-true}
+use lib.ListN.{length-replicate}
 use Rattle.scheme.specs.Limits.{firsts, cells}
 use Rattle.scheme.specs.Scheme.{Arithmetic, places, ◌then◌, unless, after}
 use Rattle.scheme.specs.Service.{has_plan, plan_missing, gathered, Answer, silent, Record, plan_record, open_record, first_record, close_record, reply_record, refusal, next_state, answer_of, is_finish, Steps, accepts}

@@ -2,24 +2,18 @@
 --   stored_held       whether a stored number is an element
 --   left_held, left_free, left_taken, left_refused     what is held stays, and where nothing is the new one; an element that comes is taken
 --                     where it is what is left, or else refused
+--   left_after        and what is left in an array is that of an element that is put there, or after a refusal as it was
 --   InRow            a user and a place of its row
 --   look_at, held_at  what stands in a place of the array, and its element
 --   look_nothing      nothing is held
 --   look_put          one element more is held
 -- Assumes nothing.
-use mathlib.Core.Path.{◌≡◌, refl, sym, ap, ◌∙◌}
-use mathlib.Core.Logic.{◌≢◌}
-use mathlib.Core.Bool.{Bool, true, false, ◌&&◌, not, cond}
-use mathlib.Core.List.{List}
+use Rattle.std.proofs.Common.{◌≡◌, refl, sym, ap, ◌∙◌, ◌≢◌, Bool, true, false, ◌&&◌, not, cond, List, ℕ, zero, suc, ◌+◌, ◌-◌, ◌/◌, ◌%◌, ◌≤◌, ◌<◌, add-one, arith, ltb, leb, eqb, length, get_or, set, replicate, get_or-set_same, get_or-set_other, le-leb, lt-ltb, eq-eqb, ne_eqb, eqb-true, leb-true, ltb-true}
 use mathlib.Core.Option.{none, some}
-use Prim.Native.Nat.{ℕ, zero, suc, ◌-◌, ◌/◌, ◌%◌, ◌≤◌, ◌<◌}
-use native.Mathlib.Numerals.{add-one}
-use native.Mathlib.Omega.{arith}
-use lib.Dec.{ltb, leb, eqb}
-use lib.ListN.{length, get_or, replicate}
-use lib.Seq.{get_or-set_same, get_or-set_other}
-use borrow.Author.Tests.{le-leb, lt-ltb, eq-eqb, ne_eqb, eqb-true, eqb-false, leb-true, ltb-true}
+use lib.Seq.{set-get_or}
+use borrow.Author.Tests.{eqb-false}
 use Rattle.scheme.specs.Limits.{most_users}
+use Rattle.scheme.specs.Scheme.{unless, after}
 use Rattle.scheme.specs.Service.{is_held, element_of, with_element, takes}
 use Rattle.scheme.proofs.Tests.{and_both}
 use Rattle.scheme.proofs.Lists.{zeros_at, high, low}
@@ -48,10 +42,16 @@ unfolding left_in takes stored
 left_taken zero x e = refl
 left_taken (suc n) x e = eq-eqb n x (omega arith)
 
-pub left_refused : (n x : ℕ) → left_in n (held_as x) ≢ held_as x → (takes (stored n) x ≡ false) × (left_in n (held_as x) ≡ n)
+pub left_refused : (n x : ℕ) → left_in n (held_as x) ≢ held_as x → takes (stored n) x ≡ false
 unfolding left_in takes stored
 left_refused zero x h = absurd (h refl)
-left_refused (suc n) x h = (ne_eqb n x (λ e. h (omega arith)), refl)
+left_refused (suc n) x h = ne_eqb n x (λ e. h (omega arith))
+
+pub left_after : (xs : List ℕ) (at x n : ℕ) → n ≡ get_or xs at 0 → set xs at (left_in n (held_as x)) ≡ after (unless (takes (stored n) x) 13) (set xs at (held_as x)) xs
+unfolding left_in takes stored unless after
+left_after xs at x zero e = refl
+left_after xs at x (suc n) e =
+    by_test (eqb n x) (λ d. let f : suc n ≡ x + 1 = omega (arith, eqb-true n x d) in rw d (ap (set xs at) f)) (λ d. rw (d, e) (set-get_or xs at 0))
 
 abbrev inside : (w k i : ℕ) → Bool
 inside w k i = leb 1 k && (leb k most_users && ltb i w)

@@ -2,23 +2,23 @@
 --   new_service                            before any record
 --   plan_step, open_step, first_step, close_step, reply_step     the calls, one for each kind of record
 --   by_refusal                             what a call hands back of its refusal and of the state that it leads to
---   lent, stepped, closing, not_closed     the same where head and arrays stand apart
+--   Stepped, Closed                        what a call answers and leaves: document 01's number, the survivors' set of a close, the state
+--   lent                                   the state where head and arrays stand apart
+--   named_by, stepped, closing             what the code's answer says in these words, with the state that it leaves
 --   first_refusal, first_left, reply_refusal, reply_left     what the leaves of elements answer and leave, over an arithmetic
 -- On a well-formed state no guard ever acts: a state whose plan is not good, or an index past an array, is none that calls make.
 -- Assumes nothing: these are definitions.
-use Rattle.std.specs.Prelude.{List, ℕ, ltb, leb, get_or, replicate}
+use Rattle.std.specs.Prelude.{List, ℕ, Result, Ok, Err, ltb, leb, get_or, replicate}
 use Rattle.scheme.specs.Limits.{most_blocks, most_places, firsts, cells}
 use Rattle.scheme.specs.Scheme.{Arithmetic, plan_good, places, in_set, ones, ◌then◌, unless, after}
 use Rattle.scheme.specs.Service.{plan_missing, second_plan, not_gathering, not_replying, element_refusal, takes, gathered}
 use Rattle.plan.specs.declared.Plan.{Plan}
+use Rattle.plan.specs.declared.refusal.Refusal.{Refusal}
 use Rattle.plan.specs.Plan.{plan_of}
+use Rattle.plan.specs.Numbers.{numbered}
 use Rattle.service.specs.declared.Phase.TheVariants.{Unplanned, Idle, Gathering, Replying}
 use Rattle.service.specs.declared.Head.{Head}
 use Rattle.service.specs.declared.Service.{Service}
-use Rattle.service.specs.declared.Stepped.{Stepped}
-use Rattle.service.specs.declared.Closed.{Closed}
-use Rattle.service.specs.declared.SteppedHead.{SteppedHead}
-use Rattle.service.specs.declared.ClosedHead.{ClosedHead}
 use Rattle.service.specs.View.{phase_of, stored, slot, put, view}
 
 unfoldable pub nothing_first : List ℕ
@@ -27,18 +27,29 @@ nothing_first = replicate firsts 0
 unfoldable pub nothing_reply : List ℕ
 nothing_reply = replicate cells 0
 
--- the leaves of the calls take head and arrays apart, and hand back the head
+-- number 0 is for a call that is taken, and a refused close names no set
+pub record Stepped : Type 0 where
+  pub number : ℕ
+  pub service : Service
+
+pub record Closed : Type 0 where
+  pub number : ℕ
+  pub set : ℕ
+  pub service : Service
+
+-- the leaves of the calls take head and arrays apart
 abbrev pub lent : Head → (first reply : List ℕ) → Service
 lent h xs ys = record { head = h; first = xs; reply = ys }
 
-abbrev pub stepped : SteppedHead → (first reply : List ℕ) → Stepped
-stepped r xs ys = record { number = r.number; service = lent r.head xs ys }
+abbrev pub stepped : Result (Unit {0}) Refusal → Service → Stepped
+stepped r s = record { number = numbered r; service = s }
 
-abbrev pub closing : ClosedHead → (first reply : List ℕ) → Closed
-closing r xs ys = record { number = r.number; set = r.set; service = lent r.head xs ys }
+abbrev pub named_by : Result ℕ Refusal → ℕ
+named_by (Ok v) = v
+named_by (Err r) = 0
 
-abbrev pub not_closed : (number : ℕ) → Head → ClosedHead
-not_closed n h = record { number = n; set = 0; head = h }
+abbrev pub closing : Result ℕ Refusal → Service → Closed
+closing r s = record { number = numbered r; set = named_by r; service = s }
 
 abbrev pub by_refusal : (refusal : ℕ) → (new old : Service) → Stepped
 by_refusal n new old = record { number = n; service = after n new old }

@@ -1,28 +1,21 @@
 -- A record that the head alone refuses: its number is the answer, and the state stays.
---   turn_early       one such record
+--   early_says   so it is of every record and state
 -- Assumes nothing.
-use mathlib.Core.Path.{◌≡◌, refl, sym, ap, ◌∙◌}
-use mathlib.Core.Logic.{◌≢◌}
-use mathlib.Core.List.{List}
-use Prim.Native.Nat.{ℕ}
+use Rattle.std.proofs.Common.{◌≡◌, ◌≢◌, refl, sym, ap, ◌∙◌}
 use Rattle.scheme.specs.Scheme.{sixteen}
 use Rattle.scheme.specs.Service.{Record, plan_record, open_record, first_record, close_record, reply_record, finish_record, refused}
 use Rattle.scheme.proofs.Refusals.{then_refused, then_stops, after_refused}
 use Rattle.solve.specs.Solve.{laws16}
 use Rattle.service.specs.declared.Service.{Service}
-use Rattle.service.specs.declared.Closed.{Closed}
-use Rattle.service.specs.Calls.{plan_step, plan_refusal, open_step, close_refusal}
+use Rattle.service.specs.Calls.{Closed, plan_step, plan_refusal, open_step, close_refusal}
 use Rattle.service.proofs.Refused.{close_refused}
-use Rattle.finish.specs.declared.Finished.{Finished}
-use Rattle.finish.specs.Finish.{finish_refusal}
+use Rattle.finish.specs.Finish.{Finished, finish_refusal}
 use Rattle.finish.proofs.Answers.{finish_refuses}
-use Rattle.lines.specs.Text.{line}
-use Rattle.lines.specs.Put.{Put}
-use Rattle.lines.proofs.Lines.{put_as}
-use Rattle.stream.specs.Stream.{step, early_refusal, Turns}
+use Rattle.stream.specs.Stream.{step}
+use Rattle.stream.specs.Early.{early_refusal}
 use Rattle.stream.proofs.Turns.{told_refused}
 
-early_says : (s : Service) (r : Record) → early_refusal s.head r ≢ 0
+pub early_says : (s : Service) (r : Record) → early_refusal s.head r ≢ 0
     → ((step s r).answer ≡ refused (early_refusal s.head r)) × ((step s r).service ≡ s)
 unfolding early_refusal step plan_step plan_refusal open_step close_refusal finish_refusal
 early_says s (plan_record p) h =
@@ -39,9 +32,3 @@ early_says s finish_record h =
     let e = finish_refuses sixteen laws16 s h (sym (then_stops refl h _)) in
     let n = ap (λ (f : Finished). f.number) e in
     (told_refused (λ z. h (n ∙ z)) _ ∙ ap refused (sym n), sym (ap (λ (f : Finished). f.service) e))
-
-pub turn_early : {s : Service} {r : Record} {o n : ℕ} {out out' : List ℕ} {wrote next : ℕ} → n ≡ early_refusal s.head r → n ≢ 0
-    → Put out out' wrote next (line o (refused n)) → Turns r o s s out out' wrote next
-turn_early {s} {r} {o} e h p =
-    let says = early_says s r (λ z. h (e ∙ z)) in
-    record { state = sym says.1; put = put_as p (ap (line o) (ap refused e ∙ sym says.0)) }

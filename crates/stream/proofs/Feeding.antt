@@ -1,6 +1,7 @@
 -- How far feed is, and what it hands back.
---   Ready, ready, ready_true, ready_false, tested   what a record that is taken has; tests that tell it
---   stop_used                               none is taken where the chunk ends
+--   Ready, ready, ready_true, ready_false   what a record that is taken has
+--   Kinded, kinded, tested                  a known kind; tests that tell that a record is taken
+--   stop_used .. stop_full                  why none is taken
 --   said, behind                            the line of the record at a place, and the state behind it
 --   Along, along_start, along_more          the bytes used so far are whole records, and state and length written are theirs
 --   fed_far, fed_within, fed_more, fed_end    what fed is: offsets that pass 64 bits or do not, one record more, no more
@@ -8,21 +9,16 @@
 --   turn_silent, going_silent, going_run, going_takes     the same behind records that are taken in silence
 --   run_onward, takes_onward                they lead onward
 -- Assumes nothing.
-use mathlib.Core.Path.{◌≡◌, refl, sym, ap, ◌∙◌}
-use mathlib.Core.Logic.{◌≢◌}
-use mathlib.Core.Bool.{true, false}
-use mathlib.Core.List.{List, [], ◌∷◌, ◌++◌, append-nil}
-use Prim.Native.Nat.{ℕ, zero, suc, ◌+◌, ◌-◌, ◌^◌, ◌≤◌, ◌<◌}
-use native.Mathlib.Omega.{arith}
-use lib.ListN.{length, take, length-append}
-use borrow.Author.Tests.{ltb-true, leb-true, eqb-false, not-true, lt-ltb, le-leb, lt-leb, ne_eqb}
+use Rattle.std.proofs.Common.{◌≡◌, refl, sym, ap, ◌∙◌, ◌≢◌, true, false, List, [], ◌∷◌, ◌++◌, append-nil, ℕ, zero, suc, ◌+◌, ◌-◌, ◌^◌, ◌≤◌, ◌<◌, arith, length, get_or, take, length-append, ltb-true, leb-true, lt-ltb, le-leb, eq-eqb, ne_eqb}
+use borrow.Author.Tests.{eqb-false, not-true, lt-leb}
 use Rattle.scheme.proofs.Tests.{and_both, is_false}
 use Rattle.service.specs.declared.Service.{Service}
 use Rattle.lines.specs.Text.{line}
 use Rattle.lines.specs.Put.{room, Put}
 use Rattle.lines.proofs.Lines.{put_none, put_append, put_as, put_length}
-use Rattle.stream.specs.declared.Stop.TheVariants.{Used, Far}
-use Rattle.stream.specs.Stream.{length_at, record_at, Whole, Item, taken, items_from, items, step, answers, text, lines, ready_at, stop_at, halt, fed_from, fed, Turns, SilentAt, SilentRun, stays, goes_on, Takes, alone, in_silence}
+use Rattle.stream.specs.declared.Stop.TheVariants.{Used, Unknown, Partial, Full, Far}
+use Rattle.stream.specs.declared.Kind.{Kind}
+use Rattle.stream.specs.Stream.{code_of, record_length, length_at, record_at, Whole, Item, taken, items_from, items, step, answers, text, lines, ready_at, stop_at, halt, fed_from, fed, Turns, SilentAt, SilentRun, stays, goes_on, Takes, alone, in_silence}
 use Rattle.stream.specs.Promise.{all_taken, last_state}
 use Rattle.stream.proofs.Records.{items_next, taken_append, state_append, text_append}
 use Rattle.stream.proofs.Turns.{line_short}
@@ -52,12 +48,42 @@ ready_true {b} {at} {left} r =
 pub ready_false : (b : List ℕ) (at left : ℕ) → (Ready b at left → ⊥) → ready_at b at left ≡ false
 ready_false b at left h = is_false _ (λ e. h (ready b at left e))
 
-pub tested : {b : List ℕ} {at left n : ℕ} → n ≡ length_at b at → n ≢ 0 → at < length b → n ≤ length b - at → room ≤ left → Ready b at left
-tested e h i l f = record { known = λ z. h (e ∙ z); whole = record { inside = i; whole = omega (arith, e) }; fits = f }
+-- a kind, and how long its records are
+pub record Kinded (b : List ℕ) (at n : ℕ) (k : Kind) : Type 0 where
+  pub own : get_or b at 0 ≡ code_of k
+  pub long : n ≡ length_at b at
+  pub some : 1 ≤ n
 
-pub stop_used : (b : List ℕ) (at : ℕ) → length b ≤ at → Used ≡ stop_at b at
-unfolding stop_at
-stop_used b at h = rw (le-leb (length b) at h)
+pub kinded : {b : List ℕ} (at : ℕ) {n : ℕ} (k : Kind) → get_or b at 0 ≡ code_of k → (n ≡ record_length (code_of k)) × (1 ≤ n) → Kinded b at n k
+kinded at k e d = record { own = e; long = d.0 ∙ ap record_length (sym e); some = d.1 }
+
+module _ {b : List ℕ} {at n : ℕ} {k : Kind} (e : Kinded b at n k) (i : at < length b) where
+  known : length_at b at ≢ 0
+  known z = omega (arith, e.long, e.some)
+
+  pub tested : {left : ℕ} → n ≤ length b - at → room ≤ left → Ready b at left
+  tested l f = record { known = known; whole = record { inside = i; whole = omega (arith, e.long) }; fits = f }
+
+  pub stop_partial : length b - at < n → Partial ≡ stop_at b at
+  unfolding stop_at
+  stop_partial h =
+      let l : length b - at < length_at b at = omega (arith, e.long) in
+      simp (lt-leb (length b) at i, ne_eqb (length_at b at) 0 known, lt-leb (length_at b at) (length b - at) l)
+
+  pub stop_full : n ≤ length b - at → Full ≡ stop_at b at
+  unfolding stop_at
+  stop_full h =
+      let l : length_at b at ≤ length b - at = omega (arith, e.long) in
+      simp (lt-leb (length b) at i, ne_eqb (length_at b at) 0 known, le-leb (length_at b at) (length b - at) l)
+
+module _ (b : List ℕ) (at : ℕ) where
+  pub stop_used : length b ≤ at → Used ≡ stop_at b at
+  unfolding stop_at
+  stop_used h = rw (le-leb (length b) at h)
+
+  pub stop_unknown : at < length b → length_at b at ≡ 0 → Unknown ≡ stop_at b at
+  unfolding stop_at
+  stop_unknown i z = simp (lt-leb (length b) at i, eq-eqb (length_at b at) 0 z)
 
 -- ---- whole records
 pub record Along (s : Service) (b : List ℕ) (o : ℕ) (t : Service) (at wrote : ℕ) : Type 0 where
@@ -184,7 +210,7 @@ going_silent {s} {b} {o} {out₀} {out = out} g fits {next} {u} r =
 going_run : {s : Service} {b : List ℕ} {o : ℕ} {out₀ : List ℕ} {wrote : ℕ} {out : List ℕ} → room ≤ length out - wrote
     → {at next : ℕ} {t u : Service} → SilentRun b at next t u → Going s b o out₀ t at wrote out → Going s b o out₀ u next wrote out
 going_run fits (stays at s) g = g
-going_run fits (goes_on start at next s t u run r) g = going_silent (going_run fits run g) fits r
+going_run fits (goes_on start at end s t u run r) g = going_silent (going_run fits run g) fits r
 
 -- one with its lines, or a run
 pub going_takes : {s : Service} {b : List ℕ} {o : ℕ} {out₀ : List ℕ} {t : Service} {at wrote : ℕ} {out : List ℕ} → Going s b o out₀ t at wrote out
@@ -195,7 +221,7 @@ going_takes g r (in_silence at u one run same still) = rw (same, still) (going_r
 
 run_onward : {b : List ℕ} {at next : ℕ} {t u : Service} → SilentRun b at next t u → at ≤ next
 run_onward (stays at s) = omega arith
-run_onward (goes_on start at next s t u run r) = omega (arith, run_onward run, r.long)
+run_onward (goes_on start at end s t u run r) = omega (arith, run_onward run, r.long)
 
 pub takes_onward : {b : List ℕ} {o at end : ℕ} {t u : Service} {out out' : List ℕ} {wrote next : ℕ} → length_at b at ≢ 0
     → Takes b o at end t u out out' wrote next → at < end

@@ -1,4 +1,4 @@
--- Records: the records of an input. Turns: one record's answer and line. Early: a record that the head alone refuses.
+-- Records: the records of an input. Turns: one record's answer and line.
 -- Runs: records taken in silence. Feeding: what holds at each turn of feed. Promise: the theorems of specs/Promise.antt.
 -- Repeats: those of specs/Repeats.antt.
 pub mod Records

@@ -1,15 +1,9 @@
 -- That the lines of the record stream are those of document 01's service.
 --   step_right, answers_run, lines_right, cut_free, fed_right, opens_as_new, seven_ends     the statements of specs/Promise.antt
 -- Assumes nothing.
-use mathlib.Core.Path.{◌≡◌, refl, sym, ap, subst}
-use mathlib.Core.Bool.{Bool, true, false}
-use mathlib.Core.List.{List, [], ◌∷◌, ◌++◌, append_assoc}
-use Prim.Native.Nat.{ℕ, zero, suc, ◌+◌, ◌-◌, ◌^◌, ◌≤◌, ◌<◌}
+use Rattle.std.proofs.Common.{◌≡◌, refl, sym, ap, subst, Bool, true, false, List, [], ◌∷◌, ◌++◌, append_assoc, ℕ, zero, suc, ◌+◌, ◌-◌, ◌^◌, ◌≤◌, ◌<◌, arith, length, take, drop, take-append-drop, length-take-le, eq-eqb, ne_eqb, ltb-true, lt-ltb, le-leb, leb-false}
 use native.Mathlib.Decide.{dec_le, ℕ_discrete}
-use native.Mathlib.Omega.{arith}
-use lib.ListN.{length, take, drop, take-append-drop}
-use lib.Seq.{length-take-le}
-use borrow.Author.Tests.{eq-eqb, ne_eqb, ltb-true, lt-ltb, le-leb, lt-leb, leb-false}
+use borrow.Author.Tests.{lt-leb}
 use Rattle.scheme.specs.Scheme.{sixteen}
 use Rattle.scheme.specs.Service.{plan_record, open_record, first_record, close_record, reply_record, finish_record, refused, done, more}
 use Rattle.scheme.proofs.Tests.{holds, is_false}

@@ -3,11 +3,7 @@
 --   bare_whole, bare_same             what is printed, offsets apart: silence to repeats adds nothing
 --   repeats_quiet, example_repeats    the statements of specs/Repeats.antt
 -- Assumes nothing.
-use mathlib.Core.Path.{◌≡◌, refl, sym, ap, ap₂, ◌∙◌}
-use mathlib.Core.Logic.{inl}
-use mathlib.Core.Bool.{Bool, cond}
-use mathlib.Core.List.{List, [], ◌∷◌, ◌++◌, append_assoc}
-use Prim.Native.Nat.{ℕ}
+use Rattle.std.proofs.Common.{◌≡◌, refl, sym, ap, ap₂, ◌∙◌, inl, Bool, cond, List, [], ◌∷◌, ◌++◌, append_assoc, ℕ}
 use Rattle.scheme.specs.Scheme as Scheme
 use Rattle.scheme.specs.Scheme.{sixteen}
 use Rattle.scheme.specs.Service as Service

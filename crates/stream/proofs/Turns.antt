@@ -1,48 +1,41 @@
 -- One record: its answer and its lines.
 --   told_taken, told_refused                  what a number answers
 --   turn_told, turn_taken, turn_refused       the call's answer decides the line
---   plan_says .. finish_says                  what each call says
---   record_finish                             which record stands at a place
+--   plan_says .. finish_says, finish_early                  what each call says
+--   record_plan .. record_finish              which record stands at a place
+--   turn_at                                   one record that stands at a place
 --   finish_good                               an accepted finish has a good plan
 --   line_short                                the text of every answer fits into the room for any
 -- Assumes nothing.
-use mathlib.Core.Path.{◌≡◌, refl, sym, ap}
-use mathlib.Core.Logic.{◌≢◌}
-use mathlib.Core.Bool.{true, false, cond}
-use mathlib.Core.List.{List, [], ◌∷◌, ◌++◌, map}
-use Prim.Native.Nat.{ℕ, zero, suc, ◌+◌, ◌*◌, ◌^◌, ◌≤◌, ◌<◌}
-use native.Mathlib.Nat.{mod-lt, lt_trans, mul-suc}
-use native.Mathlib.Omega.{arith}
-use lib.Dec.{lit<, eqb}
-use lib.ListN.{length, get_or, take, length-append}
-use borrow.Author.Tests.{ne_eqb}
+use Rattle.std.proofs.Common.{◌≡◌, refl, sym, ap, true, false, cond, List, [], ◌∷◌, ◌++◌, map, ℕ, zero, suc, ◌+◌, ◌*◌, ◌^◌, ◌≤◌, ◌<◌, mod-lt, lt_trans, mul-suc, arith, lit<, eqb, length, get_or, take, length-append}
 use Rattle.scheme.specs.Limits.{most_places}
 use Rattle.scheme.specs.Lists.{span}
 use Rattle.scheme.specs.Scheme.{sixteen, places, after}
 use Rattle.scheme.specs.Good.{Good}
 use Rattle.scheme.specs.Totals.{total_of, totals}
-use Rattle.scheme.specs.Service.{Record, plan_record, open_record, first_record, close_record, reply_record, finish_record, Answer, planned, opened, closed, totalled, refused, totals_by}
+use Rattle.scheme.specs.Service.{Record, plan_record, open_record, first_record, close_record, reply_record, finish_record, Answer, not_replying, silent, planned, opened, closed, totalled, refused, totals_by}
 use Rattle.scheme.proofs.Good.{good}
 use Rattle.scheme.proofs.Lists.{span_length}
-use Rattle.scheme.proofs.Refusals.{then_zero, unless_zero, after_taken, after_refused}
+use Rattle.scheme.proofs.Refusals.{then_zero, then_stops, unless_zero, after_taken, after_refused}
 use Rattle.solve.specs.Solve.{laws16}
 use Rattle.plan.specs.Plan.{plan_of}
+use Rattle.plan.specs.Numbers.{number_of}
+use Rattle.plan.specs.declared.refusal.Refusal.{Refusal}
+use Rattle.plan.proofs.Numbers.{refused_ne0}
 use Rattle.plan.specs.declared.Plan as declared
 use Rattle.scheme.proofs.PlanBounds.{places_le}
 use Rattle.service.specs.declared.Service.{Service}
-use Rattle.service.specs.declared.Stepped.{Stepped}
-use Rattle.service.specs.declared.Closed.{Closed}
-use Rattle.finish.specs.declared.Finished.{Finished}
-use Rattle.service.specs.Calls.{plan_step, open_step, close_step}
-use Rattle.service.specs.View.{view}
+use Rattle.service.specs.Calls.{Stepped, Closed, plan_step, open_step, first_step, close_step, reply_step}
+use Rattle.service.specs.View.{phase_of, view}
 use Rattle.service.specs.Promise.{told}
-use Rattle.finish.specs.Finish.{finish_refusal, finish_answer, finish_step}
+use Rattle.finish.specs.Finish.{Finished, finish_refusal, finish_answer, finish_step}
+use Rattle.finish.proofs.Answers.{finish_refuses}
 use Rattle.finish.proofs.Steps.{totals_first}
 use Rattle.lines.specs.Text.{decimal, numbers, aside_word, line_end, aside_line, line}
 use Rattle.lines.specs.Put.{number_room, aside_room, room, Put}
 use Rattle.lines.proofs.Decimals.{decimal_twenty, decimal_most}
 use Rattle.lines.proofs.Lines.{put_as}
-use Rattle.stream.specs.Stream.{record_at, Other, Outcome, outcome, step, Turns}
+use Rattle.stream.specs.Stream.{two_bytes, four_bytes, plan_at, record_at, Outcome, outcome, step, Turns}
 
 -- ---- what a number answers
 pub told_taken : {n : ℕ} → n ≡ 0 → (a : Answer) → told n a ≡ a
@@ -54,15 +47,16 @@ unfolding told
 told_refused h a = after_refused h a _
 
 -- one record that the service's call answers
-module _ {s t : Service} {r : Record} {o : ℕ} {out out' : List ℕ} {wrote next : ℕ} (n : ℕ) (a : Answer) (said : outcome n a t ≡ step s r) where
-  turn_told : Put out out' wrote next (line o (told n a)) → Turns r o s t out out' wrote next
-  turn_told p = record { state = ap (λ (x : Outcome). x.service) said; put = put_as p (ap (λ (x : Outcome). line o x.answer) said) }
+module _ {s t : Service} {r : Record} {o : ℕ} {out out' : List ℕ} {wrote next : ℕ} (a : Answer) where
+  turn_told : (n : ℕ) → outcome n a t ≡ step s r → Put out out' wrote next (line o (told n a)) → Turns r o s t out out' wrote next
+  turn_told n said p = record { state = ap (λ (x : Outcome). x.service) said; put = put_as p (ap (λ (x : Outcome). line o x.answer) said) }
 
-  pub turn_refused : n ≢ 0 → Put out out' wrote next (line o (refused n)) → Turns r o s t out out' wrote next
-  turn_refused h p = turn_told (put_as p (ap (line o) (sym (told_refused h a))))
+  pub turn_refused : (e : Refusal) → outcome (number_of e) a t ≡ step s r → Put out out' wrote next (line o (refused (number_of e)))
+      → Turns r o s t out out' wrote next
+  turn_refused e said p = turn_told _ said (put_as p (ap (line o) (sym (told_refused (refused_ne0 e) a))))
 
-  pub turn_taken : n ≡ 0 → Put out out' wrote next (line o a) → Turns r o s t out out' wrote next
-  turn_taken e p = turn_told (put_as p (ap (line o) (sym (told_taken e a))))
+  pub turn_taken : outcome 0 a t ≡ step s r → Put out out' wrote next (line o a) → Turns r o s t out out' wrote next
+  turn_taken said p = turn_told 0 said (put_as p (ap (line o) (sym (told_taken refl a))))
 
 -- what each call says
 pub plan_says : (s : Service) (p : declared.Plan) {r : Stepped} → r ≡ plan_step s p
@@ -74,6 +68,14 @@ pub open_says : (s : Service) (i : ℕ) {r : Stepped} → r ≡ open_step s i �
 unfolding step
 open_says s i e = rw e
 
+pub first_says : (s : Service) (k i x : ℕ) {r : Stepped} → r ≡ first_step sixteen s k i x → outcome r.number silent r.service ≡ step s (first_record k i x)
+unfolding step
+first_says s k i x e = rw e
+
+pub reply_says : (s : Service) (k i x : ℕ) {r : Stepped} → r ≡ reply_step sixteen s k i x → outcome r.number silent r.service ≡ step s (reply_record k i x)
+unfolding step
+reply_says s k i x e = rw e
+
 pub close_says : (s : Service) {r : Closed} → r ≡ close_step s
     → outcome r.number (closed s.head.round r.set) r.service ≡ step s close_record
 unfolding step
@@ -84,12 +86,44 @@ pub finish_says : (s : Service) {n : ℕ} {r : Finished} → n ≡ places (plan_
 unfolding step
 finish_says s d e = rw (d, e)
 
+-- what the phase refuses a finish refuses, and leaves the state
+pub finish_early : (s : Service) (e : Refusal) → number_of e ≡ not_replying (phase_of s.head.phase)
+    → {o : ℕ} {out out' : List ℕ} {wrote next : ℕ} → Put out out' wrote next (line o (refused (number_of e)))
+    → Turns finish_record o s s out out' wrote next
+unfolding finish_refusal
+finish_early s e phase p =
+    let same = finish_refuses sixteen laws16 s (refused_ne0 e) (sym (then_stops phase (refused_ne0 e) _)) in
+    turn_refused _ e (finish_says s {n = places (plan_of s.head.plan)} refl same) p
+
 -- ---- which record stands at a place
-pub record_finish : (b : List ℕ) (at : ℕ) → Other b at → get_or b at 0 ≢ 1 → get_or b at 0 ≢ 2 → get_or b at 0 ≢ 4 → record_at b at ≡ finish_record
-unfolding record_at
-record_finish b at h p q s =
-    let k = get_or b at 0 in
-    rw (ne_eqb k 1 p, ne_eqb k 2 q, ne_eqb k 3 h.not_first, ne_eqb k 4 s, ne_eqb k 5 h.not_reply)
+module _ (b : List ℕ) (at : ℕ) where
+  pub record_plan : get_or b at 0 ≡ 1 → record_at b at ≡ plan_record (plan_at b at)
+  unfolding record_at
+  record_plan e = rw e
+
+  pub record_open : get_or b at 0 ≡ 2 → record_at b at ≡ open_record (four_bytes b (at + 1))
+  unfolding record_at
+  record_open e = rw e
+
+  pub record_first : get_or b at 0 ≡ 3 → record_at b at ≡ first_record (get_or b (at + 1) 0) (two_bytes b (at + 2)) (two_bytes b (at + 4))
+  unfolding record_at
+  record_first e = rw e
+
+  pub record_close : get_or b at 0 ≡ 4 → record_at b at ≡ close_record
+  unfolding record_at
+  record_close e = rw e
+
+  pub record_reply : get_or b at 0 ≡ 5 → record_at b at ≡ reply_record (get_or b (at + 1) 0) (get_or b (at + 2) 0) (two_bytes b (at + 3))
+  unfolding record_at
+  record_reply e = rw e
+
+  pub record_finish : get_or b at 0 ≡ 6 → record_at b at ≡ finish_record
+  unfolding record_at
+  record_finish e = rw e
+
+pub turn_at : {r q : Record} {o : ℕ} {s t : Service} {out out' : List ℕ} {wrote next : ℕ} → q ≡ r → Turns r o s t out out' wrote next
+    → Turns q o s t out out' wrote next
+turn_at e p = rw e p
 
 -- ---- a finish
 pub finish_good : (s : Service) → (finish_step sixteen laws16 s).number ≡ 0 → Good (plan_of s.head.plan)

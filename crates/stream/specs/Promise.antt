@@ -21,8 +21,7 @@ use Rattle.lines.specs.Text.{line}
 use Rattle.lines.specs.Put.{room}
 use Rattle.stream.specs.declared.Stop.{Stop}
 use Rattle.stream.specs.declared.Stop.TheVariants.{Used, Unknown, Partial, Full, Far}
-use Rattle.stream.specs.declared.Fed.{Fed}
-use Rattle.stream.specs.Stream.{record_length, length_at, Item, taken, broken, items, step, Placed, answers, text, lines, fed}
+use Rattle.stream.specs.Stream.{record_length, length_at, Item, taken, broken, items, step, Placed, answers, text, lines, Fed, fed}
 
 unfoldable pub StepRight : Type 0
 StepRight = (s : Service) (r : Record) → Formed sixteen s → IsStep sixteen r s (step s r).answer (step s r).service

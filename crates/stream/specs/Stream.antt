@@ -1,40 +1,51 @@
 -- The record stream of document 01: bytes, records with their offsets, answers, lines.
+--   code_of                      the number of a kind
 --   record_length, length_at     how long a record of a kind is, and the one at a place
 --   two_bytes, four_bytes        numbers of two and of four bytes, the low byte first
 --   plan_at, record_at           the plan and the record that stand at a place
---   Whole, Other                 a whole record stands at a place, and it is no element
+--   Whole                        a whole record stands at a place
 --   Item, items                  the records of an input, each with its offset, and where it breaks off
 --   Outcome, outcome, step       one record on the service's state: the answer and the next state
 --   Placed, answers              the answers to a list of records, each with its record's offset; 7 ends the run
 --   text, lines                  what is printed for a list of answers, and for an input
 --   ready_at, stop_at            whether a record is taken at a place, and why none is
---   fed_from, fed                what feed hands back: the state, the bytes used and written, and why it stops
---   early_refusal                the refusal that the head alone decides
+--   Fed, fed_by                  what feed hands back and leaves: the state, the bytes used and written, and why it stops; as the code says it
+--   fed_from, fed                so it hands back
 --   Turns                        one record: the state before and after it, and its lines written
+--   HeldIn                       an element held in a place that is free or holds the same
 --   SilentAt, SilentRun        records that are taken in silence: one, and one upon another
 --   Takes                        one record with its lines, or one in silence and a run of such behind it
 --   cut_length, cut_left         the line of refusal 7
 -- Assumes nothing: these are definitions.
-use Rattle.std.specs.Prelude.{◌≡◌, ◌≢◌, Bool, cond, not, ◌&&◌, List, [], ◌∷◌, ◌++◌, ℕ, zero, suc, ◌+◌, ◌*◌, ◌-◌, ◌^◌, ◌≤◌, ◌<◌, ltb, leb, eqb, length, get_or, take, drop}
+use Rattle.std.specs.Prelude.{◌≡◌, ◌≢◌, Bool, cond, not, ◌&&◌, List, [], ◌∷◌, ◌++◌, ℕ, zero, suc, ◌+◌, ◌*◌, ◌-◌, ◌^◌, ◌≤◌, ◌<◌, ltb, leb, eqb, length, get_or, set, take, drop}
 use Rattle.std.proofs.lemmas.List.Edits.{sets}
 use Rattle.scheme.specs.Scheme as scheme
-use Rattle.scheme.specs.Scheme.{sixteen, places}
-use Rattle.scheme.specs.Service.{second_plan, not_gathering, not_replying, Record, plan_record, open_record, first_record, close_record, reply_record, finish_record, Answer, silent, planned, opened, closed, totalled, refused}
+use Rattle.scheme.specs.Scheme.{q, sixteen, places}
+use Rattle.scheme.specs.Service.{Record, plan_record, open_record, first_record, close_record, reply_record, finish_record, Answer, silent, planned, opened, closed, totalled, refused}
 use Rattle.solve.specs.Solve.{laws16}
 use Rattle.plan.specs.Plan.{plan_of, plan_from}
-use Rattle.service.specs.declared.Head.{Head}
 use Rattle.service.specs.declared.Service.{Service}
-use Rattle.service.specs.View.{phase_of}
-use Rattle.service.specs.Calls.{open_refusal, plan_step, open_step, first_step, close_step, reply_step}
+use Rattle.service.specs.View.{held_as, left_in}
+use Rattle.service.specs.Calls.{plan_step, open_step, first_step, close_step, reply_step}
 use Rattle.service.specs.Promise.{told}
 use Rattle.finish.specs.Finish.{finish_step}
 use Rattle.stream.specs.declared.Stop.{Stop}
 use Rattle.stream.specs.declared.Stop.TheVariants.{Used, Unknown, Partial, Full, Far}
-use Rattle.stream.specs.declared.Fed.{Fed}
+use Rattle.stream.specs.declared.Kind.{Kind}
+use Rattle.stream.specs.declared.Kind.TheVariants as kind
+use Rattle.stream.specs.declared.Fed as code
 use Rattle.lines.specs.Text.{line}
 use Rattle.lines.specs.Put.{room, Put}
 
 -- ---- BYTES TO RECORDS
+abbrev pub code_of : Kind → ℕ
+code_of kind.Plan = 1
+code_of kind.Open = 2
+code_of kind.First = 3
+code_of kind.Close = 4
+code_of kind.Reply = 5
+code_of kind.Finish = 6
+
 -- a record's length with its kind: 5, 5, 6, 1, 5, 1 for the kinds 01 to 06; 0 for every other kind
 unfoldable pub record_length : (kind : ℕ) → ℕ
 record_length k =
@@ -65,12 +76,6 @@ record_at b i =
 pub record Whole (b : List ℕ) (at : ℕ) : Type 0 where
   pub inside : at < length b
   pub whole : at + length_at b at ≤ length b
-
--- neither 03, a first element, nor 05, a reply element
-pub record Other (b : List ℕ) (at : ℕ) : Type 0 where
-  pub whole : Whole b at
-  pub not_first : get_or b at 0 ≢ 3
-  pub not_reply : get_or b at 0 ≢ 5
 
 -- a record at its offset, or an unknown kind or a cut record there
 pub data Item : Type 0 where
@@ -126,6 +131,15 @@ unfoldable pub lines : Service → (o : ℕ) → (b : List ℕ) → List ℕ
 lines s o b = text (answers s (items o b))
 
 -- ---- A CHUNK AT A TIME
+pub record Fed : Type 0 where
+  pub service : Service
+  pub at : ℕ
+  pub wrote : ℕ
+  pub stop : Stop
+
+abbrev pub fed_by : Service → code.Fed → Fed
+fed_by s r = record { service = s; at = r.at; wrote = r.wrote; stop = r.stop }
+
 abbrev pub halt : Service → (at wrote : ℕ) → Stop → Fed
 halt s i w e = record { service = s; at = i; wrote = w; stop = e }
 
@@ -150,19 +164,17 @@ fed_from (suc m) s b o n i w =
 unfoldable pub fed : Service → (b : List ℕ) → (offset n : ℕ) → Fed
 fed s b o n = cond (leb (2 ^ 64) (o + length b)) (halt s 0 0 Far) (fed_from (length b) s b o n 0 0)
 
--- the refusal of a record as far as the head of the state alone decides it; elements have their own calls
-unfoldable pub early_refusal : Head → Record → ℕ
-early_refusal h (plan_record p) = second_plan (phase_of h.phase)
-early_refusal h (open_record r) = open_refusal h r
-early_refusal h (first_record k i x) = 0
-early_refusal h close_record = not_gathering (phase_of h.phase)
-early_refusal h (reply_record k b x) = 0
-early_refusal h finish_record = not_replying (phase_of h.phase)
-
 -- one record, at an offset: the state before and after it, and its lines written behind what was written before
 pub record Turns (r : Record) (o : ℕ) (s t : Service) (out out-now : List ℕ) (wrote next : ℕ) : Type 0 where
   pub state : t ≡ (step s r).service
   pub put : Put out out-now wrote next (line o (step s r).answer)
+
+-- of the places behind `row` there are `limit`; elements are held as `held_as` says
+pub record HeldIn (before after : List ℕ) (row limit place element : ℕ) : Type 0 where
+  pub inside : place < limit
+  pub small : element < q
+  pub stays : left_in (get_or before (row + place) 0) (held_as element) ≡ held_as element
+  pub put : after ≡ set before (row + place) (held_as element)
 
 -- the record at a place, taken in silence: where the next one starts, and the state before and after it
 pub record SilentAt (b : List ℕ) (at next : ℕ) (s t : Service) : Type 0 where

@@ -8,6 +8,5 @@ use Rattle.element.proofs.coefficient.Goals as goal
 
 pub returns : goal.returns
 returns c =
-    let s = c in
-    let n = s.args.user + s.args.column in
-    ap (λ (l : List ℕ). get_or l n 0) c.inverses-table.ensures ∙ map_below_at (inverse q) points n s.requires
+    let n = c.args.user + c.args.column in
+    ap (λ (l : List ℕ). get_or l n 0) c.inverses-table.ensures ∙ map_below_at (inverse q) points n c.requires

@@ -1,7 +1,6 @@
 -- `element::far` meets its contract: a number within the most is near zero, and of one that is not both lacks are gathered by `|`.
 -- Assumes nothing.
-use Rattle.std.proofs.Common.{ℕ, eqb, refl, ap, ◌∙◌, ap₂, arith, lit<, le-leb}
-use lib.Bits.{bit_or}
+use Rattle.std.proofs.Common.{ℕ, eqb, refl, ap, ◌∙◌, ap₂, arith, lit<, le-leb, bit_or}
 use Rattle.scheme.specs.Scheme.{sixteen, is_near}
 use Rattle.scheme.proofs.Elements.{far_near}
 use Rattle.element.proofs.far.Goals as goal

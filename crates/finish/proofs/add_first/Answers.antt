@@ -1,11 +1,5 @@
--- `finish::add_first` meets its contract. The loop's invariant: the first i sums are new, and the others old.
--- The measure is how many are left. Assumes nothing.
-use mathlib.Core.Path.{◌≡◌, ap₂, subst}
-use mathlib.Core.List.{List}
-use Prim.Native.Nat.{ℕ, ◌+◌, ◌<◌}
-use native.Mathlib.Nat.{zero-add}
-use native.Mathlib.Omega.{arith}
-use lib.ListN.{get_or, set}
+-- `finish::add_first` meets its contract. The loop's invariant: the first i sums are new, and the others old. Assumes nothing.
+use Rattle.std.proofs.Common.{◌≡◌, ap₂, subst, List, ℕ, ◌+◌, ◌<◌, zero-add, arith, get_or, set}
 use Rattle.scheme.proofs.Making.Rows.{below_more, row_other}
 use Rattle.scheme.proofs.Padded.{Setting, setting_more, setting_end}
 use Rattle.finish.proofs.add_first.Goals as goal

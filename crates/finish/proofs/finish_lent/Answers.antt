@@ -1,18 +1,22 @@
 -- `finish::finish_lent` meets its contract: the answer, and the state after it.
 -- Assumes nothing.
-use mathlib.Core.Path.{sym}
+use Rattle.std.proofs.Common.{sym, refl}
 use Rattle.scheme.specs.Scheme.{sixteen}
-use Rattle.scheme.proofs.Refusals.{after_taken, after_refused}
+use Rattle.scheme.proofs.Refusals.{after_taken}
 use Rattle.solve.specs.Solve.{laws16}
+use Rattle.std.proofs.lemmas.Result.{err_from_is_err_and}
+use Rattle.plan.proofs.Numbers.{refused_ne0}
 use Rattle.finish.specs.Finish.{finished}
-use Rattle.finish.proofs.Answers.{answer_right}
+use Rattle.finish.proofs.Answers.{answer_right, finish_refuses}
 use Rattle.finish.proofs.finish_lent.Goals as goal
 
-pub returns-then-number-ne0 : goal.returns-then-number-ne0
-returns-then-number-ne0 c = answer_right sixteen laws16 _ _ c.put_state_totals-numbers.ensures (sym (after_refused c.if-number-ne0.true _ _))
+pub returns-in_err-aside-clause-step : goal.returns-in_err-aside-clause-step
+returns-in_err-aside-clause-step c =
+    let p = err_from_is_err_and c.from_residual.result c.from_residual.ensures.1 in
+    rw (p.1, p.2) (finish_refuses sixteen laws16 _ (refused_ne0 _) (sym c.in_err-aside.ensures.answered.number_right))
 
-pub returns : goal.returns
+pub returns-clause-step : goal.returns-clause-step
 unfolding finished
-returns c =
-    rw (c.idle.ensures, c.clear.ensures.0, c.clear.ensures.1)
-    (answer_right sixteen laws16 _ _ c.put_state_totals-numbers.ensures (sym (after_taken c.if-number-ne0.false _ _)))
+returns-clause-step c =
+    rw (c.clear.ensures.0, c.clear.ensures.1)
+    (answer_right sixteen laws16 _ _ c.in_ok-aside.ensures.answered (sym (after_taken refl _ _)))

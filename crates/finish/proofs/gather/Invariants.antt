@@ -1,12 +1,9 @@
--- `finish::gather` meets its contract. The loop's invariant: the replies of i rows are written.
--- The measure is how many are left. Assumes nothing.
-use Prim.Native.Nat.{◌-◌}
+-- `finish::gather` meets its contract. The loop's invariant: the replies of i rows are written. Assumes nothing.
+use Rattle.std.proofs.Common.{◌*◌}
+use Rattle.scheme.specs.Limits.{most_blocks}
 use Rattle.scheme.proofs.Solving.Grids.{Rows}
 use Rattle.finish.specs.Parts.{row_reply}
 use Rattle.finish.proofs.gather.Given as goal
 
 abbrev pub invariant-loop-i : goal.invariant-loop-i
-invariant-loop-i l = Rows (row_reply l.reply l.rows l.blocks) l.count l.i l.at l.out
-
-abbrev pub decreases-loop-i : goal.decreases-loop-i
-decreases-loop-i l = l.count - l.i
+invariant-loop-i l = Rows (row_reply l.reply l.rows l.blocks) l.count l.i (l.i * most_blocks) l.out

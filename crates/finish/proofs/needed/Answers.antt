@@ -1,6 +1,5 @@
 -- `finish::needed` meets its contract. Assumes nothing.
-use mathlib.Core.Path.{refl}
-use native.Mathlib.Omega.{arith}
+use Rattle.std.proofs.Common.{refl, arith}
 use Rattle.scheme.specs.Scheme.{items}
 use Rattle.finish.proofs.needed.Goals as goal
 

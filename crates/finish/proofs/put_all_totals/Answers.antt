@@ -1,7 +1,5 @@
--- `finish::put_all_totals` meets its contract. The loop's invariant: the totals of the first items are written.
--- The measure is how many are left. Assumes nothing.
-use mathlib.Core.Path.{sym, ap, ◌∙◌}
-use native.Mathlib.Nat.{zero-mul}
+-- `finish::put_all_totals` meets its contract. The loop's invariant: the totals of the first items are written. Assumes nothing.
+use Rattle.std.proofs.Common.{sym, ap, ◌∙◌, zero-mul}
 use Rattle.scheme.specs.Scheme.{sixteen}
 use Rattle.finish.specs.Parts.{some_totals}
 use Rattle.finish.proofs.Totalling.{some_start, some_end}

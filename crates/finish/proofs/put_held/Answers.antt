@@ -1,5 +1,4 @@
--- `finish::put_held` meets its contract. The loop's invariant: the replies of the first b blocks are written.
--- The measure is how many are left. Assumes nothing.
+-- `finish::put_held` meets its contract. The loop's invariant: the replies of the first b blocks are written. Assumes nothing.
 use Rattle.scheme.proofs.Padded.{setting_more}
 use Rattle.finish.proofs.put_held.Goals as goal
 

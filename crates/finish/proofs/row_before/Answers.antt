@@ -1,7 +1,5 @@
 -- `finish::row_before` meets its contract. Assumes nothing.
-use mathlib.Core.Path.{refl}
-use native.Mathlib.Omega.{arith}
-use borrow.Author.Tests.{lt-ltb, le-ltb}
+use Rattle.std.proofs.Common.{refl, arith, lt-ltb, le-ltb}
 use Rattle.finish.specs.Parts.{row_before}
 use Rattle.finish.proofs.row_before.Goals as goal
 

@@ -1,11 +1,6 @@
--- `finish::run_sums` meets its contract. The loop's invariant: in each place stands the sum over the first i rows, not reduced.
--- The measure is how many are left. Assumes nothing.
-use mathlib.Core.Path.{◌≡◌, sym, ap, ◌∙◌}
-use mathlib.Core.List.{map}
-use Prim.Native.Nat.{ℕ, ◌+◌, ◌-◌, ◌%◌}
-use native.Mathlib.Nat.{zero-add, add_assoc}
-use native.Mathlib.Omega.{arith}
-use lib.ListN.{length, get_or, length-replicate}
+-- `finish::run_sums` meets its contract. The loop's invariant: in each place stands the sum over the first i rows, not reduced. Assumes nothing.
+use Rattle.std.proofs.Common.{◌≡◌, sym, ap, ◌∙◌, map, ℕ, ◌+◌, ◌-◌, ◌%◌, zero-add, add_assoc, arith, length, get_or}
+use lib.ListN.{length-replicate}
 use lib.Seq.{length-sets}
 use Rattle.scheme.specs.Limits.{most_blocks, most_places}
 use Rattle.scheme.specs.Lists.{span}
@@ -20,8 +15,7 @@ use Rattle.finish.proofs.run_sums.Goals as goal
 
 pub loop-i-init : goal.loop-i-init
 loop-i-init c =
-    let z = c.no_run-sums.ensures in
-    (omega arith, rw z (length-replicate {A = ℕ} most_blocks 0), λ p h. rw (z, zeros_at most_blocks p) (unreduced_start _ _ _ _))
+    (length-replicate {A = ℕ} most_blocks 0, λ p h. rw (zeros_at most_blocks p) (unreduced_start _ _ _ _))
 
 pub loop-i-preserved : goal.loop-i-preserved
 loop-i-preserved c =
@@ -31,22 +25,21 @@ loop-i-preserved c =
     let at = c.args.at in
     let f : ℕ → ℕ = raised l.sums y (c.row_start-from.result + at) in
     let d = c.add_first.ensures.added in (
-      omega arith,
-      ap length d ∙ length-sets l.sums 0 (map f (span most_blocks 0)) ∙ l.invariant.1,
+      ap length d ∙ length-sets l.sums 0 (map f (span most_blocks 0)) ∙ l.invariant.0,
       λ p h.
           let held = held_at most_places y _ (at + p) k.0 k.1 (omega (arith, c.requires)) in
           let new = ap (λ (f : ℕ). get_or y (f + at + p) 0 - 1) c.row_start-from.ensures
           ∙ ap (λ (i : ℕ). get_or y i 0 - 1) (add_assoc _ at p) ∙ sym held in
-          rw (row_at l.sums 0 f most_blocks d p p (sym (zero-add p)) h (omega (arith, l.invariant.1)))
-          (unreduced_more sixteen_sums l.i _ _ (l.invariant.2 p h) (ap (λ (x : ℕ). x % q) new) (c.add_first.ensures.small p h)),
+          rw (row_at l.sums 0 f most_blocks d p p (sym (zero-add p)) h (omega (arith, l.invariant.0)))
+          (unreduced_more sixteen_sums l.i _ _ (l.invariant.1 p h) (ap (λ (x : ℕ). x % q) new) (c.add_first.ensures.small p h)),
     )
 
 pub returns : goal.returns
 unfolding first_sum
 returns c =
     let l = c.loop-i in
-    let e : l.i ≡ c.args.count = omega (arith, l.invariant.0, c.loop-i-test.false) in
+    let e : l.i ≡ c.args.count = omega arith in
     record {
-      small = record { low = λ i h. omega (arith, (l.invariant.2 i h).small, l.invariant.0, c.requires.0) };
-      right = λ i h. rw (← e) (l.invariant.2 i h).right;
+      small = record { low = λ i h. omega (arith, (l.invariant.1 i h).small, c.requires.0) };
+      right = λ i h. rw (← e) (l.invariant.1 i h).right;
     }

@@ -1,11 +1,7 @@
 -- `finish::solve_rows` meets its contract: the rows and the columns are good points, and the rest is the solver's. Where there are further
 -- rows all unknowns are solved for; where there are none, none is compared. Assumes nothing.
-use mathlib.Core.Path.{◌≡◌, sym, ap, ◌∙◌, subst}
-use mathlib.Core.Bool.{Bool}
-use mathlib.Core.List.{List}
-use Prim.Native.Nat.{ℕ, ◌+◌, ◌≤◌, ◌<◌}
+use Rattle.std.proofs.Common.{refl, unwrap_or, ◌≡◌, sym, ap, ◌∙◌, subst, Bool, List, ℕ, ◌+◌, ◌≤◌, ◌<◌, arith}
 use native.Mathlib.Decide.{dec_lt}
-use native.Mathlib.Omega.{arith}
 use Rattle.scheme.specs.Limits.{most_users, most_threshold}
 use Rattle.scheme.specs.Scheme.{Plan, sixteen, items}
 use Rattle.scheme.specs.Solve.{Points, Square, cell, block, unknown_at, unknowns_of, row_fits, FirstMisfit}
@@ -15,7 +11,13 @@ use Rattle.finish.specs.Finish.{columns}
 use Rattle.scheme.specs.Good.{Good}
 use Rattle.finish.specs.Parts.{Needed, solution_fits}
 use Rattle.finish.proofs.Blocks.{columns_points}
+use Rattle.scheme.specs.Lists.{padded}
+use Rattle.finish.specs.declared.TheConstants.{COLUMNS}
 use Rattle.finish.proofs.solve_rows.Goals as goal
+
+columns_right : COLUMNS ≡ columns
+unfolding padded
+columns_right = refl
 
 -- tests that are the same where there are further rows
 misfit_same : (t u : ℕ → Bool) (n m at : ℕ) → (n < m → t ≡ u) → n ≤ m → FirstMisfit t n m at → FirstMisfit u n m at
@@ -56,46 +58,48 @@ tests p rows columns' values solved count needed n e s l =
 pub solve-requires : goal.solve-requires
 solve-requires c =
     let s = c.requires in
-    (square _ _ _ _ s.0 s.1 s.2 s.3 c.the_columns-columns.ensures, c.needed.ensures.high)
+    (square _ _ _ _ s.0 s.1 s.2 s.3 columns_right, c.needed.ensures.high)
 
 pub misfit-first-requires : goal.misfit-first-requires
 misfit-first-requires c =
     let s = c.requires in
-    (omega arith, s.1, s.2, s.0.blocks_high, s.3, (square _ _ _ _ s.0 s.1 s.2 s.3 c.the_columns-columns.ensures).columns_good)
+    (omega arith, omega (arith, s.1), omega (arith, s.1, s.2), omega (arith, s.0.blocks_high), s.3, (square _ _ _ _ s.0 s.1 s.2 s.3 columns_right).columns_good)
 
-pub returns-then-first-count : goal.returns-then-first-count
-returns-then-first-count c =
+pub returns-in_default : goal.returns-in_default
+returns-in_default c =
     let s = c.requires in
     let n = c.needed.ensures in
-    let e = c.the_columns-columns.ensures in
     record {
-      unknowns_right = unknowns_told _ _ _ _ _ _ _ s.0 n n.high e c.solve.ensures;
-      first_right = misfit_same _ _ _ _ _ (tests _ _ _ _ _ _ _ n e c.solve.ensures) s.1 c.misfit-first.ensures;
-      second_right = λ l. absurd (omega (arith, c.if-first-count.true));
+      unknowns_right = unknowns_told _ _ _ _ _ _ _ s.0 n n.high columns_right c.solve.ensures;
+      first_right = misfit_same _ _ _ _ _ (tests _ _ _ _ _ _ _ n columns_right c.solve.ensures) s.1 c.misfit-first.ensures.first;
+      first_low = c.misfit-first.ensures.low;
+      second_right = rw c.in_default.is tt;
+      second_low = tt;
     }
 
 pub misfit-second-requires : goal.misfit-second-requires
 misfit-second-requires c =
     let s = c.requires in
-    let f = c.misfit-first.ensures in (
+    let f = c.in-Some.ensures in (
+      omega (arith, f.first.low),
       omega (arith, f.low),
-      omega (arith, f.high, c.if-first-count.false),
       s.2,
       omega (arith, s.0.blocks_high),
       s.3,
-      (square _ _ _ _ s.0 s.1 s.2 s.3 c.the_columns-columns.ensures).columns_good,
+      (square _ _ _ _ s.0 s.1 s.2 s.3 columns_right).columns_good,
     )
 
 pub returns : goal.returns
 returns c =
     let s = c.requires in
     let n = c.needed.ensures in
-    let e = c.the_columns-columns.ensures in
-    let f = c.misfit-first.ensures in
-    let t = tests _ _ _ _ _ _ _ n e c.solve.ensures in
+    let f = c.in-Some.ensures in
+    let t = tests _ _ _ _ _ _ _ n columns_right c.solve.ensures in
     record {
-      unknowns_right = unknowns_told _ _ _ _ _ _ _ s.0 n n.high e c.solve.ensures;
-      first_right = misfit_same _ _ _ _ _ t s.1 f;
-      second_right = λ l. subst (λ (t : ℕ → Bool). FirstMisfit t (c.misfit-first.result + 1) c.args.count c.misfit-second.result)
-          (t (omega (arith, f.low))) c.misfit-second.ensures;
+      unknowns_right = unknowns_told _ _ _ _ _ _ _ s.0 n n.high columns_right c.solve.ensures;
+      first_right = misfit_same _ _ _ _ _ t s.1 f.first;
+      first_low = f.low;
+      second_right = subst (λ (t : ℕ → Bool). FirstMisfit t (c.in-Some.odd + 1) c.args.count (unwrap_or c.misfit-second.result c.args.count))
+          (t (omega (arith, f.first.low, f.low))) c.misfit-second.ensures.first;
+      second_low = c.misfit-second.ensures.low;
     }

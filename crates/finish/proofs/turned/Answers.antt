@@ -1,8 +1,5 @@
--- `finish::turned` meets its contract. The loop's invariant: the first i rows are written.
--- The measure is how many are left. Assumes nothing.
-use mathlib.Core.Path.{ap}
-use Prim.Native.Nat.{ℕ}
-use lib.ListN.{get_or}
+-- `finish::turned` meets its contract. The loop's invariant: the first i rows are written. Assumes nothing.
+use Rattle.std.proofs.Common.{ap, ℕ, get_or}
 use Rattle.scheme.proofs.Padded.{filling_start, filling_more}
 use Rattle.finish.proofs.turned.Goals as goal
 

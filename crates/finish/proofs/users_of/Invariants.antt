@@ -1,12 +1,8 @@
--- `finish::users_of` meets its contract. The loop's invariant: the users up to k are written, in order.
--- The measure is how many are left. Assumes nothing.
-use Prim.Native.Nat.{◌-◌}
+-- `finish::users_of` meets its contract. The loop's invariant: the users below `user` are written, in order. Assumes nothing.
+use Rattle.std.proofs.Common.{◌+◌, ◌≤◌}
 use Rattle.scheme.specs.Scheme.{in_set}
 use Rattle.finish.proofs.Turns.{Listing}
 use Rattle.finish.proofs.users_of.Given as goal
 
-abbrev pub invariant-loop-k : goal.invariant-loop-k
-invariant-loop-k l = Listing (in_set l.set) l.plan.users l.k l.list l.count
-
-abbrev pub decreases-loop-k : goal.decreases-loop-k
-decreases-loop-k l = l.plan.users - l.k
+abbrev pub invariant-loop-user : goal.invariant-loop-user
+invariant-loop-user l = (l.user ≤ l.user-end + 1) × Listing (in_set l.set) l.user l.list l.count

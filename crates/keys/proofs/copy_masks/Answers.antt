@@ -1,11 +1,6 @@
 -- `keys::copy_masks` meets its contract: what is written so far is the masks so far (Making.Rows.row_more).
-use mathlib.Core.Path.{◌≡◌, refl, sym, ap, ap₂, ◌∙◌}
-use mathlib.Core.List.{map}
-use Prim.Native.Nat.{ℕ, ◌+◌, ◌*◌, ◌-◌}
-use native.Mathlib.Nat.{zero-add}
-use native.Mathlib.Omega.{arith}
-use lib.ListN.{get_or}
-use lib.Seq.{sets}
+use Rattle.std.proofs.Common.{◌≡◌, ℕ, ◌+◌, ◌*◌, ◌-◌, map, get_or, refl, sym, ap, ap₂, ◌∙◌, zero-add, arith}
+use Rattle.std.proofs.lemmas.List.Edits.{sets}
 use Rattle.scheme.specs.Lists.{span}
 use Rattle.scheme.specs.Scheme.{mask}
 use Rattle.scheme.proofs.Making.Rows.{row_more}
@@ -23,7 +18,7 @@ pub loop-i-preserved : goal.loop-i-preserved
 loop-i-preserved c =
     let i = c.loop-i in
     let a = c.args in
-    (omega arith, row_more a.out.now 0 (λ j. get_or a.list.now ((a.user - 1) * a.row + j) 0) i.i i.invariant.1 (sym (zero-add i.i)) refl)
+    row_more a.out.now 0 (λ j. get_or a.list.now ((a.user - 1) * a.row + j) 0) i.i i.invariant (sym (zero-add i.i)) refl
 
 pub returns : goal.returns
 unfolding mask
@@ -31,5 +26,5 @@ returns c =
     let i = c.loop-i in
     let a = c.args in
     let e : i.i ≡ a.row = omega arith in
-    i.invariant.1
+    i.invariant
     ∙ ap₂ (λ (n row : ℕ). sets a.out.now 0 (map (λ j. get_or a.list.now ((a.user - 1) * row + j) 0) (span n 0))) e c.requires.row_value.0

@@ -1,10 +1,7 @@
 -- `keys::mask_products` meets its contract: in lanes by Making.Writing.products_scaled, else user by user. Assumes nothing.
-use mathlib.Core.Path.{◌≡◌, ap, ap₂, ◌∙◌}
-use mathlib.Core.List.{List, map}
-use Prim.Native.Nat.{ℕ, ◌*◌}
-use native.Mathlib.Omega.{arith}
-use lib.ListN.{length, get_or, length-replicate}
-use lib.Seq.{sets}
+use Rattle.std.proofs.Common.{◌≡◌, ℕ, ◌*◌, List, map, length, get_or, ap, ap₂, ◌∙◌, arith}
+use Rattle.std.proofs.lemmas.List.{length-replicate}
+use Rattle.std.proofs.lemmas.List.Edits.{sets}
 use Rattle.scheme.specs.Limits.{most_blocks, cells}
 use Rattle.scheme.specs.Lists.{span}
 use Rattle.scheme.specs.Scheme.{sixteen, items, places}

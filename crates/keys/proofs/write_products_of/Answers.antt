@@ -1,16 +1,12 @@
 -- `keys::write_products_of` meets its contract: one user a turn (Making.Writing.products_more). Assumes nothing.
-use mathlib.Core.Path.{refl, sym, ap, ◌∙◌, subst}
-use mathlib.Core.List.{List}
-use Prim.Native.Nat.{ℕ, ◌+◌, ◌*◌, ◌≤◌}
-use native.Mathlib.Nat.{zero-mul}
-use native.Mathlib.Omega.{arith}
-use lib.ListN.{length, length-replicate}
-use lib.Seq.{length-sets}
+use Rattle.std.proofs.Common.{ℕ, ◌+◌, ◌*◌, ◌≤◌, List, length, refl, ap, ◌∙◌, subst, arith}
+use Rattle.std.proofs.lemmas.List.{length-replicate}
+use Rattle.std.proofs.Math.Seq.{length-sets}
 use Rattle.scheme.specs.Limits.{cells}
 use Rattle.scheme.specs.Scheme.{sixteen, items, places}
 use Rattle.scheme.specs.KeyParts.{Coefficients, block_values}
 use Rattle.scheme.proofs.Modular.{sixteen_sums}
-use Rattle.scheme.proofs.Making.Places.{row_in, row_next, rows_in}
+use Rattle.scheme.proofs.Making.Places.{row_in, rows_in}
 use Rattle.scheme.proofs.Making.Writing.{products_start, products_more}
 use Rattle.plan.specs.Plan.{plan_of}
 use Rattle.keys.proofs.write_products_of.Goals as goal
@@ -18,7 +14,7 @@ use Rattle.keys.proofs.write_products_of.Goals as goal
 pub loop-k-init : goal.loop-k-init
 loop-k-init c =
     let e = c.requires.row_value.2 in
-    (omega arith, sym (zero-mul _), refl, ap length e ∙ length-replicate {A = ℕ} cells 0, λ u f. rw e (products_start sixteen_sums _ _ _))
+    (ap length e ∙ length-replicate {A = ℕ} cells 0, λ u f. rw e (products_start sixteen_sums _ _ _))
 
 pub write_blocks_of-requires : goal.write_blocks_of-requires
 unfolding items places
@@ -27,9 +23,8 @@ write_blocks_of-requires c =
     let a = c.args in
     let r = c.requires.good in
     let e = c.requires.row_value.0 in
-    let inside : i.from + a.row ≤ length a.list.now = omega (
+    let inside : i.k * a.row + a.row ≤ length a.list.now = omega (
       arith,
-      i.invariant.1,
       row_in i.k a.plan.users a.row c.loop-k-test.true,
       rows_in (plan_of a.plan),
       ap (λ (x : ℕ). a.plan.users * x) e,
@@ -38,7 +33,7 @@ write_blocks_of-requires c =
       omega (arith, r),
       r.0.blocks_high,
       omega (arith, inside, e, ap (λ (x : ℕ). a.plan.blocks * x) r.1),
-      omega (arith, i.invariant.2, i.invariant.3, c.loop-k-test.true, r.0.users_high, r.0.blocks_high),
+      omega (arith, i.invariant.0, c.loop-k-test.true, r.0.users_high, r.0.blocks_high),
     )
 
 pub loop-k-preserved : goal.loop-k-preserved
@@ -47,12 +42,9 @@ loop-k-preserved c =
     let a = c.args in
     let r = c.requires.good in
     let e = c.write_blocks_of.ensures in
-    let values : List ℕ = block_values sixteen c.no_row-zeros.result a.factors.now a.n a.list.now i.from a.plan.blocks in (
-      omega (arith, c.loop-k-test.true),
-      ap (λ (n : ℕ). n + a.row) i.invariant.1 ∙ row_next i.k a.row,
-      omega (arith, i.invariant.2),
-      ap length e ∙ length-sets i.products i.at values ∙ i.invariant.3,
-      λ u f. rw (e, c.no_row-zeros.ensures, r.1)
-          (products_more sixteen_sums (i.invariant.4 u f) (subst (λ n. Coefficients sixteen u 1 n a.factors.now) r.1 f) r.0.blocks_high
-          (omega (arith, c.loop-k-test.true, r.0.users_high)) _ _ (i.invariant.1 ∙ ap (λ (n : ℕ). i.k * n) c.requires.row_value.0) i.invariant.2),
+    let values : List ℕ = block_values sixteen c.zeros-none.result a.factors.now a.n a.list.now (i.k * a.row) a.plan.blocks in (
+      ap length e ∙ length-sets i.products _ values ∙ i.invariant.0,
+      λ u f. rw (e, c.zeros-none.ensures, r.1)
+          (products_more sixteen_sums (i.invariant.1 u f) (subst (λ n. Coefficients sixteen u 1 n a.factors.now) r.1 f) r.0.blocks_high
+          (omega (arith, c.loop-k-test.true, r.0.users_high)) _ _ (ap (λ (n : ℕ). i.k * n) c.requires.row_value.0) refl),
     )

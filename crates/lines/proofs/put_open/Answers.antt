@@ -1,11 +1,11 @@
 -- `lines::put_open` meets its contract: the pieces behind one another are the line.
-use mathlib.Core.List.{append_assoc, append-nil}
+use Rattle.std.proofs.Common.{rules, append_assoc, append-nil}
 use Rattle.lines.specs.Text.{numbers, line}
-use Rattle.lines.proofs.Lines.{put_append, put_as}
+use Rattle.lines.proofs.Lines.{wrote_append, put_through}
 use Rattle.lines.proofs.put_open.Goals as goal
 
 pub returns-clause-put : goal.returns-clause-put
 unfolding numbers line
 returns-clause-put c =
-    let x = put_append c.put_bytes-a.ensures c.put_number-b.ensures.put in
-    λ o. put_as (put_append x c.put_bytes.ensures) (simp (append_assoc, append-nil))
+    let x = wrote_append (wrote_append c.put_bytes.ensures c.put_number.ensures.wrote) c.put_bytes-2.ensures in
+    λ o. put_through x (search (rules, x.same)) (simp (append_assoc, append-nil))

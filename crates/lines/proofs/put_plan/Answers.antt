@@ -1,12 +1,13 @@
 -- `lines::put_plan` meets its contract: the pieces behind one another are the line.
-use mathlib.Core.List.{append_assoc, append-nil}
+use Rattle.std.proofs.Common.{rules, append_assoc, append-nil}
 use Rattle.lines.specs.Text.{numbers, line}
-use Rattle.lines.proofs.Lines.{put_append, put_as}
+use Rattle.lines.proofs.Lines.{wrote_append, put_through}
 use Rattle.lines.proofs.put_plan.Goals as goal
 
 pub returns-clause-put : goal.returns-clause-put
 unfolding numbers line
 returns-clause-put c =
-    let x = put_append (put_append c.put_bytes-a.ensures c.put_number-b.ensures.put) c.put_number-c.ensures.put in
-    let y = put_append (put_append x c.put_number-d.ensures.put) c.put_number-e.ensures.put in
-    λ o. put_as (put_append y c.put_bytes.ensures) (simp (append_assoc, append-nil))
+    let x = wrote_append (wrote_append c.put_bytes.ensures c.put_number.ensures.wrote) c.put_number-2.ensures.wrote in
+    let y = wrote_append (wrote_append x c.put_number-3.ensures.wrote) c.put_number-4.ensures.wrote in
+    let z = wrote_append y c.put_bytes-2.ensures in
+    λ o. put_through z (search (rules, z.same)) (simp (append_assoc, append-nil))

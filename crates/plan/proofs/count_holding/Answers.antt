@@ -1,5 +1,5 @@
 -- `plan::count_holding` meets its contract: the other users of a set that holds one are a set of one user less. Assumes nothing.
-use mathlib.Core.Path.{◌∙◌}
+use Rattle.std.proofs.Common.{◌∙◌}
 use Rattle.plan.proofs.Counts.{with_same}
 use Rattle.plan.proofs.count_holding.Goals as goal
 

@@ -1,5 +1,5 @@
 -- `plan::count_usable` meets its contract: the count is that of the plan. Assumes nothing.
-use mathlib.Core.Path.{◌∙◌}
+use Rattle.std.proofs.Common.{◌∙◌}
 use Rattle.plan.proofs.Counts.{sets_same}
 use Rattle.plan.proofs.count_usable.Goals as goal
 

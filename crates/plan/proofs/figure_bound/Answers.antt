@@ -1,5 +1,5 @@
 -- `plan::figure_bound` meets its contract: `bound_of` of a plan that passed test 1. Assumes nothing.
-use mathlib.Core.Path.{sym, ◌∙◌}
+use Rattle.std.proofs.Common.{sym, ◌∙◌}
 use Rattle.scheme.specs.Scheme.{unless, after}
 use Rattle.scheme.proofs.Good.{good}
 use Rattle.plan.specs.Lengths.{largest_figure}

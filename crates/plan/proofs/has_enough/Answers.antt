@@ -1,5 +1,5 @@
 -- `plan::has_enough` meets its contract: of a set below 2 ^ K the machine counts the ones that the definition counts. Assumes nothing.
-use borrow.Author.Tests.{lt-ltb}
+use Rattle.std.proofs.Common.{lt-ltb}
 use Rattle.scheme.specs.Scheme.{usable}
 use Rattle.plan.proofs.Laws.{ones_same}
 use Rattle.plan.proofs.has_enough.Goals as goal

@@ -1,6 +1,6 @@
 -- `plan::holds` meets its contract: the shift is the definition's division.
 -- Assumes nothing.
-use borrow.Author.Rules.{rules}
+use Rattle.std.proofs.Common.{rules}
 use Rattle.scheme.specs.Scheme.{in_set}
 use Rattle.plan.proofs.holds.Goals as goal
 

@@ -1,7 +1,6 @@
 -- `plan::is_good` meets its contract: `bad` and `good_back` of the scheme turn its tests into facts.
 -- Assumes nothing.
-use mathlib.Core.Path.{sym}
-use native.Mathlib.Omega.{arith}
+use Rattle.std.proofs.Common.{sym, arith}
 use Rattle.scheme.proofs.Good.{good_back, bad}
 use Rattle.plan.proofs.is_good.Goals as goal
 

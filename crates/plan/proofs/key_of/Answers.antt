@@ -1,5 +1,5 @@
 -- `plan::key_of` meets its contract: masks and shares are each bounded for a good plan. Assumes nothing.
-use native.Mathlib.Omega.{arith}
+use Rattle.std.proofs.Common.{arith}
 use Rattle.scheme.specs.Scheme.{key_length}
 use Rattle.scheme.proofs.PlanBounds.{shares_le}
 use Rattle.plan.proofs.key_of.Goals as goal

@@ -1,6 +1,6 @@
 -- `plan::list_of` meets its contract: each of its two summands is bounded for a good plan.
 -- Assumes nothing.
-use native.Mathlib.Omega.{arith}
+use Rattle.std.proofs.Common.{arith}
 use Rattle.scheme.specs.Scheme.{list_length}
 use Rattle.scheme.proofs.PlanBounds.{masks_le, noise_le}
 use Rattle.plan.proofs.list_of.Goals as goal
@@ -8,5 +8,4 @@ use Rattle.plan.proofs.list_of.Goals as goal
 pub returns : goal.returns
 unfolding list_length
 returns c =
-    let s = c in
-    (cc, omega (arith, masks_le s.requires c.places_of.ensures.1, noise_le s.requires s.count_usable-sets.ensures.1))
+    (cc, omega (arith, masks_le c.requires c.places_of.ensures.1, noise_le c.requires c.count_usable-sets.ensures.1))

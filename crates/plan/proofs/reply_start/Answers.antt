@@ -1,7 +1,6 @@
 -- `plan::reply_start` meets its contract: at most most_sets sets of at most most_blocks shares each.
 -- Assumes nothing.
-use Prim.Native.Nat.{◌≤◌}
-use native.Mathlib.Omega.{arith}
+use Rattle.std.proofs.Common.{◌≤◌, arith}
 use Rattle.scheme.specs.Limits.{most_sets}
 use Rattle.scheme.specs.Scheme.{reply_start}
 use Rattle.plan.specs.Plan.{plan_of}

@@ -1,6 +1,5 @@
 -- `plan::row_length` meets its contract: `places_of` of a plan that passed test 1. Assumes nothing.
-use mathlib.Core.Path.{sym, ◌∙◌}
-use native.Mathlib.Omega.{arith}
+use Rattle.std.proofs.Common.{sym, ◌∙◌, arith}
 use Rattle.scheme.specs.Scheme.{unless, after}
 use Rattle.scheme.proofs.Good.{good}
 use Rattle.plan.specs.Lengths.{row_len}

@@ -1,6 +1,6 @@
 -- `plan::set_place` meets its contract. The loop's invariant: the place so far is the rank of the set that comes next.
 -- The measure is how many sets are left. Assumes nothing.
-use mathlib.Core.Path.{sym, ◌∙◌}
+use Rattle.std.proofs.Common.{sym, ◌∙◌}
 use Rattle.plan.proofs.Laws.{counting_start, counting_more_in, counting_more_out}
 use Rattle.plan.proofs.set_place.Goals as goal
 use Rattle.plan.proofs.set_place.Goals.{else-is_usable_with, then-is_usable_with}

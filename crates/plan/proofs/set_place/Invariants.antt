@@ -1,6 +1,6 @@
 -- `plan::set_place` meets its contract. The loop's invariant: the place so far is the rank of the set that comes next.
 -- The measure is how many sets are left. Assumes nothing.
-use Prim.Native.Nat.{◌-◌}
+use Rattle.std.proofs.Common.{◌-◌}
 use Rattle.scheme.specs.Scheme.{usable_with}
 use Rattle.plan.specs.Plan.{plan_of}
 use Rattle.plan.proofs.Laws.{Counting}

@@ -1,6 +1,6 @@
 -- `plan::sets_at` meets its contract: antt computes the rule at all entries and compares it with the table; `map_span_at` carries that to
 -- each entry. Assumes nothing.
-use Prim.Native.Nat.{◌*◌}
+use Rattle.std.proofs.Common.{◌*◌}
 use Rattle.scheme.specs.Limits.{most_users}
 use Rattle.scheme.specs.Scheme.{usable_sets, usable, ones}
 use Rattle.scheme.proofs.Lists.{map_span_at}

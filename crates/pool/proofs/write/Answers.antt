@@ -1,27 +1,24 @@
 -- `pool::write` meets its contract: each write goes on where the one before ended.
-use Rattle.std.proofs.Common.{ℕ, take, subst, arith}
-use Rattle.std.specs.Io.KnownBytes.{Appends}
-use borrow.Author.Tests.{not-true, not-false}
+use Rattle.std.proofs.Common.{refl, arith}
+use Rattle.std.proofs.lemmas.Result.{err_from_is_err_and}
 use Rattle.pool.specs.Pool.{unwritten}
-use Rattle.pool.proofs.Running.{writes_from_inside, stays, written_more}
-use Rattle.pool.proofs.Carrying.{keeps, appends_none, written_bytes}
+use Rattle.pool.proofs.Running.{writes_from_inside, written_more, failed_write}
+use Rattle.pool.proofs.Carrying.{written_bytes}
+use Rattle.std.proofs.KnownBytes.{Appends-nil}
 use Rattle.pool.proofs.write.Goals as goal
 
-pub loop-turns-init : goal.loop-turns-init
-loop-turns-init g c = record { inside = omega arith; written = unwritten; few = omega arith; bytes = appends_none _ _ (keeps _) }
+pub loop-init : goal.loop-init
+loop-init g c = record { inside = omega arith; written = unwritten; bytes = Appends-nil _ }
 
-pub returns-then-not-wrote-clause-bytes : goal.returns-then-not-wrote-clause-bytes
-returns-then-not-wrote-clause-bytes g c =
-    let w = c.write_from-wrote.ensures in
-    subst (λ (n : ℕ). Appends (g.W.Write.contents c.args.output.now) (g.W.Write.contents c.write_from-wrote.new.output) (take n c.args.text.now))
-    (stays w.result (not-true _ c.if-not-wrote.true))
-    (written_bytes _ _ _ _ _ c.args.text.now (writes_from_inside w.result).0 c.loop-turns.invariant.bytes w.bytes)
+pub returns-in_err-at-clause-result : goal.returns-in_err-at-clause-result
+returns-in_err-at-clause-result g c =
+    let p = err_from_is_err_and c.from_residual.result c.from_residual.ensures.1 in
+    rw (p.1, p.2) (failed_write c.loop.invariant.written c.in_err-at.ensures.result (omega arith))
 
-pub loop-turns-preserved : goal.loop-turns-preserved
-loop-turns-preserved g c =
-    let i = c.loop-turns.invariant in let w = c.write_from-wrote.ensures in let h = writes_from_inside w.result in record {
+pub loop-preserved : goal.loop-preserved
+loop-preserved g c =
+    let i = c.loop.invariant in let w = c.in_ok-at.ensures in let h = writes_from_inside w.result in record {
       inside = h.1;
-      written = written_more i.written w.result (not-false _ c.if-not-wrote.false) (omega (arith, i.few));
-      few = omega arith;
+      written = written_more i.written w.result refl;
       bytes = written_bytes _ _ _ _ _ c.args.text.now h.0 i.bytes w.bytes;
     }

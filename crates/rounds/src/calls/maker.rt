@@ -1,134 +1,110 @@
 // The lines of the key office: what is lent to its calls, the random list from bytes, and the key maker.
 //   lent_right                 a list that is lent must fit
 //   lend_list, lend_key        l, y: a random list or a key is lent from now on
-//   make_part, make_into       the key maker, into a part of a buffer
-//   check_key                  k: the call, and every number of its answer compared
-//   draw_part, draw_into       a random list from bytes, into a part of a buffer
-//   as_bytes, check_list       d: the bytes of a line; the call, and every number of its answer compared
+//   make_into, check_key       the key maker, into a part of a buffer; k
+//   draw_into, check_list      a random list from bytes, into a part of a buffer; d
+//   as_bytes                   the bytes of a line
+// Each line is the call, and every number of its answer compared.
 ghost use Rattle.std.specs.Prelude.{◌≡◌};
 ghost use Rattle.rounds.specs.Judged.{lent_right};
 
-use super::{Case, Checked, NO_ROOM, Verdict, judge};
+use super::{Case, Verdict, judge, number_in_part};
 use crate::lists::{
-    KEY_AT, ROOM, SPACE, all_bytes, copy_bytes, copy_to, front, list_marked_behind, marked,
-    marked_behind, marked_list, no_bytes, number_at, rest,
+    KEY_AT, MARK, ROOM, SPACE, all_bytes, copy_bytes, marked_behind, number_at, rest,
 };
-use crate::piece;
-use plan::Plan;
+use plan::{Plan, Refusal};
 
 #[tactic(auto, unfolding(crate::specs::Judged::lent_right))]
 fn lent_right(fits: bool) -> Verdict
     ensures { result ≡ lent_right fits }
 {
-    if !fits {
-        return Verdict::Damaged;
+    if fits {
+        Verdict::Agrees
+    } else {
+        Verdict::Damaged
     }
-    Verdict::Agrees
 }
 
 // l list..: the random list lent from now on.
-pub fn lend_list(mut case: Case, line: &[u16], lent: &mut [u16; SPACE]) -> Checked {
-    case.list = line.len();
-    let verdict = lent_right(line.len() <= KEY_AT);
-    copy_to(line, lent, 0);
-    Checked { case, verdict }
+pub fn lend_list(case: &mut Case, line: &[u16]) -> Verdict {
+    lent_right(case.lent.lend_list(line))
 }
 
 // y key..: the key lent from now on.
-pub fn lend_key(mut case: Case, line: &[u16], lent: &mut [u16; SPACE]) -> Checked {
-    case.key = line.len();
-    let verdict = lent_right(copy_to(line, lent, KEY_AT));
-    Checked { case, verdict }
+pub fn lend_key(case: &mut Case, line: &[u16]) -> Verdict {
+    lent_right(case.lent.lend_key(line))
 }
 
-fn make_part(plan: Plan, user: u32, list: &[u16], out: &mut [u16], room: usize) -> u32 {
-    if out.len() < room {
-        return NO_ROOM;
-    }
-    keys::make_key(plan, user, list, &mut out[..room])
-}
-
-// The key maker, into a part of a buffer.
-pub fn make_into(plan: Plan, user: u32, list: &[u16], out: &mut [u16; ROOM], room: usize) -> u32 {
-    make_part(plan, user, list, out, room)
+// The key maker, into a part of a buffer, where there is one.
+pub fn make_into(
+    plan: Plan,
+    user: u32,
+    list: &[u16],
+    out: &mut [u16],
+    room: usize,
+) -> Option<Result<(), Refusal>> {
+    let part = out.get_mut(..room)?;
+    Some(keys::make_key(plan, user, list, part))
 }
 
 // k user room number key..: the key maker, into a buffer of that room; the key is lent from now on.
-pub fn check_key(mut case: Case, line: &[u16], lent: &mut [u16; SPACE]) -> Checked {
-    let plan = case.plan;
-    let length = case.list;
+pub fn check_key(case: &mut Case, line: &[u16]) -> Verdict {
     let wanted = rest(line, 3);
-    let mut key = marked();
-    let number = make_into(
-        plan,
+    let mut key = [MARK; ROOM];
+    let made = make_into(
+        case.plan,
         number_at(line, 0),
-        front(lent, length),
+        case.lent.list(),
         &mut key,
         number_at(line, 1) as usize,
     );
-    let verdict = judge(
-        number,
+    case.lent.lend_key(wanted);
+    judge(
+        number_in_part(&made),
         number_at(line, 2),
         true,
         marked_behind(&key, wanted),
-    );
-    copy_to(wanted, lent, KEY_AT);
-    case.key = wanted.len();
-    Checked { case, verdict }
+    )
 }
 
-fn draw_part(plan: Plan, bytes: &[u8], out: &mut [u16], room: usize) -> u32 {
-    if out.len() < room {
-        return NO_ROOM;
-    }
-    keys::list_from_bytes(plan, bytes, &mut out[..room])
-}
-
-// A random list from the first n bytes, into a part of a buffer.
+// A random list from bytes, into a part of a buffer, where there is one.
 fn draw_into(
     plan: Plan,
-    bytes: &[u8; SPACE],
-    n: usize,
-    out: &mut [u16; KEY_AT],
+    bytes: &[u8],
+    out: &mut [u16],
     room: usize,
-) -> u32 {
-    draw_part(plan, piece(bytes, 0, n), out, room)
+) -> Option<Result<(), Refusal>> {
+    let part = out.get_mut(..room)?;
+    Some(keys::list_from_bytes(plan, bytes, part))
 }
 
-// Writes the numbers of a line as bytes, and answers whether they are such and fit.
-fn as_bytes(numbers: &[u16], out: &mut [u8; SPACE]) -> bool {
-    if !all_bytes(numbers) {
-        return false;
+// The numbers of a line as bytes, in the buffer, if they are such and fit.
+fn as_bytes<'a>(numbers: &[u16], out: &'a mut [u8]) -> Option<&'a [u8]> {
+    if all_bytes(numbers) && copy_bytes(numbers, out) {
+        Some(&out[..numbers.len()])
+    } else {
+        None
     }
-    copy_bytes(numbers, out)
 }
 
 // d room number n bytes.. list..: a random list from n bytes, into a buffer of that room; a list that is taken is lent from now on.
-pub fn check_list(mut case: Case, line: &[u16], lent: &mut [u16; SPACE]) -> Checked {
-    let plan = case.plan;
-    let n = number_at(line, 2) as usize;
-    let behind = rest(line, 3);
-    let mut bytes = no_bytes();
-    if behind.len() < n {
-        let verdict = Verdict::Damaged;
-        return Checked { case, verdict };
+pub fn check_list(case: &mut Case, line: &[u16]) -> Verdict {
+    let Some((numbers, wanted)) = rest(line, 3).split_at_checked(number_at(line, 2) as usize) else {
+        return Verdict::Damaged;
+    };
+    let mut buffer = [0u8; SPACE];
+    let Some(bytes) = as_bytes(numbers, &mut buffer) else {
+        return Verdict::Damaged;
+    };
+    let mut list = [MARK; KEY_AT];
+    let drawn = draw_into(case.plan, bytes, &mut list, number_at(line, 0) as usize);
+    if drawn == Some(Ok(())) {
+        case.lent.lend_list(wanted);
     }
-    if !as_bytes(front(behind, n), &mut bytes) {
-        let verdict = Verdict::Damaged;
-        return Checked { case, verdict };
-    }
-    let wanted = rest(behind, n);
-    let mut list = marked_list();
-    let number = draw_into(plan, &bytes, n, &mut list, number_at(line, 0) as usize);
-    let verdict = judge(
-        number,
+    judge(
+        number_in_part(&drawn),
         number_at(line, 1),
         true,
-        list_marked_behind(&list, wanted),
-    );
-    if number == 0 {
-        copy_to(wanted, lent, 0);
-        case.list = wanted.len();
-    }
-    Checked { case, verdict }
+        marked_behind(&list, wanted),
+    )
 }

@@ -1,5 +1,4 @@
--- `solve::put_scaled` meets its contract. The loop's invariant: the numbers of the first b blocks are written.
--- The measure is how many are left. Assumes nothing.
+-- `solve::put_scaled` meets its contract. The loop's invariant: the numbers of the first b blocks are written. Assumes nothing.
 use Rattle.scheme.proofs.Padded.{setting_more, setting_end}
 use Rattle.solve.proofs.put_scaled.Goals as goal
 

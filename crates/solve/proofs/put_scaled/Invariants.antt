@@ -1,7 +1,5 @@
--- `solve::put_scaled` meets its contract. The loop's invariant: the numbers of the first b blocks are written.
--- The measure is how many are left. Assumes nothing.
-use Prim.Native.Nat.{◌+◌, ◌-◌}
-use lib.ListN.{get_or}
+-- `solve::put_scaled` meets its contract. The loop's invariant: the numbers of the first b blocks are written. Assumes nothing.
+use Rattle.std.proofs.Common.{◌+◌, get_or}
 use Rattle.scheme.specs.Limits.{most_blocks}
 use Rattle.scheme.specs.Scheme.{sixteen}
 use Rattle.scheme.proofs.Padded.{Setting}
@@ -9,6 +7,3 @@ use Rattle.solve.proofs.put_scaled.Given as goal
 
 abbrev pub invariant-loop-b : goal.invariant-loop-b
 invariant-loop-b l = Setting (λ b. sixteen.add 0 (sixteen.multiply l.factor (get_or l.list (l.from + b) 0))) most_blocks l.at l.initial.out l.b l.out
-
-abbrev pub decreases-loop-b : goal.decreases-loop-b
-decreases-loop-b l = most_blocks - l.b

@@ -1,13 +1,5 @@
--- `solve::solve` meets its contract. The loop's invariant: i rows of unknowns are written; `unknown_by` is one turn.
--- The measure is how many are left. Assumes nothing.
-use mathlib.Core.Path.{◌≡◌, ap, ◌∙◌}
-use mathlib.Core.List.{List}
-use Prim.Native.Nat.{ℕ, ◌+◌, ◌<◌}
-use native.Mathlib.Nat.{zero-add}
-use native.Mathlib.Omega.{arith}
-use lib.Dec.{lit<}
-use lib.ListN.{get_or}
-use borrow.Author.Rules.{rules}
+-- `solve::solve` meets its contract. The loop's invariant: i rows of unknowns are written; `unknown_by` is one turn. Assumes nothing.
+use Rattle.std.proofs.Common.{◌≡◌, ap, ◌∙◌, List, ℕ, ◌+◌, ◌<◌, zero-add, arith, lit<, get_or, rules, ◌*◌}
 use Rattle.algebra.proofs.Primes.{prime_65521}
 use Rattle.scheme.specs.Limits.{most_blocks}
 use Rattle.scheme.specs.Scheme.{sixteen}
@@ -29,13 +21,13 @@ told_at d b k =
     ∙ ap (λ (ws : List ℕ). told ws b) d.weigh-weighed.ensures
 
 pub loop-i-init : goal.loop-i-init
-loop-i-init c = rw c.no_cells.ensures (rows_start _ _)
+loop-i-init c = rows_start _ _
 
 pub put_scaled-requires : goal.put_scaled-requires
 put_scaled-requires c =
     let l = c.loop-i in
     let p = c.requires in (
-      omega (arith, l.invariant.place, p.0.few, c.loop-i-test.true, p.1),
+      omega (arith, p.0.few, c.loop-i-test.true, p.1),
       rows_long _ _ _ _ _ (omega (arith, p.0.few, p.1)) l.invariant,
       search rules,
     )
@@ -44,11 +36,12 @@ pub loop-i-preserved : goal.loop-i-preserved
 loop-i-preserved c =
     let l = c.loop-i in
     let p = c.requires in
-    rows_more _ _ l.i _ _ _ most_blocks _ (omega (arith, p.0.few, p.1)) (omega arith) c.loop-i-test.true
+    let e : (l.i + 1) * most_blocks ≡ l.i * most_blocks + most_blocks = omega arith in
+    rw e (rows_more _ _ l.i _ _ _ most_blocks _ (omega (arith, p.0.few, p.1)) (omega arith) c.loop-i-test.true
     (λ b k. ap (λ (v : ℕ). sixteen.add 0 (sixteen.multiply c.weight_of.result v)) (told_at c b k)
     ∙ unknown_by prime_65521 (lit< tt) _ _ _ _ l.i p.0 (omega (arith, c.loop-i-test.true, p.1)) _ b k
     (c.weight_of.ensures ∙ weight_exchanged prime_65521 (lit< tt) _ _ _ l.i))
-    (λ b low high. absurd (omega arith)) c.put_scaled.ensures l.invariant
+    (λ b low high. absurd (omega arith)) c.put_scaled.ensures l.invariant)
 
 pub returns : goal.returns
 unfolding unknowns_of

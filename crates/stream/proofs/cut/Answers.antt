@@ -1,8 +1,7 @@
 -- `stream::cut` meets its contract: the line of refusal 7, where there is room for a line.
 -- Assumes nothing.
-use Rattle.std.proofs.Common.{◌∙◌}
-use native.Mathlib.Nat.{zero-add}
-use borrow.Author.Tests.{le-leb, lt-leb}
+use Rattle.std.proofs.Common.{◌∙◌, zero-add, le-leb}
+use borrow.Author.Tests.{lt-leb}
 use Rattle.stream.specs.Stream.{cut_length, cut_left}
 use Rattle.stream.proofs.cut.Goals as goal
 

@@ -3,8 +3,8 @@
 use Rattle.stream.proofs.Turns.{turn_taken, turn_refused, close_says}
 use Rattle.stream.proofs.take_close.Goals as goal
 
-pub returns-then-number-ne0 : goal.returns-then-number-ne0
-returns-then-number-ne0 c = turn_refused _ _ (close_says _ c.close_lent-step.ensures) c.if-number-ne0.true c.put_refusal-wrote.ensures.put
+pub returns-in-Ok : goal.returns-in-Ok
+returns-in-Ok c = turn_taken _ (close_says _ c.in-Ok.ensures) (c.put_survivors.ensures.put _)
 
-pub returns : goal.returns
-returns c = turn_taken _ _ (close_says _ c.close_lent-step.ensures) c.if-number-ne0.false (c.put_survivors-wrote.ensures.put _)
+pub returns-in-Err : goal.returns-in-Err
+returns-in-Err c = turn_refused _ _ (close_says _ c.in-Err.ensures) c.put_refusal.ensures.put

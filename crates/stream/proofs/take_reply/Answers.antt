@@ -1,12 +1,10 @@
--- `stream::take_reply` meets its contract: the bytes are read as the record has them, and the service's leaf holds the element;
+-- `stream::take_reply` meets its contract: the bytes are read as the record has them, and the service's call holds the element;
 -- behind an accepted one the run takes those that follow.
 -- Assumes nothing.
-use Rattle.std.proofs.Common.{◌≡◌, ℕ, ◌+◌, refl, sym, ap, ◌∙◌, arith}
-use Rattle.scheme.specs.Service.{silent}
-use Rattle.service.specs.Calls.{lent, reply_step}
-use Rattle.stream.specs.Stream.{record_length, length_at, record_at, step, alone, in_silence}
-use Rattle.stream.proofs.Turns.{turn_refused}
-use Rattle.stream.proofs.Runs.{silent_at, reply_accepted}
+use Rattle.std.proofs.Common.{refl, ap, arith}
+use Rattle.stream.specs.Stream.{record_length, in_silence}
+use Rattle.stream.proofs.Turns.{record_reply, reply_says}
+use Rattle.stream.proofs.Runs.{taken_silently, refused_alone, reply_accepted}
 use Rattle.stream.proofs.take_reply.Goals as goal
 
 pub byte_at-user-requires : goal.byte_at-user-requires
@@ -21,22 +19,23 @@ pub two_at-element-requires : goal.two_at-element-requires
 unfolding record_length
 two_at-element-requires c = omega (arith, ap record_length c.requires.2)
 
-pub returns-then-number-ne0 : goal.returns-then-number-ne0
-unfolding record_length step reply_step record_at
-returns-then-number-ne0 c first =
-    let long : length_at c.args.b.now c.args.start ≡ 5 = ap record_length c.requires.2 in
-    alone (ap (λ (n : ℕ). c.args.start + n) (sym long))
-    (rw c.requires.2 (turn_refused _ silent (cc) c.if-number-ne0.true c.put_refusal-wrote.ensures.put))
-
 pub run_reply-end-requires : goal.run_reply-end-requires
 unfolding record_length
 run_reply-end-requires c =
-    let a = reply_accepted _ _ _ _ _ _ (sym c.put_reply-number.ensures.number ∙ c.if-number-ne0.false) in
+    let a = reply_accepted _ _ _ _ c.in-Ok.ensures in
     (omega (arith, ap record_length c.requires.2), a.0, a.1)
 
-pub returns : goal.returns
-unfolding record_length step reply_step record_at
-returns c first =
-    let long : length_at c.args.b.now c.args.start ≡ 5 = ap record_length c.requires.2 in
-    in_silence _ (lent c.args.head first c.put_reply-number.new.reply)
-    (silent_at long (omega arith) (omega (arith, long)) (rw c.requires.2 (cc)) c.if-number-ne0.false) (c.run_reply-end.ensures first) refl refl
+pub returns-in-Ok : goal.returns-in-Ok
+unfolding record_length
+returns-in-Ok c =
+    let kind = c.requires.2 in
+    let said = reply_says _ _ _ _ (rw (c.byte_at-user.ensures, c.byte_at-block.ensures, c.two_at-element.ensures.0) at c.in-Ok.ensures) in
+    let one = taken_silently (record_reply _ _ kind) (ap record_length kind) (omega arith) (omega (arith, ap record_length kind)) said in
+    in_silence _ _ one (c.run_reply-end.ensures _) refl refl
+
+pub returns-in-Err : goal.returns-in-Err
+unfolding record_length
+returns-in-Err c =
+    let kind = c.requires.2 in
+    let said = reply_says _ _ _ _ (rw (c.byte_at-user.ensures, c.byte_at-block.ensures, c.two_at-element.ensures.0) at c.in-Err.ensures) in
+    refused_alone (record_reply _ _ kind) (ap record_length kind) _ said c.put_refusal-wrote.ensures.put

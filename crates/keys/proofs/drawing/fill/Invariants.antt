@@ -1,6 +1,5 @@
 -- `keys::drawing::fill` meets its contract: row by row the list is filled further (Drawing.DrawnTo), and the bytes of a row are there since elements are.
-use Prim.Native.Nat.{◌-◌}
-use lib.ListN.{length}
+use Rattle.std.proofs.Common.{◌-◌, length}
 use Rattle.scheme.specs.Scheme.{sixteen}
 use Rattle.scheme.specs.DrawnParts.{DrawnTo}
 use Rattle.keys.proofs.drawing.fill.Given as goal

@@ -1,6 +1,5 @@
 -- `keys::drawing::is_enough` meets its contract: what is missing, with the elements that the bytes hold, is what is wanted and the elements from there on.
-use mathlib.Core.Path.{sym}
-use native.Mathlib.Omega.{arith}
+use Rattle.std.proofs.Common.{sym, arith}
 use Rattle.scheme.specs.Scheme.{sixteen}
 use Rattle.scheme.proofs.Drawing.Reading.{fills_right, fills_wrong}
 use Rattle.keys.proofs.drawing.is_enough.Goals as goal

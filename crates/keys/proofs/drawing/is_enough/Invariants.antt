@@ -1,7 +1,5 @@
 -- `keys::drawing::is_enough` meets its contract: what is missing, with the elements that the bytes hold, is what is wanted and the elements from there on.
-use mathlib.Core.Path.{◌≡◌}
-use Prim.Native.Nat.{◌+◌, ◌*◌, ◌≤◌}
-use lib.ListN.{length, drop}
+use Rattle.std.proofs.Common.{◌≡◌, ◌+◌, ◌*◌, ◌≤◌, length, drop}
 use Rattle.scheme.specs.Limits.{most_list}
 use Rattle.scheme.specs.Scheme.{sixteen}
 use Rattle.scheme.specs.Drawn.{found}

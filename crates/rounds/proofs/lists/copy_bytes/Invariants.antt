@@ -1,10 +1,7 @@
 -- `rounds::lists::copy_bytes`: the numbers before i are written, and the others are to follow.
-use Rattle.std.proofs.Common.{◌≡◌, ◌≤◌, ◌+◌, ◌-◌, length, drop}
+use Rattle.std.proofs.Common.{◌≡◌, length, drop}
 use lib.Seq.{sets}
 use Rattle.rounds.proofs.lists.copy_bytes.Given as goal
 
 abbrev pub invariant-loop-i : goal.invariant-loop-i
-invariant-loop-i l = record { inside : l.i ≤ length l.s; long : length l.out ≡ length l.fn.out; written : sets l.out (0 + l.i) (drop l.i l.s) ≡ sets l.fn.out 0 l.s }
-
-abbrev pub decreases-loop-i : goal.decreases-loop-i
-decreases-loop-i l = length l.s - l.i
+invariant-loop-i l = record { long : length l.out ≡ length l.fn.out; written : sets l.out l.i (drop l.i l.s) ≡ sets l.fn.out 0 l.s }

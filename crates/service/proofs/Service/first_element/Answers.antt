@@ -5,4 +5,4 @@ use Rattle.service.proofs.Service.first_element.Goals as goal
 
 pub returns : goal.returns
 unfolding first_step
-returns c = cc (c.put_first-number.ensures.number, c.put_first-number.ensures.left)
+returns c = cc (c.put_first.ensures.number, c.put_first.ensures.left)

@@ -5,4 +5,4 @@ use Rattle.service.proofs.Service.reply_element.Goals as goal
 
 pub returns : goal.returns
 unfolding reply_step
-returns c = cc (c.put_reply-number.ensures.number, c.put_reply-number.ensures.left)
+returns c = cc (c.put_reply.ensures.number, c.put_reply.ensures.left)

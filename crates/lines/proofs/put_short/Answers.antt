@@ -1,7 +1,0 @@
--- `lines::put_short` meets its contract: 16 bits are 5 digits at most.
-use native.Mathlib.Omega.{arith}
-use Rattle.lines.proofs.Decimals.{decimal_most}
-use Rattle.lines.proofs.put_short.Goals as goal
-
-pub returns-clause-short : goal.returns-clause-short
-returns-clause-short c = omega (arith, decimal_most 5 c.args.n (omega arith) (omega arith))

@@ -1,0 +1,2 @@
+-- The laws of solve.
+pub mod Rows
