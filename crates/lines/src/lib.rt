@@ -14,11 +14,10 @@ ghost use Rattle.std.specs.Prelude.{◌≡◌, ◌∷◌, ◌+◌, ◌*◌, ◌�
 ghost use Rattle.scheme.specs.Limits.{most_places};
 ghost use Rattle.scheme.specs.Service.{planned, opened, closed, totalled, refused};
 ghost use Rattle.plan.specs.Plan.{plan_of};
-ghost use Rattle.plan.specs.Numbers.{number_of};
 ghost use Rattle.lines.specs.Text.{spell, decimal, numbers, aside_line, line};
 ghost use Rattle.lines.specs.Put.{number_room, short_room, aside_room, room, Put, Says, Wrote};
 
-use plan::{MOST_PLACES, Plan, Refusal};
+use plan::{MOST_PLACES, Plan};
 
 // The bytes that the text of any answer fits into: `room`. A caller that tests for another number does not meet a contract that says
 // `room`.
@@ -93,14 +92,14 @@ pub fn put_total(
 }
 
 // "refused 12 at 23": the number and the record's offset.
-pub fn put_refusal(out: &mut [u8], at: usize, refusal: Refusal, offset: u64) -> usize
+pub fn put_refusal(out: &mut [u8], at: usize, number: u32, offset: u64) -> usize
     requires { at + room ≤ length out.old }
     ensures short { result ≤ at + room }
-    ensures put { Put out.old out.new at result (line offset (refused (number_of refusal))) }
+    ensures put { Put out.old out.new at result (line offset (refused number)) }
 {
     let mut line = Writer { out, at };
     line.put_bytes(b"refused");
-    line.put_number(u32::from(refusal) as u64);
+    line.put_number(number as u64);
     line.put_bytes(b" at");
     line.put_number(offset);
     line.put_bytes(b"\n");

@@ -5,13 +5,15 @@
 //   lookup                     the line of a lookup
 //   input, line                the input, line by line; one line
 //   Verdict, Case              whether a call answered as the line says, or what differs; what the lines of a case have made so far
+//   end_under                  the end of a case before a line starts one
 //   number_of, number_in_part  the number of an answer
 //   judge, agree, judge_second what differs first
 //   check                      the call of one line
 // Every answer is compared whole: number, stage, set, airfield set aside, start, value, and the lent buffer to its end.
-ghost use Rattle.std.specs.Prelude.{◌≡◌, true};
+ghost use Rattle.std.specs.Prelude.{◌≡◌, [], true, false, MatchResult};
 ghost use Rattle.plan.specs.Numbers.{numbered};
 ghost use Rattle.rounds.specs.Judged.{agreed, judged, judged_second};
+ghost use Rattle.rounds.specs.Lists.{list_of, key_of};
 
 pub mod ends;
 pub mod input;
@@ -51,6 +53,13 @@ impl Verdict {
     {
         matches!(self, Verdict::Agrees)
     }
+
+    // Nothing where the line agrees; else what differs, which ends the run.
+    fn ending(self) -> Result<(), Verdict>
+        ensures { MatchResult result (λ _. agreed self ≡ true) (λ why. (why ≡ self) × (agreed self ≡ false)) }
+    {
+        if self.agrees() { Ok(()) } else { Err(self) }
+    }
 }
 
 impl fmt::Display for Verdict {
@@ -84,15 +93,31 @@ impl Case {
         Case {
             plan,
             lent: Lent::new(),
-            end: Client {
-                plan,
-                user: 0,
-                usage: Use::Counts,
-                round: 0,
-                stage: Stage::Fresh,
-            },
+            end: end_under(plan),
             service: Service::new(),
         }
+    }
+
+    // The same in the place of another case. What was lent there stays where it lies and is lent no more: each line `p` would else write all of
+    // that room.
+    fn begin(&mut self, plan: Plan)
+        ensures { (list_of self.new.lent ≡ []) × (key_of self.new.lent ≡ []) }
+    {
+        self.plan = plan;
+        self.lent.clear();
+        self.end = end_under(plan);
+        self.service = Service::new();
+    }
+}
+
+// The end of a case before a line starts one.
+fn end_under(plan: Plan) -> Client {
+    Client {
+        plan,
+        user: 0,
+        usage: Use::Counts,
+        round: 0,
+        stage: Stage::Fresh,
     }
 }
 

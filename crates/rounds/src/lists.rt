@@ -1,5 +1,6 @@
 // Lists of numbers, read without a requirement: past the end stands 0, and a list has no more than its own elements.
-//   SPACE, KEY_AT, ROOM, MARK   what is lent, and where the key starts in it; a buffer, and the number that it has throughout
+//   SPACE, KEY_AT, ROOM         what is lent, and where the key starts in it; a buffer
+//   MARK, marked                the number that a buffer has throughout; such a buffer
 //   number_at, round_at         a number; a round, which takes two of them
 //   front, rest                 the first n; those from a place on
 //   copy_to                     writes a list
@@ -10,7 +11,7 @@
 ghost use Rattle.std.specs.Prelude.{◌≡◌, ℕ, ◌+◌, ◌-◌, ◌<◌, ◌≤◌, ◌↔◌, leb, ◌++◌, [], length, take, drop, replicate, if◌then◌else◌, nat_le, slice_index, IsTrue};
 ghost use Rattle.std.proofs.lemmas.List.Edits.{sets};
 ghost use Rattle.scheme.specs.Drawn.{byte};
-ghost use Rattle.rounds.specs.Lists.{list_of, key_of, mark, round_of};
+ghost use Rattle.rounds.specs.Lists.{lent_length, list_of, key_of, mark, round_of};
 
 use plan::{BLOCKS, FIRSTS, MOST_PLACES, MOST_SETS};
 
@@ -25,6 +26,12 @@ pub const ROOM: usize = MOST_PLACES + MOST_SETS * BLOCKS;
 
 // A buffer that is lent to a call has it throughout.
 pub const MARK: u16 = 7;
+
+pub fn marked<const N: usize>() -> [u16; N]
+    ensures { result ≡ replicate N mark }
+{
+    [MARK; N]
+}
 
 pub fn number_at(s: &[u16], i: usize) -> u32
     ensures { (result ≡ slice_index s.now i) × (result ≤ 65535) }
@@ -79,13 +86,22 @@ pub struct Lent {
 impl Lent {
     // Nothing yet.
     pub fn new() -> Lent
-        ensures { (list_of result ≡ []) × (key_of result ≡ []) }
+        ensures nothing { (list_of result ≡ []) × (key_of result ≡ []) }
+        ensures space { result.numbers ≡ replicate lent_length 0 }
     {
         Lent {
             numbers: [0; SPACE],
             list: 0,
             key: 0,
         }
+    }
+
+    // Nothing any more.
+    pub fn clear(&mut self)
+        ensures { (list_of self.new ≡ []) × (key_of self.new ≡ []) }
+    {
+        self.list = 0;
+        self.key = 0;
     }
 
     pub fn list(&self) -> &[u16]

@@ -14,7 +14,7 @@ mod lists;
 
 use calls::maker::make_into;
 use client::Client;
-use lists::{MARK, ROOM, front};
+use lists::{ROOM, front, marked};
 use plan::{Plan, Refusal, Use};
 use service::Service;
 use std::io;
@@ -112,7 +112,7 @@ fn limits_right() -> bool {
 // The key maker's answer to a random list with one number throughout.
 fn answer_to(x: u16) -> Option<Result<(), Refusal>> {
     let list = [x; Client::MOST_PLACES];
-    let mut key = [MARK; ROOM];
+    let mut key: [u16; ROOM] = marked();
     make_into(
         LEAST,
         1,

@@ -1,7 +1,7 @@
 -- One record: its answer and its lines.
 --   told_taken, told_refused                  what a number answers
 --   turn_told, turn_taken, turn_refused       the call's answer decides the line
---   plan_says .. finish_says, finish_early                  what each call says
+--   plan_says .. finish_says                  what each call says
 --   record_plan .. record_finish              which record stands at a place
 --   turn_at                                   one record that stands at a place
 --   finish_good                               an accepted finish has a good plan
@@ -13,10 +13,10 @@ use Rattle.scheme.specs.Lists.{span}
 use Rattle.scheme.specs.Scheme.{sixteen, places, after}
 use Rattle.scheme.specs.Good.{Good}
 use Rattle.scheme.specs.Totals.{total_of, totals}
-use Rattle.scheme.specs.Service.{Record, plan_record, open_record, first_record, close_record, reply_record, finish_record, Answer, not_replying, silent, planned, opened, closed, totalled, refused, totals_by}
+use Rattle.scheme.specs.Service.{Record, plan_record, open_record, first_record, close_record, reply_record, finish_record, Answer, silent, planned, opened, closed, totalled, refused, totals_by}
 use Rattle.scheme.proofs.Good.{good}
 use Rattle.scheme.proofs.Lists.{span_length}
-use Rattle.scheme.proofs.Refusals.{then_zero, then_stops, unless_zero, after_taken, after_refused}
+use Rattle.scheme.proofs.Refusals.{then_zero, unless_zero, after_taken, after_refused}
 use Rattle.solve.specs.Solve.{laws16}
 use Rattle.plan.specs.Plan.{plan_of}
 use Rattle.plan.specs.Numbers.{number_of}
@@ -26,10 +26,9 @@ use Rattle.plan.specs.declared.Plan as declared
 use Rattle.scheme.proofs.PlanBounds.{places_le}
 use Rattle.service.specs.declared.Service.{Service}
 use Rattle.service.specs.Calls.{Stepped, Closed, plan_step, open_step, first_step, close_step, reply_step}
-use Rattle.service.specs.View.{phase_of, view}
+use Rattle.service.specs.View.{view}
 use Rattle.service.specs.Promise.{told}
 use Rattle.finish.specs.Finish.{Finished, finish_refusal, finish_answer, finish_step}
-use Rattle.finish.proofs.Answers.{finish_refuses}
 use Rattle.finish.proofs.Steps.{totals_first}
 use Rattle.lines.specs.Text.{decimal, numbers, aside_word, line_end, aside_line, line}
 use Rattle.lines.specs.Put.{number_room, aside_room, room, Put}
@@ -85,15 +84,6 @@ pub finish_says : (s : Service) {n : ℕ} {r : Finished} → n ≡ places (plan_
     → outcome r.number (totalled s.head.round r.aside (take n r.totals)) r.service ≡ step s finish_record
 unfolding step
 finish_says s d e = rw (d, e)
-
--- what the phase refuses a finish refuses, and leaves the state
-pub finish_early : (s : Service) (e : Refusal) → number_of e ≡ not_replying (phase_of s.head.phase)
-    → {o : ℕ} {out out' : List ℕ} {wrote next : ℕ} → Put out out' wrote next (line o (refused (number_of e)))
-    → Turns finish_record o s s out out' wrote next
-unfolding finish_refusal
-finish_early s e phase p =
-    let same = finish_refuses sixteen laws16 s (refused_ne0 e) (sym (then_stops phase (refused_ne0 e) _)) in
-    turn_refused _ e (finish_says s {n = places (plan_of s.head.plan)} refl same) p
 
 -- ---- which record stands at a place
 module _ (b : List ℕ) (at : ℕ) where

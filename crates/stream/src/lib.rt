@@ -2,6 +2,7 @@
 //   Fed, Stop                                  what feed hands back: how many bytes it used and wrote, and why it stopped
 //   Kind                                       the kinds of records, and how long theirs are
 //   byte_at, two_at, four_at, plan_at          a record's bytes
+//   put_refusal                                the line of a refused record
 //   take_plan, take_open, take_close, take_finish, take_total    one record other than an element: how far out is written
 //   sender, free_or_same, hold_in, run_first, run_reply     the elements of a kind that follow and are accepted: where their run ends
 //   Reached, take_first, take_reply            one element, and behind an accepted one a run: how far the input is taken and out is written
@@ -13,11 +14,13 @@
 ghost use Rattle.std.specs.Prelude.{◌≡◌, ◌≢◌, true, false, List, ℕ, ◌+◌, ◌*◌, ◌/◌, ◌%◌, ◌^◌, ◌≤◌, ◌<◌, length, get_or, set, take, MatchOption, IfSome};
 ghost use Rattle.std.proofs.lemmas.List.Edits.{sets};
 ghost use Rattle.scheme.specs.Scheme.{q};
-ghost use Rattle.scheme.specs.Service.{not_gathering, not_replying, plan_record, open_record, close_record, finish_record};
+ghost use Rattle.scheme.specs.Service.{not_gathering, not_replying, plan_record, open_record, close_record, finish_record, refused};
 ghost use Rattle.plan.specs.Plan.{plan_of};
+ghost use Rattle.plan.specs.Numbers.{number_of};
 ghost use Rattle.service.specs.View.{phase_of, held_as, left_in};
 ghost use Rattle.service.specs.Calls.{lent};
-ghost use Rattle.lines.specs.Put.{room};
+ghost use Rattle.lines.specs.Text.{line};
+ghost use Rattle.lines.specs.Put.{room, Put};
 ghost use Rattle.stream.specs.Stream.{code_of, record_length, two_bytes, four_bytes, plan_at, Whole, HeldIn, lines, fed_by, fed, Turns, SilentRun, Takes, cut_length, cut_left};
 
 use lines::LINE;
@@ -117,6 +120,15 @@ fn plan_at(b: &[u8], at: usize) -> Plan
     }
 }
 
+// The line of a refused record.
+fn put_refusal(out: &mut [u8], at: usize, refusal: Refusal, offset: u64) -> usize
+    requires { at + room ≤ length out.old }
+    ensures short { result ≤ at + room }
+    ensures put { Put out.old out.new at result (line offset (refused (number_of refusal))) }
+{
+    lines::put_refusal(out, at, u32::from(refusal), offset)
+}
+
 // 01, a plan.
 fn take_plan(service: &mut Service, plan: Plan, offset: u64, out: &mut [u8], at: usize) -> usize
     requires { at + room ≤ length out.old }
@@ -124,7 +136,7 @@ fn take_plan(service: &mut Service, plan: Plan, offset: u64, out: &mut [u8], at:
 {
     match service.plan(plan) {
         Ok(()) => lines::put_plan(out, at, plan),
-        Err(refusal) => lines::put_refusal(out, at, refusal, offset),
+        Err(refusal) => put_refusal(out, at, refusal, offset),
     }
 }
 
@@ -135,7 +147,7 @@ fn take_open(service: &mut Service, round: u32, offset: u64, out: &mut [u8], at:
 {
     match service.open(round) {
         Ok(()) => lines::put_open(out, at, round),
-        Err(refusal) => lines::put_refusal(out, at, refusal, offset),
+        Err(refusal) => put_refusal(out, at, refusal, offset),
     }
 }
 
@@ -147,7 +159,7 @@ fn take_close(service: &mut Service, offset: u64, out: &mut [u8], at: usize) -> 
     let round = service.head.round;
     match service.close() {
         Ok(survivors) => lines::put_survivors(out, at, round, survivors),
-        Err(refusal) => lines::put_refusal(out, at, refusal, offset),
+        Err(refusal) => put_refusal(out, at, refusal, offset),
     }
 }
 
@@ -159,7 +171,7 @@ fn take_finish(service: &mut Service, offset: u64, out: &mut [u8], at: usize) ->
 {
     match service::check_replying(service.head.phase) {
         Ok(()) => take_total(service, offset, out, at),
-        Err(refusal) => lines::put_refusal(out, at, refusal, offset),
+        Err(refusal) => put_refusal(out, at, refusal, offset),
     }
 }
 
@@ -175,7 +187,7 @@ fn take_total(service: &mut Service, offset: u64, out: &mut [u8], at: usize) -> 
             let places = plan::places_of(plan);
             lines::put_total(out, at, round, total.aside, &total.totals, places)
         }
-        Err(refusal) => lines::put_refusal(out, at, refusal, offset),
+        Err(refusal) => put_refusal(out, at, refusal, offset),
     }
 }
 
@@ -287,9 +299,9 @@ fn run_reply(head: Head, reply: &mut [u16; CELLS], b: &[u8], start: usize) -> us
 
 // How far the input is taken, and how far out is written.
 #[derive(Clone, Copy)]
-struct Reached {
-    at: usize,
-    wrote: usize,
+pub struct Reached {
+    pub at: usize,
+    pub wrote: usize,
 }
 
 // 03, a first element, and behind an accepted one its run.
@@ -314,7 +326,7 @@ fn take_first(
             Reached { at: end, wrote: at }
         }
         Err(refusal) => {
-            let wrote = lines::put_refusal(out, at, refusal, offset);
+            let wrote = put_refusal(out, at, refusal, offset);
             Reached { at: next, wrote }
         }
     }
@@ -342,7 +354,7 @@ fn take_reply(
             Reached { at: end, wrote: at }
         }
         Err(refusal) => {
-            let wrote = lines::put_refusal(out, at, refusal, offset);
+            let wrote = put_refusal(out, at, refusal, offset);
             Reached { at: next, wrote }
         }
     }
@@ -439,5 +451,5 @@ pub fn cut(offset: u64, out: &mut [u8]) -> usize
     if out.len() < LINE {
         return 0;
     }
-    lines::put_refusal(out, 0, Refusal::BadRecord, offset)
+    put_refusal(out, 0, Refusal::BadRecord, offset)
 }

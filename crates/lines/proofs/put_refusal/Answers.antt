@@ -9,4 +9,4 @@ unfolding numbers line
 returns-clause-put c =
     let x = wrote_append (wrote_append c.put_bytes.ensures c.put_number.ensures.wrote) c.put_bytes-2.ensures in
     let y = wrote_append (wrote_append x c.put_number-2.ensures.wrote) c.put_bytes-3.ensures in
-    put_through y (search (rules, y.same)) (rw c.from.ensures (simp append-nil))
+    put_through y (search (rules, y.same)) (simp append-nil)

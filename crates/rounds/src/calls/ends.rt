@@ -10,7 +10,7 @@ ghost use Rattle.rounds.specs.Judged.{shown, started};
 ghost use Rattle.rounds.specs.Replied.{answered};
 
 use super::{Case, Verdict, agree, judge, number_in_part, number_of};
-use crate::lists::{MARK, ROOM, marked_behind, number_at, rest, round_at};
+use crate::lists::{ROOM, marked, marked_behind, number_at, rest, round_at};
 use client::{Client, Stage};
 use plan::Use;
 
@@ -46,7 +46,7 @@ pub fn check_first(case: &mut Case, line: &[u16]) -> Verdict {
     let Some((figures, wanted)) = rest(line, 4).split_at_checked(number_at(line, 3) as usize) else {
         return Verdict::Damaged;
     };
-    let mut message = [MARK; ROOM];
+    let mut message: [u16; ROOM] = marked();
     let sent = message.get_mut(..number_at(line, 0) as usize).map(|part| {
         case.end.first_message(case.lent.key(), figures, part)
     });

@@ -3,6 +3,9 @@
 //   Run::ended, Run::take       the call of a whole line; the lines of a chunk
 //   finished                    the end of the input
 //   turn, read_all              one read and its lines; all of them
+ghost use Rattle.std.specs.Prelude.{◌≡◌, false, IfErr};
+ghost use Rattle.rounds.specs.Judged.{agreed};
+
 use super::line::Line;
 use super::{Case, Verdict, check};
 use crate::BYTES;
@@ -37,12 +40,14 @@ impl Run {
         }
     }
 
-    // The line under way is whole: its call is made and compared.
-    fn ended(&mut self) -> Verdict {
+    // The line under way is whole: its call is made and compared. What does not agree ends the run.
+    fn ended(&mut self) -> Result<(), Verdict>
+        ensures { IfErr result (λ why. agreed why ≡ false) }
+    {
         let line = self.line.and_then(|line| line.ended(&mut self.numbers));
         self.line = Some(Line::NEW);
         self.lines = self.lines.wrapping_add(1);
-        match line {
+        let verdict = match line {
             Some(
                 Line {
                     letter: Some(letter),
@@ -56,24 +61,24 @@ impl Run {
                 check(&mut self.case, letter, front(&self.numbers, count))
             }
             _ => Verdict::Damaged,
-        }
+        };
+        verdict.ending()
     }
 
     // The lines of a chunk, up to the first that does not agree; what is left of a line stays under way.
-    fn take(&mut self, chunk: &[u8]) -> Verdict {
+    fn take(&mut self, chunk: &[u8]) -> Result<(), Verdict>
+        ensures { IfErr result (λ why. agreed why ≡ false) }
+    {
         for byte in chunk {
             if *byte == b'\n' {
-                let verdict = self.ended();
-                if !verdict.agrees() {
-                    return verdict;
-                }
+                self.ended()?;
             } else {
                 self.line = self
                     .line
                     .and_then(|line| line.with(*byte, &mut self.numbers));
             }
         }
-        Verdict::Agrees
+        Ok(())
     }
 }
 
@@ -93,15 +98,15 @@ fn turn(rt: &HostRuntime, run: &mut Run, buf: &mut [u8; BYTES]) -> io::Result<bo
             finished(rt, run)?;
             Ok(false)
         }
-        Ok(n) => {
-            let verdict = run.take(&buf[..n]);
-            if !verdict.agrees() {
+        Ok(n) => match run.take(&buf[..n]) {
+            Ok(()) => Ok(true),
+            Err(verdict) => {
                 let cases = run.cases;
                 let lines = run.lines;
                 println!(rt; "case {cases}, line {lines}: {verdict}")?;
+                Ok(false)
             }
-            Ok(verdict.agrees())
-        }
+        },
         Err(error) if error.kind() == ErrorKind::Interrupted => Ok(true),
         Err(error) => {
             eprintln!(rt; "rounds: standard input: {error}")?;

@@ -10,7 +10,7 @@ ghost use Rattle.rounds.specs.Judged.{lent_right};
 
 use super::{Case, Verdict, judge, number_in_part};
 use crate::lists::{
-    KEY_AT, MARK, ROOM, SPACE, all_bytes, copy_bytes, marked_behind, number_at, rest,
+    KEY_AT, ROOM, SPACE, all_bytes, copy_bytes, marked, marked_behind, number_at, rest,
 };
 use plan::{Plan, Refusal};
 
@@ -50,7 +50,7 @@ pub fn make_into(
 // k user room number key..: the key maker, into a buffer of that room; the key is lent from now on.
 pub fn check_key(case: &mut Case, line: &[u16]) -> Verdict {
     let wanted = rest(line, 3);
-    let mut key = [MARK; ROOM];
+    let mut key: [u16; ROOM] = marked();
     let made = make_into(
         case.plan,
         number_at(line, 0),
@@ -96,7 +96,7 @@ pub fn check_list(case: &mut Case, line: &[u16]) -> Verdict {
     let Some(bytes) = as_bytes(numbers, &mut buffer) else {
         return Verdict::Damaged;
     };
-    let mut list = [MARK; KEY_AT];
+    let mut list: [u16; KEY_AT] = marked();
     let drawn = draw_into(case.plan, bytes, &mut list, number_at(line, 0) as usize);
     if drawn == Some(Ok(())) {
         case.lent.lend_list(wanted);

@@ -21,7 +21,7 @@ pub fn check_plan(case: &mut Case, line: &[u16]) -> Verdict {
         collusion: number_at(line, 2),
         blocks: number_at(line, 3),
     };
-    *case = Case::new(plan);
+    case.begin(plan);
     let planned = case.service.plan(plan);
     agree(number_of(&planned), number_at(line, 4))
 }
